@@ -2,7 +2,8 @@
 
 //! The program `mcf solve`: it answers an instance of a minimum-cost flow problem.
 //!
-//! All that matters stands in `mcf_suite`; here the words are gathered, the devices lent and the status given.
+//! `mcf_suite` does all that matters; here the words are collected, the devices lent and the status
+//! returned.
 
 use mcf_suite::{FromReader, IntoWriter, RunFault, serve};
 use std::io::{self, ErrorKind, Read, Stdin};
@@ -10,7 +11,7 @@ use std::process::ExitCode;
 use std::rt::{Env, Files};
 use std::{env, fs};
 
-// What the instance is read from.
+// The source of the instance.
 #[derive(Drop)]
 enum Input<F> {
     Stdin(Stdin),
@@ -32,7 +33,7 @@ fn words(rt: &(impl Env + AllocGlobal)) -> io::Result<Vec<String>> {
     Ok(words)
 }
 
-// The words, or none where one of them is no text.
+// The words, or none if one of them isn't text.
 fn words_or_none(rt: &(impl Env + AllocGlobal)) -> Result<Vec<String>, RunFault> {
     match words(rt) {
         Ok(words) => Ok(words),
@@ -41,7 +42,7 @@ fn words_or_none(rt: &(impl Env + AllocGlobal)) -> Result<Vec<String>, RunFault>
     }
 }
 
-// The source of a file, or none where it can't be opened.
+// The source of a file, or none if it can't be opened.
 fn open<R: Files>(rt: &R, path: &str) -> Option<FromReader<Input<R::File>>> {
     match fs::open(rt, path) {
         Ok(file) => Some(FromReader::new(Input::File(file))),

@@ -35,7 +35,8 @@ abbrev pub answer_or : Option Answer → ℕ → Result Answer Shape
 answer_or None number = Err (record { line = number })
 answer_or (Some a) number = Ok a
 
--- what the lines give: an answer, the number of the first that doesn't fit, or that of the line after the last
+-- what the lines give: an answer, the number of the first that doesn't fit, or that of the line
+-- after the last
 abbrev pub outcome : Result Draft ℕ → ℕ → Result Answer Shape
 outcome (Err line) number = Err (record { line = line })
 outcome (Ok d) number = answer_or (answer_of_draft d) number

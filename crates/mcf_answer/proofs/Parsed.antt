@@ -12,7 +12,7 @@ use Rattle.mcf_answer.proofs.Accepts.{spelled_parses}
 use Rattle.mcf_answer.proofs.Spelled.{parsed_spells}
 use Rattle.mcf_answer.proofs.WrittenLemmas.{written_spells}
 
--- a text stands for an answer exactly where it spells it
+-- a text stands for an answer exactly if it spells it
 pub exact : (text : List ℕ) (r : Result Answer Shape) → r ≡ parsing text → (a : Answer) → (r ≡ Ok a) ↔ Spells text a
 exact text r e a = (λ f. parsed_spells text a (sym e ∙ f), λ h. e ∙ spelled_parses text a h)
 

@@ -1,4 +1,5 @@
--- Both ends of each range of an answer text, and the numbers next to them: no line that doesn't fit, or its number.
+-- Both ends of each range of an answer text, and the numbers next to them: no line that doesn't
+-- fit, or its number.
 use Rattle.std.specs.Prelude.{◌≡◌, [], ◌∷◌, ◌++◌, codes, flat_map, map, refl, None, Some}
 use Rattle.mcf_answer.specs.Fits.{fits, misfits, is_complete, misfit_of_lines, misfit}
 use Rattle.mcf_answer.specs.Said.{cost_said, version_said, sent_said, moved_said, price_said, set_said, member_said, refusal_said, opening_said}

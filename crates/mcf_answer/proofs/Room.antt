@@ -1,4 +1,5 @@
--- A text that didn't fit: where a part of it didn't fit after what stands before the part, the text didn't either.
+-- A text that didn't fit: where a part of it didn't fit after what stands before the part, the text
+-- didn't either.
 use Rattle.std.proofs.Common.{◌≡◌, ℕ, zero, suc, List, [], ◌∷◌, ◌++◌, ◌+◌, ◌<◌, ◌≤◌, length, take, get_or, pos, refl, ap, ◌∙◌, arith}
 use Rattle.std.specs.Prelude.{ℤ, Result, Ok, Err, OnErr, map, flat_map}
 use Rattle.std.specs.Fmt.{signed_decimal}

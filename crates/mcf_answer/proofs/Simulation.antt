@@ -1,4 +1,5 @@
--- The parser's state stands for the lines so far, and what it gives at the end is what the text stands for.
+-- The parser's state stands for the lines so far, and what it gives at the end is what the text
+-- stands for.
 use Rattle.std.proofs.Common.{◌≡◌, ℕ, ◌+◌, Bool, true, false, cond, ◌&&◌, ◌||◌, List, [], ◌∷◌, ◌++◌, length, Some, None, Ok, Err, refl, sym, ap, ◌∙◌, nat_eq}
 use Rattle.std.proofs.Common.{append_assoc, append-nil, arith}
 use Rattle.std.specs.Prelude.{ℤ, Option, Result, map, filter, filter_map, is_some, nat_lt, option_map, pos, slice_get, unwrap_or}

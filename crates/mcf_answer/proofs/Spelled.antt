@@ -1,5 +1,5 @@
--- The lines that a state stands for are those that it spells; so a text is parsed to an answer exactly
--- where it spells it.
+-- The lines that a state stands for are those that it spells; so a text is parsed to an answer
+-- exactly if it spells it.
 use Rattle.std.proofs.Common.{◌≡◌, ℕ, ◌+◌, ◌<◌, ◌≤◌, true, List, [], ◌∷◌, ◌++◌, length, Some, None, Ok, Err, refl, sym, ap, subst, ◌∙◌, nat_eq, arith}
 use Rattle.std.proofs.Common.{append_assoc, append-nil}
 use Rattle.std.specs.Prelude.{ℤ, Option, Result, map, ◌&&◌, ⊤, nat_lt, option_map}

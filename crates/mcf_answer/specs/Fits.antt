@@ -46,17 +46,18 @@ is_moved_above earlier line = option_map_or (λ m. is_above_last (arc_numbers ea
 abbrev pub is_node_above : List ℕ → List Token → Bool
 is_node_above earlier line = option_map_or (λ v. is_above_last earlier v) (member_said line) false
 
--- whether a line fits after a version line, and the lines between the two: next to it a cost line; after
--- that a `g` line with no price line before it, whose arc is above that of the last `g` line, or the price
--- line of the next number
+-- whether a line fits after a version line, and the lines between the two: next to it a cost line;
+-- after that a `g` line with no price line before it, whose arc is above that of the last `g` line,
+-- or the price line of the next number
 abbrev pub fits_sparse : List (List Token) → List Token → Bool
 fits_sparse [] line = is_some (cost_said line)
 fits_sparse (cost ∷ others) line =
     (is_moved_above (moved_lines others) line && length (price_lines others) == 0) || is_price_of (length (price_lines others) + 1) line
 
--- whether a line fits after a first line that opens an answer, and the lines between the two: a flow line
--- with no price line before it, or the price line of the next number; of a set a member line, where fewer
--- nodes stand before it than the set has, and its number is above the last of them
+-- whether a line fits after a first line that opens an answer, and the lines between the two: a
+-- flow line with no price line before it, or the price line of the next number; of a set a member
+-- line, where fewer nodes stand before it than the set has, and its number is above the last of
+-- them
 abbrev pub fits_after : Option Opening → List (List Token) → List Token → Bool
 fits_after None others line = false
 fits_after (Some (OpensFlow cost)) others line =
@@ -81,8 +82,8 @@ as_misfit line = if fits (map tokens line.0) (tokens line.1) then None else Some
 unfoldable pub misfits : List Row → List ℕ
 misfits lines = filter_map as_misfit (with_earlier lines)
 
--- after a version line there is a cost line; after a first line that opens a set there are as many member
--- lines as the set has nodes
+-- after a version line there is a cost line; after a first line that opens a set there are as many
+-- member lines as the set has nodes
 abbrev pub has_all : Option Opening → List (List Token) → Bool
 has_all None others = true
 has_all (Some (OpensFlow cost)) others = true
@@ -95,7 +96,8 @@ unfoldable pub is_complete : List (List Token) → Bool
 is_complete [] = false
 is_complete (first ∷ others) = has_all (opening_said first) others
 
--- the first of the kept lines that doesn't fit; where each fits but some are missing, the line after the last
+-- the first of the kept lines that doesn't fit; if each fits but some are missing, the line after
+-- the last
 unfoldable pub misfit_of_lines : ℕ → List Row → Option ℕ
 misfit_of_lines after lines =
     option_or (slice_get (misfits lines) 0) (if is_complete (map tokens lines) then None else Some after)

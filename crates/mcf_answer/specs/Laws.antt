@@ -10,7 +10,7 @@ use Rattle.mcf_answer.specs.declared.answers.Answer.{Answer}
 abbrev pub SpellsOneAnswer : Type 0
 SpellsOneAnswer = (text : List ℕ) (a b : Answer) → Spells text a → Spells text b → a ≡ b
 
--- a text stands for an answer exactly where it spells it
+-- a text stands for an answer exactly if it spells it
 abbrev pub ParsesWhatIsSpelled : Type 0
 ParsesWhatIsSpelled = (text : List ℕ) (a : Answer) → (parsing text ≡ Ok a) ↔ Spells text a
 

@@ -13,7 +13,7 @@ use Rattle.mcf_flows.specs.Codes.{Fault}
 use Rattle.mcf_flows.specs.declared.code.Code.TheVariants.{Kind}
 use Rattle.mcf_text.specs.Row.{rows}
 
--- what stands for a refusal where there is none
+-- what stands for a refusal if there is none
 abbrev pub no_refusal : Fault
 no_refusal = record { line = 0; code = Kind }
 

@@ -6,7 +6,7 @@ use Rattle.mcf_flows.specs.Limits.{arc_limit, node_limit}
 use Rattle.mcf_flows.specs.Network.{IsNode}
 use Rattle.mcf_flows.specs.WellFormed.{IsUpTo}
 
--- how far from 0 a cost, a flow and a price may lie
+-- the greatest absolute value of a cost, a flow and a price
 abbrev pub amount_limit : ℕ
 amount_limit = AMOUNT_LIMIT
 

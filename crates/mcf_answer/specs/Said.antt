@@ -21,7 +21,7 @@ o >>= f = option_and_then f o
 
 -- ---- a field
 
--- the number, where it is one in the range
+-- the number, if it is one in the range
 abbrev pub number_within : ℤ → ℤ → Token → Option ℤ
 number_within lo hi (Word bytes) = None
 number_within lo hi (Number z) = if is_within lo hi z then Some z else None
@@ -110,7 +110,7 @@ pub data Opening : Type 0 where
   OpensSet : (side : Side) → (count : ℕ) → Opening
   OpensRefusal : (refusal : Fault) → Opening
 
--- the opening of a set of this side and of so many nodes
+-- the opening of a set of this side and of this many nodes
 abbrev pub opens_set : Side × ℕ → Opening
 opens_set set = OpensSet set.0 set.1
 

@@ -5,8 +5,8 @@ use Rattle.mcf_answer.specs.Ranges.{IsAmount, IsNodeInRange}
 use Rattle.mcf_answer.specs.declared.answers.Sent.{Sent}
 use Rattle.mcf_flows.specs.Limits.{node_limit}
 
--- a flow with its cost and prices: what each arc carries, in the order of the arcs, and the price of each
--- node from node 1 on
+-- a flow with its cost and prices: what each arc carries, in the order of the arcs, and the price
+-- of each node from node 1 on
 pub record Solution : Type 0 where
   pub cost : ℤ
   pub sent : List Sent

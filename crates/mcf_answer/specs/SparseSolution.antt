@@ -5,8 +5,8 @@ use Rattle.std.specs.List.Sorted.{IsStrictlyIncreasing}
 use Rattle.mcf_answer.specs.Ranges.{IsAmount, IsArcInRange}
 use Rattle.mcf_flows.specs.Limits.{node_limit}
 
--- a flow with its cost and prices: some arcs by their numbers, each with what it carries, and the price of
--- each node from node 1 on; any other arc carries its lower bound
+-- a flow with its cost and prices: some arcs by their numbers, each with what it carries, and the
+-- price of each node from node 1 on; any other arc carries its lower bound
 pub record SparseSolution : Type 0 where
   pub cost : ℤ
   pub moved : List (ℕ × ℤ)

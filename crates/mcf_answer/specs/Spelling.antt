@@ -21,7 +21,7 @@ abbrev pub side_word : Side → List ℕ
 side_word Send = codes "send"
 side_word Take = codes "take"
 
--- `v 2`: the answer is in the second form, that of a sparse flow
+-- `v 2`: the answer is in the sparse form, that of a sparse flow
 abbrev pub version_line : List Token
 version_line = Word (codes "v") ∷ Number (pos 2) ∷ []
 

@@ -9,7 +9,7 @@ pub data Token : Type 0 where
   Word : (bytes : List ℕ) → Token
   Number : (value : ℤ) → Token
 
--- a whole number by its value, else the bytes themselves
+-- a whole number by its value, otherwise the bytes themselves
 abbrev pub token_of : List ℕ → Token
 token_of field = if is_whole field then Number (whole_value field) else Word field
 

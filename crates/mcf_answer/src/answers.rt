@@ -4,28 +4,28 @@ use mcf_flows::{Refusal, Side};
 use mcf_text::NodeId;
 use std::marker::Model;
 
-/// What an arc carries, with the ends of the arc.
+/// The flow of an arc, with the ends of the arc.
 #[derive(Clone, Copy, Debug, PartialEq, Eq)]
 pub struct Sent {
     /// The node that the arc leaves.
     pub src: NodeId,
     /// The node that it enters.
     pub dst: NodeId,
-    /// How many units it carries.
+    /// The number of units that it carries.
     pub flow: i128,
 }
 
-/// A flow with its cost, and the prices that show that no flow costs less.
+/// A flow with its cost, and prices that show that no flow costs less (a dual certificate).
 ///
-/// The cost, each flow and each price lie within 10^37 of 0, each end is a node from 1 to 1,000,000, and
-/// there are at most 1,000,000 prices.
+/// The cost, each flow and each price lie within 10^37 of 0, each end is a node from 1 to
+/// 1,000,000, and there are at most 1,000,000 prices.
 #[derive(Debug, Drop)]
 pub struct FlowAnswer {
-    /// What all units together cost.
+    /// The total cost.
     pub cost: i128,
-    /// What each arc carries, in the order of the arcs.
+    /// The flow of each arc, in the order of the arcs.
     pub sent: SentList,
-    /// The price of each node, from node 1 on, in cost for each unit.
+    /// The price of each node, from node 1 on, in cost per unit.
     pub prices: PriceList,
 }
 
@@ -39,18 +39,18 @@ impl Model for FlowAnswer {
     ghost invariant = { λ a. IsSolution (record { cost = a.cost; sent = a.sent; prices = a.prices }) };
 }
 
-/// A flow with its cost and prices, as [`FlowAnswer`], that names by their numbers some arcs alone: any other
-/// arc carries its lower bound.
+/// A flow with its cost and prices, like [`FlowAnswer`], that names only some arcs, by their
+/// numbers: every other arc carries its lower bound.
 ///
-/// The cost, each flow and each price lie within 10^37 of 0, the numbers of the arcs are strictly ascending
-/// from 1 to 10,000,000, and there are at most 1,000,000 prices.
+/// The cost, each flow and each price lie within 10^37 of 0, the numbers of the arcs are strictly
+/// ascending from 1 to 10,000,000, and there are at most 1,000,000 prices.
 #[derive(Debug, Drop)]
 pub struct SparseAnswer {
-    /// What all units together cost.
+    /// The total cost.
     pub cost: i128,
-    /// The arcs that are named, each with how many units it carries.
+    /// The named arcs, each with its flow.
     pub moved: MovedList,
-    /// The price of each node, from node 1 on, in cost for each unit.
+    /// The price of each node, from node 1 on, in cost per unit.
     pub prices: PriceList,
 }
 
@@ -64,9 +64,10 @@ impl Model for SparseAnswer {
     ghost invariant = { λ a. IsSparseSolution (record { cost = a.cost; moved = a.moved; prices = a.prices }) };
 }
 
-/// A node set that blocks every flow, with the side by which it does.
+/// A node set that blocks every flow, with its side (an infeasibility certificate).
 ///
-/// The nodes are strictly ascending numbers from 1 to 1,000,000, at least one and at most 1,000,000.
+/// The nodes are strictly ascending numbers from 1 to 1,000,000, at least one and at most
+/// 1,000,000.
 #[derive(Debug, Drop)]
 pub struct BlockedAnswer {
     /// Whether the nodes must send or must take more than they can.
@@ -88,9 +89,9 @@ impl Model for BlockedAnswer {
 /// The answer to an instance text.
 #[derive(Debug, Drop)]
 pub enum Answer {
-    /// A least-cost flow, in the first form.
+    /// A least-cost flow, in the full form.
     Flow(FlowAnswer),
-    /// A least-cost flow, in the second form.
+    /// A least-cost flow, in the sparse form.
     Sparse(SparseAnswer),
     /// No flow meets all bounds and supplies.
     Blocked(BlockedAnswer),

@@ -1,4 +1,4 @@
-//! The parser's state: what the lines so far say.
+//! The parser's state: the content of the lines so far.
 use crate::answers::{Answer, BlockedAnswer, FlowAnswer, SparseAnswer};
 use crate::line::{
     cost_line, flow_line, member_line, moved_line, price_line, refusal_line, set_line, version_line,
@@ -9,7 +9,7 @@ use mcf_text::{ArcId, NoMemory, NodeId};
 use std::alloc::Global;
 use std::marker::Model;
 
-/// A blocked answer of which some nodes may be missing.
+/// A blocked answer that may still lack some of its nodes.
 #[derive(Drop)]
 pub(crate) struct SetDraft {
     side: Side,
@@ -27,7 +27,7 @@ impl Model for SetDraft {
     ghost invariant = { λ a. IsPartialSet (record { side = a.side; count = a.count; nodes = a.nodes }) };
 }
 
-/// What the lines so far say.
+/// The content of the lines so far.
 #[derive(Drop)]
 pub(crate) enum Draft {
     /// No line yet.
@@ -52,7 +52,7 @@ impl FlowAnswer {
     ghost use Rattle.mcf_answer.specs.Token.{tokens_of};
     ghost use Rattle.mcf_text.specs.Fields.{fields_of};
 
-    // Takes the price of a node in, if it is the next node.
+    // Takes the price of a node, if it is the next node.
     fn take_price(&mut self, id: NodeId, price: i128) -> Result<bool, NoMemory>
         requires node { IsNodeInRange id }
         requires amount { IsAmount price }
@@ -67,7 +67,7 @@ impl FlowAnswer {
         }
     }
 
-    // Takes a line in, if it fits.
+    // Takes a line, if it fits.
     #[tactic(auto, unfolding(crate::specs::Private::Draft::solution_after))]
     fn take(&mut self, line: &[u8]) -> Result<bool, NoMemory>
         ensures value { IfOk result (λ fit. (if fit then Some self.new else None) ≡ solution_after self.old (tokens_of (fields_of line.now))) }
@@ -97,7 +97,7 @@ impl SparseAnswer {
     ghost use Rattle.mcf_answer.specs.Token.{tokens_of};
     ghost use Rattle.mcf_text.specs.Fields.{fields_of};
 
-    // Takes the price of a node in, if it is the next node.
+    // Takes the price of a node, if it is the next node.
     fn take_price(&mut self, id: NodeId, price: i128) -> Result<bool, NoMemory>
         requires node { IsNodeInRange id }
         requires amount { IsAmount price }
@@ -112,7 +112,7 @@ impl SparseAnswer {
         }
     }
 
-    // Takes what an arc carries in, if its number is above that of the last and there is no price yet.
+    // Takes the flow of an arc, if its number is above the last one and there is no price yet.
     fn take_moved(&mut self, moved: (ArcId, i128)) -> Result<bool, NoMemory>
         requires in_range { IsMoved moved }
         ensures value { IfOk result (λ fit. (if fit then Some self.new else None) ≡ sparse_moved self.old moved) }
@@ -126,7 +126,7 @@ impl SparseAnswer {
         }
     }
 
-    // Takes a line in, if it fits.
+    // Takes a line, if it fits.
     #[tactic(auto, unfolding(crate::specs::Private::Draft::sparse_after))]
     fn take(&mut self, line: &[u8]) -> Result<bool, NoMemory>
         ensures value { IfOk result (λ fit. (if fit then Some self.new else None) ≡ sparse_after self.old (tokens_of (fields_of line.now))) }
@@ -150,7 +150,7 @@ impl SetDraft {
     ghost use Rattle.mcf_answer.specs.Token.{tokens_of};
     ghost use Rattle.mcf_text.specs.Fields.{fields_of};
 
-    // Takes a line in, if it fits.
+    // Takes a line, if it fits.
     #[tactic(auto, unfolding(crate::specs::Private::Draft::set_after))]
     fn take(&mut self, line: &[u8]) -> Result<bool, NoMemory>
         ensures value { IfOk result (λ fit. (if fit then Some self.new else None) ≡ set_after self.old (tokens_of (fields_of line.now))) }
@@ -177,7 +177,7 @@ impl Draft {
     ghost use Rattle.mcf_answer.specs.Token.{tokens_of};
     ghost use Rattle.mcf_text.specs.Fields.{fields_of};
 
-    // What a first line opens, if it opens an answer.
+    // The state after a first line, if that begins an answer.
     #[tactic(auto, unfolding(crate::specs::Said::opening_said))]
     fn open(alloc: Global, line: &[u8]) -> Option<Draft>
         ensures { result ≡ option_map opened (opening_said (tokens_of (fields_of line.now))) }
@@ -203,7 +203,7 @@ impl Draft {
         Some(Draft::Refused(refusal))
     }
 
-    // What a cost line opens after a version line.
+    // The state after a cost line that follows a version line.
     fn open_sparse(alloc: Global, line: &[u8]) -> Option<Draft>
         ensures { result ≡ option_map costed (cost_said (tokens_of (fields_of line.now))) }
     {
@@ -215,7 +215,7 @@ impl Draft {
         }))
     }
 
-    // Goes on to the next state, if there is one.
+    // Moves to the next state, if there is one.
     fn become_next(&mut self, next: Option<Draft>) -> bool
         ensures { (if result then Some self.new else None) ≡ next }
     {
@@ -228,7 +228,7 @@ impl Draft {
         }
     }
 
-    /// Takes a kept line in, if it fits.
+    /// Takes a significant (kept) line, if it fits.
     #[tactic(auto, unfolding(crate::specs::Private::Draft::after))]
     pub(crate) fn take(&mut self, alloc: Global, line: &[u8]) -> Result<bool, NoMemory>
         ensures value { IfOk result (λ fit. (if fit then Some self.new else None) ≡ after self.old (tokens_of (fields_of line.now))) }

@@ -6,12 +6,12 @@ pub fn no_text_spells_two_answers()
     ensures { SpellsOneAnswer }
 {}
 
-/// A text stands for an answer exactly where it spells it; this is so of every text.
+/// Every text stands for an answer exactly if it spells that answer.
 pub fn texts_stand_for_what_they_spell()
     ensures { ParsesWhatIsSpelled }
 {}
 
-/// What is written of an answer is read back as it.
+/// The written text of an answer is read back as that answer.
 pub fn what_is_written_is_read_back()
     ensures { ReadsBack }
 {}

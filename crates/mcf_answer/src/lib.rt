@@ -1,11 +1,11 @@
 #![tactic(auto)]
 
-//! Answers of minimum-cost flow: what the texts spell, written and parsed.
+//! Answers of minimum-cost flow: what their texts spell, written and parsed.
 //!
-//! It stands on `mcf_text` and `mcf_flows`. Definitions stand in `specs/`: `Spelling` says which lines
-//! are those of an answer, `Token`, `Said` and `Ranges` what one line says, `Written` what is written, `Fits` and
-//! `Parsing` what a text stands for, `Solution`, `SparseSolution` and `BlockingSet` what clauses see of answers, `Laws`
-//! what holds of answers and their texts.
+//! It builds on `mcf_text` and `mcf_flows`. The definitions in `specs/`: `Spelling` says which
+//! lines spell an answer, `Token`, `Said` and `Ranges` what one line means, `Written` what is
+//! written, `Fits` and `Parsing` what a text stands for, `Solution`, `SparseSolution` and
+//! `BlockingSet` what clauses see of answers, `Laws` what holds of answers and their texts.
 
 mod answers;
 mod draft;

@@ -1,4 +1,4 @@
-//! What a line of an answer text says.
+//! The content of a line of an answer text.
 ghost use Rattle.std.specs.Prelude.{◌≡◌, ◌≤◌, false, option_map, IfSome};
 ghost use Rattle.mcf_answer.specs.Ranges.{IsAmount, IsArcInRange, IsNodeInRange};
 ghost use Rattle.mcf_answer.specs.Said.{amount_of, arc_of, code_of, cost_said, line_number_of, node_of, member_said, moved_said, number_within, one_behind, price_said};
@@ -15,7 +15,7 @@ use mcf_text::{ArcId, NodeId, Whole, fields, whole};
 
 // ---- a field
 
-// The number that a field says, where it is one in the range.
+// The number in a field, if it is one within the range.
 fn number(field: &[u8], lo: i128, hi: i128) -> Option<i128>
     ensures { result ≡ number_within lo hi (token_of field.now) }
 {
@@ -33,7 +33,7 @@ fn amount(field: &[u8]) -> Option<i128>
     number(field, -(AMOUNT_LIMIT as i128), AMOUNT_LIMIT as i128)
 }
 
-// The number of a node, or how many there are.
+// The number of a node, or a number of nodes.
 fn count(field: &[u8]) -> Option<u32>
     ensures value { result ≡ node_of (token_of field.now) }
     ensures in_range { IfSome result IsNodeInRange }
@@ -90,7 +90,7 @@ fn code(field: &[u8]) -> Option<Code>
     Code::of(field)
 }
 
-// Whether a field is this word, which is no number.
+// Whether a field is this word; the word isn't a number.
 fn is_word(field: &[u8], word: &[u8]) -> bool
     requires { is_whole word.now ≡ false }
     ensures { result ≡ is_word word.now (token_of field.now) }
@@ -100,7 +100,7 @@ fn is_word(field: &[u8], word: &[u8]) -> bool
 
 // ---- a line
 
-// The field behind this first word, of a line that has one.
+// The field after this first word, if the line has exactly one.
 fn one_behind<'t>(line: &'t [u8], word: &[u8]) -> Option<&'t [u8]>
     requires { is_whole word.now ≡ false }
     ensures { option_map (λ f. token_of f.now) result ≡ one_behind word.now (tokens_of (fields_of line.now)) }
@@ -112,7 +112,7 @@ fn one_behind<'t>(line: &'t [u8], word: &[u8]) -> Option<&'t [u8]>
     }
 }
 
-// The two fields behind this first word, of a line that has two.
+// The two fields after this first word, if the line has exactly two.
 fn two_behind<'t>(line: &'t [u8], word: &[u8]) -> Option<(&'t [u8], &'t [u8])>
     requires { is_whole word.now ≡ false }
     ensures { option_map (λ f. (token_of f.0.now, token_of f.1.now)) result ≡ two_behind word.now (tokens_of (fields_of line.now)) }
@@ -124,7 +124,7 @@ fn two_behind<'t>(line: &'t [u8], word: &[u8]) -> Option<(&'t [u8], &'t [u8])>
     }
 }
 
-// The three fields behind this first word, of a line that has three.
+// The three fields after this first word, if the line has exactly three.
 fn three_behind<'t>(line: &'t [u8], word: &[u8]) -> Option<(&'t [u8], &'t [u8], &'t [u8])>
     requires { is_whole word.now ≡ false }
     ensures { option_map (λ f. (token_of f.0.now, token_of f.1.now, token_of f.2.now)) result ≡ three_behind word.now (tokens_of (fields_of line.now)) }
@@ -156,7 +156,7 @@ pub(crate) fn cost_line(line: &[u8]) -> Option<i128>
     amount(cost)
 }
 
-/// What a line `f SRC DST FLOW` says.
+/// The content of a line `f SRC DST FLOW`.
 #[tactic(auto, unfolding(crate::specs::Said::sent_said))]
 pub(crate) fn flow_line(line: &[u8]) -> Option<Sent>
     ensures { result ≡ sent_said (tokens_of (fields_of line.now)) }

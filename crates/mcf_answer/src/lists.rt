@@ -3,7 +3,7 @@ use crate::answers::Sent;
 use mcf_text::{ArcId, NoMemory, NodeId};
 use std::marker::Model;
 
-/// A list of an answer. A clause sees the list.
+/// A list of an answer. Clauses see the list.
 #[derive(Debug, Drop)]
 pub struct AnswerList<T> {
     items: Vec<T>,
@@ -17,10 +17,10 @@ impl<T> Model for AnswerList<T> {
     ghost view = { λ list. list.items.items };
 }
 
-/// What the arcs carry, in their order.
+/// The flows of arcs, in their order.
 pub type SentList = AnswerList<Sent>;
 
-/// Some arcs by their numbers, each with how many units it carries.
+/// Some arcs by their numbers, each with its flow.
 pub type MovedList = AnswerList<(ArcId, i128)>;
 
 /// The prices of the nodes, from node 1 on.
@@ -32,7 +32,7 @@ pub type NodeList = AnswerList<NodeId>;
 impl<T: Drop> AnswerList<T> {
     ghost use Rattle.std.specs.Prelude.{◌≡◌, ◌==◌, ◌++◌, ◌∷◌, [], length, OnOk, OnErr};
 
-    /// The list of these items; it takes no memory.
+    /// The list of these items, without any allocation.
     pub fn new(items: Vec<T>) -> AnswerList<T>
         ensures { result ≡ items.items }
     {
@@ -54,7 +54,7 @@ impl<T: Drop> AnswerList<T> {
         items
     }
 
-    /// How many items there are.
+    /// The number of items.
     pub fn len(&self) -> usize
         ensures { result ≡ length self.now }
     {
@@ -68,7 +68,7 @@ impl<T: Drop> AnswerList<T> {
         self.items.is_empty()
     }
 
-    /// Appends one.
+    /// Appends an item.
     pub(crate) fn push(&mut self, item: T) -> Result<(), NoMemory>
         ensures ok { OnOk result (self.new ≡ self.old ++ item ∷ []) }
         ensures err { OnErr result (self.new ≡ self.old) }
@@ -83,7 +83,7 @@ impl MovedList {
     ghost use Rattle.mcf_answer.specs.Fits.{is_above_last};
     ghost use Rattle.mcf_answer.specs.SparseSolution.{arc_numbers};
 
-    /// Whether the number of the last arc, if there is one, is below that of this one.
+    /// Whether the last arc, if there is one, has a number below this one's.
     pub(crate) fn is_below(&self, arc: ArcId) -> bool
         ensures { result ≡ is_above_last (arc_numbers self.now) arc }
     {
@@ -97,7 +97,7 @@ impl MovedList {
 impl PriceList {
     ghost use Rattle.std.specs.Prelude.{◌≡◌, ◌==◌, ◌+◌, length};
 
-    /// Whether the price of this node is the next.
+    /// Whether this node's price comes next.
     pub(crate) fn is_next(&self, id: NodeId) -> bool
         ensures { result ≡ (id == length self.now + 1) }
     {

@@ -1,4 +1,4 @@
-//! Answers from text.
+//! Parsing of answers.
 ghost use Rattle.std.specs.Prelude.{◌≡◌, ◌↔◌, length, IfErr, IfOk, IsTrue, Ok, OnErr, Some};
 ghost use Rattle.mcf_answer.specs.Private.Draft.{run};
 ghost use Rattle.mcf_answer.specs.Fits.{misfit};
@@ -15,15 +15,15 @@ use crate::shape::Shape;
 use mcf_text::{NoMemory, is_kept, lines};
 use std::alloc::Global;
 
-/// The answer that a text spells, or the line at which it is seen to spell none.
+/// The answer that a text spells, or the first line at which it can't spell one.
 ///
-/// Fields stand between blanks of any number and kind, numbers may have a plus sign and leading zeros, and
-/// blank lines and comments are skipped.
+/// Fields are separated by any number and kind of blanks, numbers may have a plus sign and leading
+/// zeros, and blank lines and comments are skipped.
 ///
 /// # Errors
 ///
-/// Want of memory; a text wants none in which no line `f`, `g`, `y` or `x` says something and fits after the
-/// lines before it.
+/// `NoMemory` if an allocation is refused; a text needs none if it has no line `f`, `g`, `y` or `x`
+/// that has content and fits after the lines before it.
 pub fn parse(alloc: Global, text: &[u8]) -> Result<Result<Answer, Shape>, NoMemory>
     ensures spelled { IfOk result (λ r. (a : Answer) → (r ≡ Ok a) ↔ Spells text.now a) }
     ensures misfit { IfOk result (λ r. IfErr r (λ shape. misfit text.now ≡ Some shape.line)) }
@@ -33,7 +33,7 @@ pub fn parse(alloc: Global, text: &[u8]) -> Result<Result<Answer, Shape>, NoMemo
     read_answer(alloc, text)
 }
 
-// The answer that the lines of a text give.
+// The answer of the lines of a text.
 fn read_answer(alloc: Global, text: &[u8]) -> Result<Result<Answer, Shape>, NoMemory>
     ensures value { IfOk result (λ r. r ≡ parsing text.now) }
     ensures wants { OnErr result (IsTrue (has_item_line text.now)) }
@@ -50,7 +50,7 @@ fn read_answer(alloc: Global, text: &[u8]) -> Result<Result<Answer, Shape>, NoMe
     }
 }
 
-// The state after all lines, or the number of the first that doesn't fit.
+// The state after all lines, or the number of the first line that doesn't fit.
 fn read_lines(alloc: Global, text: &[u8]) -> Result<Result<Draft, u128>, NoMemory>
     ensures value { IfOk result (λ r. r ≡ run Empty (numbered_lines 1 text.now)) }
     ensures wants { OnErr result (IsTrue (has_item_line text.now)) }
@@ -71,7 +71,7 @@ fn line_after(text: &[u8]) -> u128
     line_count(text) as u128 + 1
 }
 
-// How many lines there are.
+// The number of lines.
 fn line_count(text: &[u8]) -> usize
     ensures { result ≡ length (numbered_lines 1 text.now) }
 {

@@ -15,12 +15,12 @@ use crate::answers::{Answer, BlockedAnswer, FlowAnswer, Sent, SparseAnswer};
 use mcf_flows::{Refusal, Side};
 use mcf_text::{ArcId, NoMemory, NodeId, put_number};
 
-/// Appends the text of an answer: fields with one blank between them, numbers in decimal without a plus
-/// sign and without leading zeros, each line ended by byte 10. The text spells this answer and no other, and `parse`
-/// reads it back.
+/// Appends the text of an answer: fields separated by one blank, numbers in decimal without a plus
+/// sign and without leading zeros, each line ended by a line feed. The text spells this answer and
+/// no other, and `parse` reads it back.
 ///
-/// Fails only where the vector has to grow and no memory is given; it then holds what it held. It never gives
-/// back room that was reserved.
+/// Fails only if the vector has to grow and the allocation is refused; the vector then keeps its
+/// content. It never frees reserved capacity.
 #[tactic(auto, using(crate::proofs::Parsed::reads_back))]
 pub fn write(answer: &Answer, out: &mut Vec<u8>) -> Result<(), NoMemory>
     ensures ok { OnOk result (out.new.items ≡ out.old.items ++ written answer.now) }
@@ -39,7 +39,7 @@ pub fn write(answer: &Answer, out: &mut Vec<u8>) -> Result<(), NoMemory>
     outcome
 }
 
-// Each function below leaves a part of what it appends where memory runs out.
+// If memory runs out, each function below leaves a part of what it appends.
 
 // Appends an answer.
 #[tactic(auto, unfolding(crate::specs::Written::written, crate::specs::Spelling::spelling, crate::specs::Spelling::IsAnswer))]
@@ -142,7 +142,7 @@ fn put_flow(out: &mut Vec<u8>, s: Sent) -> Result<(), NoMemory>
     put_line(out, b"f", &numbers)
 }
 
-// Appends the lines of the arcs that are named.
+// Appends the lines of the named arcs.
 #[tactic(auto, using(crate::proofs::Appends::keeps))]
 fn put_moved(out: &mut Vec<u8>, moved: &[(ArcId, i128)]) -> Result<(), NoMemory>
     ensures ok { OnOk result (out.new.items ≡ out.old.items ++ flat_map line_text (map moved_line moved.now)) }
@@ -156,7 +156,7 @@ fn put_moved(out: &mut Vec<u8>, moved: &[(ArcId, i128)]) -> Result<(), NoMemory>
     Ok(())
 }
 
-// Appends the line of an arc that is named.
+// Appends the line of a named arc.
 fn put_arc(out: &mut Vec<u8>, m: (ArcId, i128)) -> Result<(), NoMemory>
     ensures ok { OnOk result (out.new.items ≡ out.old.items ++ line_text (moved_line m)) }
     ensures err { OnErr result (take (length out.old.items) out.new.items ≡ out.old.items) }

@@ -41,7 +41,7 @@ mcf_is_simple app m = ap is_simple m.reads ∙ refl
 pub mcf_is_free : (app : App) → IsMcf app → is_simple_and_free app ≡ true
 mcf_is_free app m = ap is_simple_and_free m.reads ∙ refl
 
--- words that were refused, for want of memory where the command takes them
+-- words that were refused, for lack of memory where the command takes them
 pub refused : (words : List Text) (result : Result Asked Error) (app : App) → IsMcf app → (P : Error → Type 0)
     → ((e : Error) → P e → takes app words ≡ true → kind_of e ≡ OutOfMemory)
     → ((e : Error) → P e → HasKind (fault_of app words) e) → IsErrAnd result P → IsReading words result

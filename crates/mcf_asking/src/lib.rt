@@ -1,9 +1,9 @@
 #![tactic(auto)]
 
-//! What the words of a command line ask.
+//! The meaning of the words of a command line.
 //!
-//! It stands on `mcf_choice`, whose choices the words name, and on the library `clap`, which reads words; on no engine.
-//! Definitions stand in `specs/`: `Asking` says what a command line asks.
+//! It builds on `mcf_choice`, whose choices the words name, and on the library `clap`, which reads
+//! words; not on any engine. The definitions in `specs/`: `Asking` says what a command line asks.
 
 mod asking;
 

@@ -1,4 +1,5 @@
--- At a last basis where an artificial arc carries something, the nodes of price above 0 can't send what they must.
+-- At a last basis where an artificial arc carries something, the nodes of price above 0 can't send
+-- what they must.
 use Rattle.std.proofs.Common.{◌≡◌, ◌≢◌, ℕ, zero, suc, ◌+◌, ◌-◌, ◌*◌, ◌<◌, ◌≤◌, ◌⊎◌, inl, inr, Bool, true, false, not, eqb, List, length, map, drop, sum, set}
 use Rattle.std.proofs.Common.{get_or, refl, sym, ap, ◌∙◌, subst, arith, ℤ, pos, neg_ℤ, ◌+ℤ◌, ◌-ℤ◌, ◌≤ℤ◌, ◌<ℤ◌, length-set}
 use Rattle.std.specs.Prelude.{int_lt, max, unsigned_abs}
@@ -631,7 +632,8 @@ module _ (b : TreeStructure) (ok : IsBasis b) (none : HasNoEligible b) where
           let low = low_in in
           omega (arith, ints, more, must, low)
 
--- where no arc is eligible and an artificial arc carries something, the nodes of price above 0 must send more than they can
+-- where no arc is eligible and an artificial arc carries something, the nodes of price above 0 must
+-- send more than they can
 pub cuts_block : (b : TreeStructure) → IsBasis b → HasNoEligible b → HasWideTree b
     → supply_in b.net.supplies (λ v. true) ≡ pos 0 → ¬ HasNoArtificial b → Blocks b.net (λ v. int_lt (pos 0) (price_at b v)) Send
 cuts_block b ok none wide balanced uneven = elim (find_carrying b ok (node_count b.net) (omega arith)) [

@@ -50,7 +50,8 @@ costs_apart (a ∷ arcs) (f ∷ x) (h ∷ y) each hx hy =
     let weights = sum-weights weight a arcs in
     omega (arith, ints, first, rest, weights)
 
--- where an arc is complementary, no other flow within its bounds has a smaller product with the reduced cost r
+-- where an arc is complementary, no other flow within its bounds has a smaller product with the
+-- reduced cost r
 no_smaller : (r low cap f other : ℤ) → (pos 0 <ℤ r → f ≡ low) → (r <ℤ pos 0 → f ≡ cap) → low ≤ℤ other → other ≤ℤ cap → (r *ℤ f) ≤ℤ (r *ℤ other)
 no_smaller (pos zero) low cap f other above below l u = omega (arith, ints)
 no_smaller (pos (suc n)) low cap f other above below l u =

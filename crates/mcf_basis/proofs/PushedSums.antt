@@ -1,4 +1,5 @@
--- What an amount that goes round the cycle of a pivot changes of the sums: no surplus, and the cost by the reduced cost of the arc that enters.
+-- What an amount that goes round the cycle of a pivot changes of the sums: no surplus, and the cost
+-- by the reduced cost of the arc that enters.
 use Rattle.std.proofs.Common.{◌≡◌, ℕ, zero, suc, ◌+◌, ◌-◌, ◌<◌, ◌≤◌, ◌++◌, Bool, true, false, not, eqb, cond, List, [], ◌∷◌, length, set, refl, sym, ap, ◌∙◌}
 use Rattle.std.proofs.Common.{subst, arith, inl, inr, ℤ, pos, negsuc, ◌+ℤ◌, ◌-ℤ◌, ◌<ℤ◌, neg_ℤ}
 use Rattle.std.specs.Prelude.{int_lt}

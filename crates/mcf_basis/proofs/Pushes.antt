@@ -34,7 +34,8 @@ pub record IsTreeOf (g : Arcs) (ps ls : List ℕ) (d : ℕ → ℕ) : Type 0 whe
   pub rooted : IsRooted ps d
   pub joined : (v : ℕ) → 0 < v → v < length ps → JoinsEnds g (slice_index ls v) v (slice_index ps v)
 
--- The arc enter leads from a to b. From a the path goes up i nodes to the apex, from b it goes up j nodes.
+-- The arc enter leads from a to b. From a the path goes up i nodes to the apex, from b it goes up j
+-- nodes.
 pub record IsCycle (g : Arcs) (ps ls : List ℕ) (d : ℕ → ℕ) (enter a b i j : ℕ) : Type 0 where
   pub left_in_range : a < length ps
   pub right_in_range : b < length ps
@@ -45,7 +46,8 @@ pub record IsCycle (g : Arcs) (ps ls : List ℕ) (d : ℕ → ℕ) (enter a b i 
   pub joined : JoinsEnds g enter a b
   pub outside : (v : ℕ) → 0 < v → v < length ps → slice_index ls v ≢ enter
 
--- delta goes down from the apex to a, over the entering arc and up from b to the apex, and no other amount changes
+-- delta goes down from the apex to a, over the entering arc and up from b to the apex, and no other
+-- amount changes
 pub record IsPushed (g : Arcs) (ps ls : List ℕ) (old new : ℕ → ℤ) (enter a b i j : ℕ) (delta : ℤ) : Type 0 where
   pub some : pos 0 ≤ℤ delta
   pub left : (k : ℕ) → k < i → Leaves g old new (slice_index ls (climb ps k a)) (slice_index ps (climb ps k a)) delta

@@ -1,4 +1,5 @@
--- The flow of a basis is a tree solution: from the leaves of the tree on, a circulation that is 0 at all arcs whose flow is at a bound is 0.
+-- The flow of a basis is a tree solution: from the leaves of the tree on, a circulation that is 0
+-- at all arcs whose flow is at a bound is 0.
 use Rattle.std.proofs.Common.{◌≡◌, ◌≢◌, ℕ, zero, suc, ◌+◌, ◌-◌, ◌<◌, ◌≤◌, ◌⊎◌, inl, inr, eqb, List, [], ◌∷◌, length, get_or, refl, sym, ap, ◌∙◌, arith, subst}
 use Rattle.std.proofs.Common.{ℤ, pos, ◌-ℤ◌}
 use Rattle.std.proofs.lemmas.Int.{ints}

@@ -10,12 +10,14 @@ use Rattle.mcf_tree.specs.SpanningTree.{IsSpanning, depth_of, label_of, parent_o
 use Rattle.mcf_basis.specs.Artificial.{IsLabel, with_artificial}
 use Rattle.mcf_basis.specs.Structures.{TreeStructure, CanTake, IsInTree, Joins, carried, full_state, price_at, reduced_at, up_path}
 
--- an amount that the arc of this label can carry: at least 0, and, on an arc of the net, at most its cap
+-- an amount that the arc of this label can carry: at least 0, and, on an arc of the net, at most
+-- its cap
 pub record CanHold (g : Network) (label : ℕ) (x : ℤ) : Type 0 where
   pub low : pos 0 ≤ℤ x
   pub high : label ≤ length g.arcs → x ≤ℤ (arc_at g label).cap
 
--- an amount within its bounds for each arc, such that no node has a surplus: a flow that the artificial arcs make feasible
+-- an amount within its bounds for each arc, such that no node has a surplus: a flow that the
+-- artificial arcs make feasible
 pub record IsFullFlow (s : Pseudoflow) (g : Network) : Type 0 where
   pub of_net : s.net ≡ with_artificial g
   pub one_per_label : length s.amounts ≡ length (with_artificial g).arcs
@@ -38,13 +40,15 @@ pub record HasTreePrices (b : TreeStructure) : Type 0 where
   pub root : price_at b 0 ≡ pos 0
   pub balanced : (v : ℕ) → IsNode (node_count b.net) v → reduced_at b (label_of b.tree v) ≡ pos 0
 
--- strongly feasible (Cunningham): from each node one more can go along the path of the tree to the root
+-- strongly feasible (Cunningham): from each node one more can go along the path of the tree to the
+-- root
 abbrev pub IsStronglyFeasible : TreeStructure → Type 0
 IsStronglyFeasible b =
     (v : ℕ) → IsNode (node_count b.net) v → All (λ r. CanTake b r (pos 1)) (up_path b (depth_of b.tree v) v)
 
--- a spanning tree over the root and the nodes; amounts within bounds, with which no node has a surplus; each arc outside the tree
--- at a bound, an artificial one at 0; the prices of the tree; and strong feasibility
+-- a spanning tree over the root and the nodes; amounts within bounds, with which no node has a
+-- surplus; each arc outside the tree at a bound, an artificial one at 0; the prices of the tree;
+-- and strong feasibility
 pub record IsBasis (b : TreeStructure) : Type 0 where
   pub of_net : IsNet b.net
   pub spanning : IsSpanning b.tree

@@ -42,7 +42,8 @@ RanksBoundPivots =
 abbrev pub BasesAreTreeSolutions : Type 0
 BasesAreTreeSolutions = (b : TreeStructure) → IsBasis b → IsTreeSolution b.net (state_of b).amounts
 
--- where no arc is eligible and no artificial arc carries anything, the flow is feasible, and the prices of the basis show it
+-- where no arc is eligible and no artificial arc carries anything, the flow is feasible, and the
+-- prices of the basis show it
 abbrev pub LastBasesAreShown : Type 0
 LastBasesAreShown =
     (b : TreeStructure) → IsBasis b → HasNoEligible b → HasNoArtificial b

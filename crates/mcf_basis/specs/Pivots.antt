@@ -1,5 +1,5 @@
--- One pivot of the network simplex, which keeps trees strongly feasible (Cunningham; Ahuja, Magnanti and Orlin, Network Flows,
--- sections 11.5 and 11.6).
+-- One pivot of the network simplex, which keeps trees strongly feasible (Cunningham; Ahuja,
+-- Magnanti and Orlin, Network Flows, sections 11.5 and 11.6).
 -- Source: AMO 11.5, 11.6
 use Rattle.std.specs.Prelude.{◌≡◌, ℕ, ◌+◌, ◌≤◌, ◌⊎◌, List, ◌∷◌, ◌++◌, length, ℤ, pos, ◌+ℤ◌, ◌<ℤ◌, int_lt}
 use Rattle.std.specs.List.{All}
@@ -15,19 +15,21 @@ use Rattle.mcf_tree.specs.Written.{IsLocal}
 use Rattle.mcf_basis.specs.Artificial.{with_artificial}
 use Rattle.mcf_basis.specs.Structures.{TreeStructure, CanTake, IsInTree, carried, cycle_of, full_state, price_at, reduced_at}
 
--- an arc of the net outside the tree that can carry something, and gains by carrying more where it carries nothing,
--- or by carrying less where it is full
+-- an arc of the net outside the tree that can carry something, and gains by carrying more where it
+-- carries nothing, or by carrying less where it is full
 pub record IsEligible (b : TreeStructure) (k : ℕ) : Type 0 where
   pub arc : IsArcNumber b.net k
   pub outside : ¬ IsInTree b k
   pub wide : pos 0 <ℤ (arc_at b.net k).cap
   pub gains : ((carried b k ≡ pos 0) × (reduced_at b k <ℤ pos 0)) ⊎ ((carried b k ≡ (arc_at b.net k).cap) × (pos 0 <ℤ reduced_at b k))
 
--- the residual arc along which it gains: forward where the reduced cost is below 0, else backward
+-- the residual arc along which it gains: forward where the reduced cost is below 0, otherwise
+-- backward
 abbrev pub entering : TreeStructure → ℕ → Rid
 entering b k = record { arc = k; back = int_lt (pos 0) (reduced_at b k) }
 
--- r is the last of the walk that blocks: x can go along each residual arc of the walk, and one more along each behind r, but not along r
+-- r is the last of the walk that blocks: x can go along each residual arc of the walk, and one more
+-- along each behind r, but not along r
 pub record IsLastBlocking (b : TreeStructure) (walk : List Rid) (x : ℤ) (r : Rid) : Type 0 where
   pub each : All (λ q. CanTake b q x) walk
   pub before : List Rid
@@ -42,8 +44,10 @@ pub record IsKept (old new : TreeStructure) : Type 0 where
   pub prices : new.prices ≡ old.prices
   pub priced : new.priced ≡ old.priced
 
--- The entering arc r takes the place of the arc above the node out: the part cut off there hangs on the other end of r, the prices in it
--- change by one number, by which r gets reduced cost 0, and all other prices stay. What is left is a tree again, and each price and each depth of the part was written once.
+-- The entering arc r takes the place of the arc above the node out: the part cut off there hangs on
+-- the other end of r, the prices in it change by one number, by which r gets reduced cost 0, and
+-- all other prices stay. What is left is a tree again, and each price and each depth of the part
+-- was written once.
 pub record IsExchanged (old : TreeStructure) (r : Rid) (out inner outer : ℕ) (new : TreeStructure) : Type 0 where
   pub is_node : IsNode (node_count old.net) out
   pub ends : ((inner ≡ tail (with_artificial old.net) r) × (outer ≡ head (with_artificial old.net) r)) ⊎
@@ -60,13 +64,15 @@ pub record IsExchanged (old : TreeStructure) (r : Rid) (out inner outer : ℕ) (
   pub measured : new.tree.measured ≡ old.tree.measured + length (below_from old.tree out 0)
   pub written : IsLocal old.tree new.tree out inner outer
 
--- the tree and the prices afterwards, where r enters and the arc of q leaves: they stay where r is q, and are exchanged where q lies in the tree
+-- the tree and the prices afterwards, where r enters and the arc of q leaves: they stay where r is
+-- q, and are exchanged where q lies in the tree
 pub data IsMended (old : TreeStructure) (r q : Rid) (new : TreeStructure) : Type 0 where
   kept : q ≡ r → IsKept old new → IsMended old r q new
   exchanged : (out inner outer : ℕ) → q.arc ≡ label_of old.tree out → IsExchanged old r out inner outer new → IsMended old r q new
 
--- One pivot, by which arc k enters: the least room round the cycle that it closes with the tree moves round this cycle, in the direction
--- in which k gains, and no other amount changes; the arc that leaves is the last one that blocks, from the apex in this direction.
+-- One pivot, by which arc k enters: the least room round the cycle that it closes with the tree
+-- moves round this cycle, in the direction in which k gains, and no other amount changes; the arc
+-- that leaves is the last one that blocks, from the apex in this direction.
 pub record IsPivot (old : TreeStructure) (k : ℕ) (moved : ℤ) (new : TreeStructure) : Type 0 where
   pub eligible : IsEligible old k
   pub apex : ℕ

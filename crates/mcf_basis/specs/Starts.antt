@@ -1,4 +1,5 @@
--- The basis with which the simplex begins (Ahuja, Magnanti and Orlin, Network Flows, section 11.5): the star of the artificial arcs.
+-- The basis with which the simplex begins (Ahuja, Magnanti and Orlin, Network Flows, section 11.5):
+-- the star of the artificial arcs.
 -- Source: AMO 11.5
 use Rattle.std.specs.Prelude.{◌≡◌, ℕ, ◌++◌, ◌∷◌, List, length, map, replicate, ℤ, pos, neg_ℤ, unsigned_abs, if◌then◌else◌}
 use Rattle.std.specs.List.{range_with_len}

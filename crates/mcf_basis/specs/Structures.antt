@@ -1,5 +1,6 @@
--- Spanning tree structures (Ahuja, Magnanti and Orlin, Network Flows, section 11.2): a spanning tree of a net with its artificial
--- arcs, an amount for each arc and a price for each node; and the paths and cycles of the tree.
+-- Spanning tree structures (Ahuja, Magnanti and Orlin, Network Flows, section 11.2): a spanning
+-- tree of a net with its artificial arcs, an amount for each arc and a price for each node; and the
+-- paths and cycles of the tree.
 -- Source: AMO 11.2
 use Rattle.std.specs.Prelude.{◌≡◌, ℕ, zero, suc, ◌-◌, ◌*◌, ◌^◌, ◌==◌, ◌≤◌, true, false, not, List, [], ◌∷◌, ◌++◌, length, take, ℤ, pos, ◌+ℤ◌, ◌-ℤ◌, ◌≤ℤ◌, slice_index_or}
 use Rattle.mcf_flows.specs.Network.{Network, IsNode, node_count}
@@ -9,8 +10,9 @@ use Rattle.mcf_network.specs.States.{Pseudoflow, amount_at}
 use Rattle.mcf_tree.specs.SpanningTree.{SpanningTree, depth_of, label_of, parent_of}
 use Rattle.mcf_basis.specs.Artificial.{with_artificial}
 
--- the amounts are those of the arcs of the net, and then those of the artificial arcs; the prices are those of the nodes from
--- the root, node 0, on; priced counts the writes of a price, and pivots the pivots that led here
+-- the amounts are those of the arcs of the net, and then those of the artificial arcs; the prices
+-- are those of the nodes from the root, node 0, on; priced counts the writes of a price, and pivots
+-- the pivots that led here
 pub record TreeStructure : Type 0 where
   pub net : Network
   pub tree : SpanningTree
@@ -35,12 +37,14 @@ carried b label = amount_at (full_state b) label
 abbrev pub price_at : TreeStructure → ℕ → ℤ
 price_at b v = slice_index_or b.prices v (pos 0)
 
--- the cost of the arc of this label, less the price of the node that it leaves, plus the price of the one that it enters
+-- the cost of the arc of this label, less the price of the node that it leaves, plus the price of
+-- the one that it enters
 abbrev pub reduced_at : TreeStructure → ℕ → ℤ
 reduced_at b label =
     let a = arc_at (with_artificial b.net) label in a.cost -ℤ price_at b a.src +ℤ price_at b a.dst
 
--- x more can go along a residual arc: forward up to the cap of an arc of the net, of an artificial arc without a limit; backward as much as it carries
+-- x more can go along a residual arc: forward up to the cap of an arc of the net, of an artificial
+-- arc without a limit; backward as much as it carries
 pub record CanTake (b : TreeStructure) (r : Rid) (x : ℤ) : Type 0 where
   pub forward : r.back ≡ false → r.arc ≤ length b.net.arcs → (carried b r.arc +ℤ x) ≤ℤ (arc_at b.net r.arc).cap
   pub backward : r.back ≡ true → x ≤ℤ carried b r.arc
@@ -87,7 +91,8 @@ down_path b (suc k) v =
 abbrev pub steps_between : TreeStructure → ℕ → ℕ → ℕ
 steps_between b v w = depth_of b.tree v - depth_of b.tree w
 
--- the cycle that a residual arc closes with the tree, in its direction: from the apex w down to its tail, over it, and up to the apex
+-- the cycle that a residual arc closes with the tree, in its direction: from the apex w down to its
+-- tail, over it, and up to the apex
 abbrev pub cycle_of : TreeStructure → Rid → ℕ → List Rid
 cycle_of b r w =
     let g = with_artificial b.net in

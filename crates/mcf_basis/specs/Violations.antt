@@ -1,4 +1,5 @@
--- By how much an arc violates the optimality conditions (Ahuja, Magnanti and Orlin, Network Flows, section 11.5).
+-- By how much an arc violates the optimality conditions (Ahuja, Magnanti and Orlin, Network Flows,
+-- section 11.5).
 -- Source: AMO 11.5
 use Rattle.std.specs.Prelude.{ℕ, ◌<◌, ◌≤◌, Option, Some, None, unsigned_abs}
 use Rattle.mcf_basis.specs.Pivots.{IsEligible}
@@ -16,7 +17,8 @@ violation b k = unsigned_abs (reduced_at b k)
 abbrev pub HasNoneIn : TreeStructure → ℕ → ℕ → Type 0
 HasNoneIn b first end = (j : ℕ) → first ≤ j → j < end → ¬ IsEligible b j
 
--- of these arcs the eligible one of greatest violation, and of those of the same violation the one of least number
+-- of these arcs the eligible one of greatest violation, and of those of the same violation the one
+-- of least number
 pub record IsMostViolated (b : TreeStructure) (first end k : ℕ) : Type 0 where
   pub low : first ≤ k
   pub high : k < end

@@ -1,4 +1,4 @@
-//! Prices in 64 bits and in 128, as the loops over them see either.
+//! Prices of 64 bits and of 128, as loops see either.
 ghost use Rattle.std.specs.Prelude.{◌≡◌, ℕ, ◌+◌, List, map, ℤ, ◌+ℤ◌, ◌-ℤ◌, int_lt};
 ghost use Rattle.std.proofs.lemmas.List.{map-id};
 ghost use Rattle.std.proofs.Common.{sym};
@@ -7,7 +7,8 @@ ghost use Rattle.mcf_flows.specs.WellFormed.{IsUpTo};
 ghost use Rattle.mcf_basis.specs.Private.Layouts.{change_limit, narrow_limit};
 ghost use Rattle.mcf_basis.specs.Structures.{price_limit};
 
-/// A number of the size in which prices are kept. The loops over prices are written once, and each runs over numbers of one size.
+/// A number of the size in which prices are stored. The loops over prices are written once, and
+/// each runs over numbers of one size.
 pub(crate) trait Price: Copy {
     // The number.
     ghost value: { Self → ℤ };
@@ -15,15 +16,16 @@ pub(crate) trait Price: Copy {
     // The numbers of a list.
     ghost values: { List Self → List ℤ };
 
-    // How far from 0 a price may lie, so that a reduced cost has room, and a price that changes by one.
+    // The greatest absolute value of a price, such that a reduced cost fits, and a price that
+    // changes by one.
     ghost limit: { ℕ };
 
-    /// A number that has room.
+    /// A number that fits.
     fn of(number: i128) -> Self
         requires { IsUpTo (change_limit limit) number }
         ensures { value result ≡ number };
 
-    /// What a unit costs from a node to another, by their prices.
+    /// The reduced cost of a unit from one node to another, by their prices.
     fn reduced(cost: i64, from: Self, to: Self) -> Self
         requires cost { IsUpTo limits.cost cost }
         requires from { IsUpTo limit (value from) }
@@ -35,7 +37,7 @@ pub(crate) trait Price: Copy {
         requires { IsUpTo (limit + change_limit limit) (value self +ℤ value change) }
         ensures { value result ≡ value self +ℤ value change };
 
-    /// Whether it is the lesser of two.
+    /// Whether it is less than another.
     fn is_less(self, other: Self) -> bool
         ensures { result ≡ int_lt (value self) (value other) };
 

@@ -1,17 +1,19 @@
-//! The residual capacities of the arcs of the tree: what they can still carry.
+//! The residual capacities of the tree arcs.
 ghost use Rattle.std.specs.Prelude.{◌≡◌, min};
 ghost use Rattle.mcf_basis.specs.Private.Layouts.{artificial_residuals, room_limit};
 
-/// How much more the arc between a node and its parent can carry, toward the parent and from it. 16 bytes.
+/// The residual capacity of the arc between a node and its parent, toward the parent and away from
+/// it, in 16 bytes.
 ///
-/// Of an artificial arc it is at most 2^64 - 1: it has no upper bound, and its amount, which may need more than 64 bits, stands apart.
+/// For an artificial arc it is at most 2^64 - 1: it has no upper bound, and its amount, which may
+/// need more than 64 bits, is stored separately.
 #[derive(Clone, Copy, Debug)]
 pub(crate) struct Residuals {
     pub(crate) up: u64,
     pub(crate) down: u64,
 }
 
-/// The residuals of the artificial arc of a node that sends or takes, by its amount.
+/// The residual capacities of the artificial arc of a node that sends or takes, by its amount.
 pub(crate) fn artificial_residuals(sends: bool, amount: u128) -> Residuals
     ensures { result ≡ artificial_residuals sends amount }
 {
@@ -29,7 +31,7 @@ pub(crate) fn artificial_residuals(sends: bool, amount: u128) -> Residuals
     }
 }
 
-// An amount, or the greatest room that is reported.
+// An amount, or the greatest residual capacity that is stored.
 fn capped(amount: u128) -> u64
     ensures { result ≡ min amount room_limit }
 {

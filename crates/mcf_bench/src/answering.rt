@@ -1,10 +1,11 @@
-//! Parses an answer, and writes it anew.
+//! Parses an answer, and writes it again.
 use crate::tell_time;
 use mcf_answer::{Answer, parse, write};
 use std::io;
 use std::time::{Duration, Instant};
 
-/// Parses a text as an answer and writes that, and prints how many bytes came back and the seconds of both.
+/// Parses a text as an answer and writes it again, and prints the number of written bytes and the
+/// seconds of both.
 pub fn run(rt: &HostRuntime, text: &[u8]) -> io::Result<()> {
     let start = Instant::now(rt)?;
     let parsed = parse(rt.alloc(), text);
@@ -16,7 +17,7 @@ pub fn run(rt: &HostRuntime, text: &[u8]) -> io::Result<()> {
     }
 }
 
-// Writes the answer of a text, which took this time to parse.
+// Writes the answer of a text, and reports the time that parsing took.
 fn run_on(rt: &HostRuntime, answer: &Answer, text: &[u8], parse_time: Duration) -> io::Result<()> {
     let (bytes, is_same, write_time) = write_time(rt, answer, text)?;
     println!(rt; "bytes {bytes} same {is_same}")?;
@@ -24,7 +25,8 @@ fn run_on(rt: &HostRuntime, answer: &Answer, text: &[u8], parse_time: Duration) 
     tell_time(rt, "seconds", parse_time.saturating_add(write_time))
 }
 
-// How many bytes an answer is written in, whether they are those of a text, and how long that takes.
+// The number of bytes that an answer is written in, whether they are those of a text, and how long
+// that takes.
 fn write_time(
     rt: &HostRuntime,
     answer: &Answer,

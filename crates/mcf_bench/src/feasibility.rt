@@ -8,8 +8,8 @@ use std::alloc::Global;
 use std::io;
 use std::time::Instant;
 
-/// Reads a text as an instance, asks so many times for a feasible flow of its net, and prints what the last
-/// answer holds and the seconds of all.
+/// Reads a text as an instance, searches this many times for a feasible flow of its net, and prints
+/// a summary of the last answer and the seconds of all.
 pub fn run(rt: &HostRuntime, text: &[u8], times: u32) -> io::Result<()> {
     match net_of(rt.alloc(), text) {
         Some(net) => run_on(rt, &net, times),
@@ -17,7 +17,7 @@ pub fn run(rt: &HostRuntime, text: &[u8], times: u32) -> io::Result<()> {
     }
 }
 
-// Asks so many times for a feasible flow of a net.
+// Searches this many times for a feasible flow of a net.
 fn run_on(rt: &HostRuntime, net: &Net, times: u32) -> io::Result<()> {
     let start = Instant::now(rt)?;
     let outcome = repeat(rt.alloc(), net, times);
@@ -26,7 +26,7 @@ fn run_on(rt: &HostRuntime, net: &Net, times: u32) -> io::Result<()> {
     tell_time(rt, "seconds", time)
 }
 
-// Prints what an answer holds.
+// Prints a summary of an answer.
 fn tell(rt: &HostRuntime, outcome: Result<Feas<'_>, NoMemory>) -> io::Result<()> {
     match outcome {
         Ok(Feas::Flow(state)) => println!(rt; "flow {}", weighted_total(&state)),
@@ -35,7 +35,7 @@ fn tell(rt: &HostRuntime, outcome: Result<Feas<'_>, NoMemory>) -> io::Result<()>
     }
 }
 
-// The last of so many answers, one at least.
+// The last of this many answers, at least one.
 fn repeat<'n>(alloc: Global, net: &'n Net, times: u32) -> Result<Feas<'n>, NoMemory> {
     let mut last = feasible(alloc, net)?;
     for _ in 1..times {

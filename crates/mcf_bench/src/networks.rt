@@ -1,4 +1,4 @@
-//! Builds the net of an instance, and goes over the residual arcs that leave each node.
+//! Builds the net of an instance, and visits the residual arcs that leave each node.
 use crate::reading::instance_of;
 use crate::tell_time;
 use mcf_instance::Instance;
@@ -8,15 +8,15 @@ use std::alloc::Global;
 use std::io;
 use std::time::Instant;
 
-// Nets that were built, and the sum over all of them of the nodes that their residual arcs enter.
+// The built nets, and the sum over all of them of the nodes that their residual arcs enter.
 #[derive(Drop)]
 struct Built {
     nets: Vec<Net>,
     sum: u64,
 }
 
-/// Reads a text as an instance, builds its net so many times, goes over each net, and prints what it found
-/// and the seconds of building and going over all of them. The nets are all kept to the end.
+/// Reads a text as an instance, builds its net this many times, visits each net, and prints a
+/// summary and the seconds of building and visiting all of them. The nets are all kept to the end.
 pub fn run(rt: &HostRuntime, text: &[u8], times: u32) -> io::Result<()> {
     match instance_of(rt.alloc(), text) {
         Some(instance) => run_on(rt, &instance, times),
@@ -24,7 +24,7 @@ pub fn run(rt: &HostRuntime, text: &[u8], times: u32) -> io::Result<()> {
     }
 }
 
-// Builds the net of an instance so many times.
+// Builds the net of an instance this many times.
 fn run_on(rt: &HostRuntime, instance: &Instance, times: u32) -> io::Result<()> {
     let start = Instant::now(rt)?;
     let outcome = build(rt.alloc(), instance, times);
@@ -33,7 +33,7 @@ fn run_on(rt: &HostRuntime, instance: &Instance, times: u32) -> io::Result<()> {
     tell_time(rt, "seconds", time)
 }
 
-// Prints what was built of an instance.
+// Prints a summary of the nets of an instance.
 fn tell(rt: &HostRuntime, instance: &Instance, outcome: Result<Built, NoMemory>) -> io::Result<()> {
     match outcome {
         Ok(built) => println!(rt;
@@ -46,7 +46,7 @@ fn tell(rt: &HostRuntime, instance: &Instance, outcome: Result<Built, NoMemory>)
     }
 }
 
-// So many nets of an instance.
+// This many nets of an instance.
 fn build(alloc: Global, instance: &Instance, times: u32) -> Result<Built, NoMemory> {
     let mut nets = Vec::with_capacity(alloc, times as usize)?;
     let mut sum = 0u64;
@@ -58,7 +58,7 @@ fn build(alloc: Global, instance: &Instance, times: u32) -> Result<Built, NoMemo
     Ok(Built { nets, sum })
 }
 
-// The sum of the nodes that the residual arcs enter, taken node by node.
+// The sum of the nodes that the residual arcs enter, node by node.
 fn head_total(net: &Net) -> u64 {
     let mut sum = 0u64;
     for number in 0..net.node_count() {

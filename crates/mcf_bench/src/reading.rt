@@ -1,4 +1,4 @@
-//! Reads instances, and adds up what one holds.
+//! Reads instances, and sums up their numbers.
 use crate::tell_time;
 use mcf_instance::{Instance, Refusal, read};
 use mcf_network::Net;
@@ -7,7 +7,7 @@ use std::alloc::Global;
 use std::io;
 use std::time::Instant;
 
-/// Reads a text as an instance, and prints what that holds and the seconds of it.
+/// Reads a text as an instance, and prints a summary and the seconds of reading.
 pub fn run(rt: &HostRuntime, text: &[u8]) -> io::Result<()> {
     let start = Instant::now(rt)?;
     let outcome = read(rt.alloc(), text);
@@ -16,7 +16,7 @@ pub fn run(rt: &HostRuntime, text: &[u8]) -> io::Result<()> {
     tell_time(rt, "seconds", time)
 }
 
-// Prints what an instance holds, or why there is none.
+// Prints a summary of an instance, or why there is none.
 fn tell(rt: &HostRuntime, outcome: Result<Result<Instance, Refusal>, NoMemory>) -> io::Result<()> {
     match outcome {
         Ok(Ok(instance)) => println!(rt;
@@ -60,7 +60,7 @@ fn arc_total(instance: &Instance) -> i128 {
     sum
 }
 
-// The sum of the sizes of the supplies.
+// The sum of the absolute values of the supplies.
 fn supply_total(instance: &Instance) -> i128 {
     let mut sum = 0i128;
     for v in 1..=instance.node_count() {

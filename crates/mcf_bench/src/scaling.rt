@@ -10,8 +10,9 @@ use std::alloc::Global;
 use std::io;
 use std::time::Instant;
 
-/// Reads a text as an instance, solves its net so many times, and prints what the last answer costs beyond the lower
-/// bounds, the seconds of all, and those of a feasible flow as often, which are among them.
+/// Reads a text as an instance, solves its net this many times, and prints what the last answer
+/// costs beyond the lower bounds, the seconds of all, and those of as many feasible flows, which
+/// they include.
 pub fn run(rt: &HostRuntime, text: &[u8], times: u32) -> io::Result<()> {
     match net_of(rt.alloc(), text) {
         Some(net) => run_on(rt, &net, times),
@@ -19,7 +20,7 @@ pub fn run(rt: &HostRuntime, text: &[u8], times: u32) -> io::Result<()> {
     }
 }
 
-// Solves a net so many times.
+// Solves a net this many times.
 fn run_on(rt: &HostRuntime, net: &Net, times: u32) -> io::Result<()> {
     let start = Instant::now(rt)?;
     let outcome = repeat(rt.alloc(), net, times);
@@ -29,7 +30,7 @@ fn run_on(rt: &HostRuntime, net: &Net, times: u32) -> io::Result<()> {
     tell_start(rt, net, times)
 }
 
-// Asks as often for the feasible flow with which the engine starts, and prints the seconds.
+// Searches as often for the feasible flow with which the engine starts, and prints the seconds.
 fn tell_start(rt: &HostRuntime, net: &Net, times: u32) -> io::Result<()> {
     let start = Instant::now(rt)?;
     for _ in 0..times {
@@ -48,7 +49,7 @@ pub fn tell(rt: &HostRuntime, outcome: Result<Outcome<'_>, NoMemory>) -> io::Res
     }
 }
 
-// The last of so many answers, one at least.
+// The last of this many answers, at least one.
 fn repeat<'n>(alloc: Global, net: &'n Net, times: u32) -> Result<Outcome<'n>, NoMemory> {
     let mut engine = Scaling::new();
     let mut last = engine.solve(alloc, net)?;
@@ -58,7 +59,7 @@ fn repeat<'n>(alloc: Global, net: &'n Net, times: u32) -> Result<Outcome<'n>, No
     Ok(last)
 }
 
-// What the amounts of a state cost.
+// The cost of the amounts of a state.
 fn cost_of(state: &State<'_>) -> i128 {
     let net = state.net();
     let mut sum = 0i128;

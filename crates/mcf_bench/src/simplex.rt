@@ -7,8 +7,8 @@ use mcf_simplex::{Simplex, Wide};
 use std::io;
 use std::time::Instant;
 
-/// Reads a text as an instance, solves its net by the rule for large nets, and prints what the answer costs beyond the lower bounds, and the
-/// seconds of that.
+/// Reads a text as an instance, solves its net by the rule for large nets, and prints what the
+/// answer costs beyond the lower bounds, and the seconds.
 pub fn run(rt: &HostRuntime, text: &[u8]) -> io::Result<()> {
     let Some(net) = net_of(rt.alloc(), text) else {
         return println!(rt; "no net");

@@ -9,12 +9,12 @@ use mcf_text::{Whole, fields, lines, whole};
 use std::io;
 use std::time::{Duration, Instant};
 
-// The whole numbers that are read: those of 18 digits or fewer.
+// The range of the whole numbers that are read: those of at most 18 digits.
 const LOW: i128 = -999_999_999_999_999_999;
 
 const HIGH: i128 = 999_999_999_999_999_999;
 
-// What a text holds.
+// The content of a text.
 #[derive(Clone, Copy)]
 struct Tally {
     lines: u64,
@@ -23,7 +23,7 @@ struct Tally {
     sum: i128,
 }
 
-/// Tallies a text that took this time to read, and prints the tally and the seconds of both.
+/// Tallies a text, and prints the tally and the seconds of reading and tallying.
 pub fn run(rt: &HostRuntime, text: &[u8], read_time: Duration) -> io::Result<()> {
     let start = Instant::now(rt)?;
     let tally = count(text);

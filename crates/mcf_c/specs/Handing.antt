@@ -29,11 +29,12 @@ pub record HandsFlow (g : Network) (flow prices : List ℤ) (told : McfVerdict) 
   pub least : IsLeastFlow g prices flow
   pub tells : Tells (Flow cost) told
 
--- the flow is what a least state stands for that was made by a new engine, the one that the choice means for the problem
+-- the flow is what a least state stands for that was made by a new engine, the one that the choice
+-- means for the problem
 abbrev pub IsMadeFlow : Choice → Network → List ℤ → Type 0
 IsMadeFlow choice g flow = StandsForMade (IsMadeBy choice) g flow
 
--- the choice with the first form
+-- the choice with the full form
 abbrev pub in_one_form : Choice → Choice
 in_one_form c = record { engine = c.engine; pricing = c.pricing; block = c.block; form = One }
 
@@ -41,7 +42,8 @@ in_one_form c = record { engine = c.engine; pricing = c.pricing; block = c.block
 abbrev pub mark_of : Bool → ℤ
 mark_of is_in = if is_in then pos 1 else pos 0
 
--- a node set that blocks, so that no flow is feasible, by the mark of each node, its side and the number of its nodes
+-- a node set that blocks, so that no flow is feasible, by the mark of each node, its side and the
+-- number of its nodes
 pub record HandsSet (g : Network) (marks : List ℤ) (told : McfVerdict) : Type 0 where
   pub set : BlockingSet
   pub fits : IsBlockingSet set

@@ -1,4 +1,4 @@
-//! Flow problems and assignment problems solved in arrays, with no text.
+//! Flow problems and assignment problems solved in arrays, without texts.
 ghost use Rattle.std.specs.Prelude.{◌≡◌, ◌≢◌, ◌≤◌, ◌<◌, ◌⊎◌, ◌↔◌, ◌+◌, IfErr, IfOk, IfSome, None, is_ok, length, true, false};
 ghost use Rattle.mcf_c.specs.Choices.{choice_of};
 ghost use Rattle.mcf_c.specs.Handing.{HandsFault, HandsFlow, HandsSet, HasWidePrice, IsMadeFlow, KeepsSizes, TakesMemory};
@@ -17,7 +17,7 @@ use mcf_instance::{ArrayFault, Instance, assignment_problem, flow_problem};
 use mcf_solver::Choice;
 use std::alloc::Global;
 
-// Answers what was made of arrays that stand for a network.
+// Answers the result of making an instance from arrays.
 fn answer_made(
     alloc: Global,
     made: Result<Instance, ArrayFault>,
@@ -50,11 +50,12 @@ fn answer_made(
 
 /// Solves a flow problem, and writes its flow by arc and its prices by node.
 ///
-/// The status is 0 for a least-cost flow, 1 where a node set blocks, whose nodes `prices` marks by 1 and all others by 0, 2
-/// where the arrays have a fault, 3 where memory is wanting, 4 where a room hasn't the length of the arrays, 5 where the
-/// numbers mean no choice, and 6 where a price doesn't fit 64 bits. `told` becomes the cost, the side and the count
-/// of nodes, or the fault; from 3 on it stays. `flow` stays from 1 to 5 and `prices` from 2 to 5: at 6 both rooms are written, and
-/// hold no answer. What is chosen of a form means nothing here.
+/// The status is 0 for a least-cost flow; 1 for a blocking set, whose nodes `prices` marks by 1 and
+/// all others by 0; 2 if the arrays have a fault; 3 if memory runs out; 4 if a buffer doesn't have
+/// the length of the arrays; 5 if the numbers mean no choice; and 6 if a price doesn't fit 64 bits.
+/// `told` becomes the cost, the side and the number of nodes, or the fault; from 3 on it is
+/// unchanged. `flow` is unchanged from 1 to 5 and `prices` from 2 to 5: at 6 both buffers are
+/// written, and hold no answer. The form of the choice means nothing here.
 #[unsafe(no_mangle)]
 pub extern "C" fn mcf_solve_arcs(
     alloc: Global,
@@ -99,10 +100,11 @@ pub(crate) fn are_rooms(flow: &[i64], arcs: usize, prices: &[i64], nodes: usize)
     flow.len() == arcs && prices.len() == nodes
 }
 
-/// Solves an assignment problem, and writes which pairs are assigned, by 1 and else 0, and the prices of the rows and then of the
-/// columns.
+/// Solves an assignment problem, and writes which pairs are assigned, by 1 and otherwise 0, and the
+/// prices of the rows and then of the columns.
 ///
-/// The statuses are those of `mcf_solve_arcs`, with the rows and then the columns as nodes and the pairs as arcs.
+/// The statuses are those of `mcf_solve_arcs`, with the rows and then the columns as nodes and the
+/// pairs as arcs.
 #[unsafe(no_mangle)]
 pub extern "C" fn mcf_solve_pairs(
     alloc: Global,

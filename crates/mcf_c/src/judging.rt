@@ -1,4 +1,4 @@
-//! Flows in arrays judged, with no text.
+//! Flows in arrays judged, without texts.
 ghost use Rattle.std.specs.Prelude.{◌≡◌, ◌≢◌, ◌≤◌, ◌<◌, ◌⊎◌, ◌↔◌, ◌+◌, IfOk, OnErr, if◌then◌else◌, Some, length, nat_le, neg_ℤ, pos, slice_get, true, false};
 ghost use Rattle.std.specs.List.{All};
 ghost use Rattle.mcf_answer.specs.Ranges.{IsAmount, amount_limit};
@@ -36,7 +36,7 @@ fn arc_at(instance: &Instance, place: u32) -> Arc
     instance.arc(ArcId::at(place))
 }
 
-// What an arc carries, with its ends.
+// The flow of an arc, with its ends.
 fn sent_by(arc: &Arc, flow: i64) -> Sent
     requires { HasEnds node_limit arc.now }
     ensures value { result ≡ sent_by (arc.now, flow) }
@@ -49,7 +49,7 @@ fn sent_by(arc: &Arc, flow: i64) -> Sent
     }
 }
 
-// What the arcs of an instance carry, with their ends.
+// The flows of the arcs of an instance, with their ends.
 fn sent_along(alloc: Global, instance: &Instance, flow: &[i64]) -> Result<Vec<Sent>, NoMemory>
     requires { length flow.now ≡ length instance.now.arcs }
     ensures value { IfOk result (λ sent. sent.items ≡ sent_along instance.now.arcs flow.now) }
@@ -64,7 +64,7 @@ fn sent_along(alloc: Global, instance: &Instance, flow: &[i64]) -> Result<Vec<Se
     Ok(sent)
 }
 
-// A number as an answer has it.
+// A number of an answer.
 fn widened(n: i64) -> i128
     ensures value { result ≡ n }
     ensures fits { IsAmount result }
@@ -72,7 +72,7 @@ fn widened(n: i64) -> i128
     i128::from(n)
 }
 
-// Prices as an answer has them.
+// Prices of an answer.
 fn wide_prices(alloc: Global, prices: &[i64]) -> Result<Vec<i128>, NoMemory>
     ensures value { IfOk result (λ wide. wide.items ≡ prices.now) }
     ensures fits { IfOk result (λ wide. All IsAmount wide.items) }
@@ -85,7 +85,7 @@ fn wide_prices(alloc: Global, prices: &[i64]) -> Result<Vec<i128>, NoMemory>
     Ok(wide)
 }
 
-// The cost that is claimed, or one that no flow has where it is beyond the range of answers.
+// The claimed cost, or one that no flow has if it is beyond the range of answers.
 fn claimed_cost(told: &McfVerdict) -> i128
     ensures value { result ≡ claimed_cost told.now }
     ensures small { IsAmount result }
@@ -94,7 +94,8 @@ fn claimed_cost(told: &McfVerdict) -> i128
     signed_cost(size, told.negative == 1)
 }
 
-// The cost of a size and a sign, or one that no flow has where the size is beyond the range of answers.
+// The cost of an absolute value and a sign, or one that no flow has if it is beyond the range of
+// answers.
 fn signed_cost(size: u128, is_negative: bool) -> i128
     ensures value { result ≡ (if nat_le size amount_limit then (if is_negative then neg_ℤ (pos size) else pos size) else pos amount_limit) }
     ensures small { IsAmount result }
@@ -109,7 +110,7 @@ fn signed_cost(size: u128, is_negative: bool) -> i128
     }
 }
 
-// The answer of a flow by arc and prices by node, with the cost that is claimed.
+// The answer with a flow by arc, prices by node, and the claimed cost.
 fn answer_along(
     alloc: Global,
     instance: &Instance,
@@ -176,11 +177,11 @@ fn accepts(verdict: &Verdict) -> bool
     }
 }
 
-/// Judges a flow by arc and prices by node for a flow problem, whoever made them. `told` holds the cost that is claimed, and
-/// becomes the verdict.
+/// Judges a flow by arc and prices by node for a flow problem, whoever made them. `told` holds the
+/// claimed cost, and becomes the verdict.
 ///
-/// The status is 0 where they are accepted, 1 where they aren't, 2 where the arrays have a fault, which `told` becomes, 3 where
-/// memory is wanting, and 4 where an array hasn't the length of the others.
+/// The status is 0 if they are accepted, 1 if they aren't, 2 if the arrays have a fault, which
+/// `told` becomes, 3 if memory runs out, and 4 if an array doesn't have the length of the others.
 #[unsafe(no_mangle)]
 pub extern "C" fn mcf_check_arcs(
     alloc: Global,
@@ -215,8 +216,8 @@ pub extern "C" fn mcf_check_arcs(
     }
 }
 
-/// Judges which pairs are assigned and the prices of the rows and then the columns for an assignment problem, whoever made them.
-/// `told` holds the cost that is claimed, and becomes the verdict.
+/// Judges assigned pairs and the prices of the rows and then the columns for an assignment problem,
+/// whoever made them. `told` holds the claimed cost, and becomes the verdict.
 ///
 /// The statuses are those of `mcf_check_arcs`.
 #[unsafe(no_mangle)]

@@ -13,7 +13,8 @@ pub struct McfFlowProblem<'a> {
     pub arcs: &'a [RawArc],
 }
 
-/// An assignment problem in arrays: how many rows and columns there are, and the pairs that may be assigned.
+/// An assignment problem in arrays: the numbers of rows and columns, and the pairs that may be
+/// assigned.
 #[repr(C)]
 #[derive(Clone, Copy)]
 pub struct McfAssignment<'a> {
@@ -22,7 +23,7 @@ pub struct McfAssignment<'a> {
     pub pairs: &'a [RawPair],
 }
 
-/// How many nodes an assignment problem has.
+/// The number of nodes of an assignment problem.
 pub(crate) fn node_count(problem: &McfAssignment<'_>) -> usize
     ensures { result ≡ node_count (assignment_network problem.now) }
 {

@@ -46,11 +46,13 @@ fn answer_to(alloc: Global, input: &[u8], choice: Choice) -> Result<(u32, Vec<u8
     Ok((kind_status(kind), text))
 }
 
-/// Solves an instance text, and writes the answer to the beginning of a room of the caller's, as `solve_text` writes it.
+/// Solves an instance text, and writes the answer to the beginning of a buffer of the caller's, as
+/// `solve_text` writes it.
 ///
-/// The status is 0 for a flow, 1 for a node set that blocks, 2 for a refusal, 3 where memory is wanting, which the answer
-/// takes before it is written to the room, 4 where the room is too short and 5 where the numbers mean no choice. `used`
-/// becomes the length of the answer: at status 4 the one that the room lacks, and 0 at 3 and 5.
+/// The status is 0 for a flow, 1 for a blocking set, 2 for a refusal, 3 if memory runs out, also
+/// for the answer before it is copied to the buffer, 4 if the buffer is too short, and 5 if the
+/// numbers mean no choice. `used` becomes the length of the answer, also at status 4, and 0 at 3
+/// and 5.
 #[unsafe(no_mangle)]
 pub extern "C" fn mcf_solve(
     alloc: Global,
@@ -85,7 +87,8 @@ pub extern "C" fn mcf_solve(
 
 /// Judges an answer text for an instance text, as `check` does.
 ///
-/// The status is 0 where the answer is accepted, 1 where it isn't, and 3 where memory is wanting: `told` is then as it was.
+/// The status is 0 if the answer is accepted, 1 if it isn't, and 3 if memory runs out: `told` is
+/// then unchanged.
 #[unsafe(no_mangle)]
 pub extern "C" fn mcf_check(
     alloc: Global,

@@ -5,8 +5,9 @@ ghost use Rattle.mcf_c.specs.Verdicts.{Tells, TellsFault, TellsSet, code_number,
 use mcf_checker::Verdict;
 use mcf_instance::{ArrayFault, Code, Side};
 
-/// A verdict in numbers. Its kind is 0 to 10, in the order of `mcf.h`; `code` is that of a refusal, from 1 on, or of a
-/// side, and else 0; and its number is `low + 2^64 high`, below 0 where `negative` is 1.
+/// A verdict in numbers. Its kind is 0 to 10, in the order of `mcf.h`; `code` is that of a refusal,
+/// from 1 on, or of a side, and otherwise 0; and its number is `low + 2^64 high`, negated if
+/// `negative` is 1.
 #[repr(C)]
 #[derive(Clone, Copy)]
 pub struct McfVerdict {
@@ -73,7 +74,7 @@ fn verdict_code(verdict: &Verdict) -> u32
     }
 }
 
-// The size of the number of a verdict, or 0.
+// The absolute value of the number of a verdict, or 0.
 fn verdict_size(verdict: &Verdict) -> u128
     ensures { result ≡ verdict_size verdict.now }
 {
@@ -89,7 +90,7 @@ fn verdict_size(verdict: &Verdict) -> u128
     }
 }
 
-// Whether the number of a verdict is below 0, as 1 or 0.
+// 1 if the number of a verdict is below 0, otherwise 0.
 fn verdict_sign(verdict: &Verdict) -> u32
     ensures { result ≡ verdict_sign verdict.now }
 {
@@ -167,7 +168,7 @@ fn side_number(side: Side) -> u32
     }
 }
 
-/// A node set of so many nodes that blocks by a side, in numbers.
+/// A node set of this many nodes that blocks by a side, in numbers.
 pub(crate) fn set_numbers(side: Side, count: usize) -> McfVerdict
     ensures { TellsSet side count result }
 {

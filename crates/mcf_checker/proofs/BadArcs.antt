@@ -1,4 +1,5 @@
--- The first arc that the flow lines don't agree with: as a loop finds it, and what it means that there is none.
+-- The first arc that the flow lines don't agree with: as a loop finds it, and what it means that
+-- there is none.
 use Rattle.std.proofs.Common.{◌≡◌, ℕ, zero, suc, ◌+◌, ◌-◌, ◌≤◌, ◌<◌, max, Bool, true, false, not, ◌&&◌, eqb, refl, ap, sym, ◌∙◌, arith, List, [], ◌∷◌, length}
 use Rattle.std.proofs.Common.{get_or, map, Some, None}
 use Rattle.std.specs.List.{AllZip, slice_get}

@@ -1,4 +1,5 @@
--- The first node without a price, or whose net isn't its supply: as a loop finds it, and what it means that there is none.
+-- The first node without a price, or whose net isn't its supply: as a loop finds it, and what it
+-- means that there is none.
 use Rattle.std.proofs.Common.{◌≡◌, ℕ, ◌+◌, ◌-◌, ◌≤◌, ◌<◌, max, Bool, true, false, not, ◌&&◌, ◌||◌, ltb, ap, sym, ◌∙◌, arith, inl, inr, List, length, get_or}
 use Rattle.std.proofs.Common.{Some, None, ℤ, pos}
 use Rattle.std.specs.Ordering.{int_eq}
@@ -78,7 +79,7 @@ module _ (nets supplies : List ℤ) (prices : ℕ) where
   first_unmet_nowhere h each =
       least_none (is_unmet (at_node nets) supplies prices) (max (length supplies) prices) (λ j k. each j (omega arith))
 
--- a table of the nets serves in place of the nets
+-- a table of the nets serves instead of the nets
 pub bad_node-table : (g : Network) (prices flow nets : List ℤ) → AreNets (node_count g) g.arcs flow nets
     → least_up_to (max (node_count g) (length prices)) (is_unmet (at_node nets) g.supplies (length prices)) ≡ bad_node g prices flow
 bad_node-table g prices flow nets known =

@@ -1,4 +1,5 @@
--- The first arc whose flow the prices don't show: as a loop finds it, and what it means that there is none.
+-- The first arc whose flow the prices don't show: as a loop finds it, and what it means that there
+-- is none.
 use Rattle.std.proofs.Common.{◌≡◌, ℕ, zero, suc, ◌+◌, ◌-◌, ◌<◌, Bool, true, false, ◌&&◌, ◌||◌, refl, ap, sym, ◌∙◌, arith, List, [], ◌∷◌, length, Some}
 use Rattle.std.proofs.Common.{None, ℤ, pos, ◌≤ℤ◌, ◌<ℤ◌}
 use Rattle.std.specs.List.{slice_get, zip}

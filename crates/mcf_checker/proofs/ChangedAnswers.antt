@@ -1,5 +1,5 @@
--- The answer of the worked instance of four nodes and five arcs, cut short or with a number changed,
--- judged on the definitions.
+-- The answer of the worked instance of four nodes and five arcs, cut short or with a number
+-- changed, judged on the definitions.
 use Rattle.std.specs.Prelude.{◌≡◌, ℕ, List, codes, map, take, replicate, pos, refl}
 use Rattle.std.specs.List.{range_with_len}
 use Rattle.mcf_answer.specs.Fits.{fits, is_complete, misfit, misfit_of_lines, misfits}

@@ -1,4 +1,5 @@
--- What a loop over the arcs and their flows needs at one of them: the steps of the sums, as it reads them.
+-- What a loop over the arcs and their flows needs at one of them: the steps of the sums, as it
+-- reads them.
 use Rattle.std.proofs.Common.{◌≡◌, ℕ, ◌+◌, ◌-◌, ◌≤◌, ap, subst, sym, ◌∙◌, arith, inl, inr, List, [], length, take, set, get_or, map, Some, ℤ, pos}
 use Rattle.std.proofs.Common.{◌+ℤ◌, ◌-ℤ◌}
 use Rattle.std.specs.Prelude.{replicate}

@@ -26,7 +26,8 @@ called-at_word calls text_of words place word name before after result given sma
       called = subst (λ r. Called calls before (name, tt) r after) gave call;
     }
 
--- two files read one after the other, and then the status and the line of the verdict on their bytes
+-- two files read one after the other, and then the status and the line of the verdict on their
+-- bytes
 pub judges-from_parts : {F V E X : Type 0} (calls : Mut F (Bor (List ℕ) × Unit {0}) (Result V E)) (bytes : V → List ℕ)
     (read between last : F) (words : List (List ℕ)) (input text : V) (outcome : Result ℕ X) (old new : Option (List ℕ))
     → CalledAt calls read (slice_index_or words 1 []) (Ok input) between

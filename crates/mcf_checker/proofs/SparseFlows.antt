@@ -1,4 +1,4 @@
--- The verdict on a flow answer of the second form: at each of its cases, and when it accepts.
+-- The verdict on a flow answer of the sparse form: at each of its cases, and when it accepts.
 use Rattle.std.proofs.Common.{◌≡◌, ℕ, zero, suc, ◌+◌, ◌-◌, ◌≤◌, ◌<◌, Bool, true, false, not, cond, eqb, refl, ap, sym, subst, ◌∙◌}
 use Rattle.std.proofs.Common.{arith, inl, inr, List, [], ◌∷◌, length}
 use Rattle.std.proofs.Common.{◌⊎◌, get_or, map, Option, Some, None, ℤ}

@@ -30,7 +30,7 @@ sent_ends sent = map (λ s. (s.src, s.dst)) sent
 abbrev pub arc_ends : Network → List (ℕ × ℕ)
 arc_ends g = map (λ a. (a.src, a.dst)) g.arcs
 
--- the flow that is stated for the arc of a number, or its low where none is
+-- the flow that is stated for the arc of a number, or its low if none is
 abbrev pub stated_or_low : List (ℕ × ℤ) → ℕ × Arc → ℤ
 stated_or_low moved arc = option_map_or (λ m. m.1) (find (λ m. m.0 == arc.0) moved) arc.1.low
 
@@ -71,8 +71,8 @@ IsRight (Err fault) (Sparse a) = ⊥
 IsRight (Err fault) (Blocked a) = ⊥
 IsRight (Ok g) (Refused r) = ⊥
 
--- the second text spells an answer that is right for the first: the first fault; or where there is none,
--- a shown flow or a blocking set
+-- the second text spells an answer that is right for the first: the first fault; or if there is
+-- none, a shown flow or a blocking set
 pub record IsCorrect (input text : List ℕ) : Type 0 where
   pub answer : Answer
   pub spelled : Spells text answer
@@ -85,7 +85,8 @@ flow_given g (Sparse a) = Some (spread g.arcs a.moved)
 flow_given g (Blocked a) = None
 flow_given g (Refused r) = None
 
--- the instance text has no fault, and the answer text gives a flow of this cost that no feasible flow undercuts
+-- the instance text has no fault, and the answer text gives a flow of this cost that no feasible
+-- flow undercuts
 pub record GivesLeastFlow (input text : List ℕ) (total : ℤ) : Type 0 where
   pub instance : Network
   pub answer : Answer

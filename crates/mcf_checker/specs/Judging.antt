@@ -40,7 +40,8 @@ arc_agrees (Some a) None = false
 arc_agrees None (Some s) = false
 arc_agrees None None = true
 
--- the least number of an arc without a flow line, of a flow line without an arc, or of two that disagree
+-- the least number of an arc without a flow line, of a flow line without an arc, or of two that
+-- disagree
 abbrev pub bad_arc : Network → List Sent → Option ℕ
 bad_arc g sent =
     least_up_to (max (length g.arcs) (length sent)) (λ k. not (arc_agrees (slice_get g.arcs (k - 1)) (slice_get sent (k - 1))))
@@ -50,7 +51,7 @@ abbrev pub can_carry : Option Arc → ℤ → Bool
 can_carry None f = false
 can_carry (Some a) f = int_le a.low f && int_le f a.cap
 
--- a line of the second form names an arc that is there, with a flow within its bounds
+-- a line of the sparse form names an arc that is there, with a flow within its bounds
 abbrev pub moved_agrees : List Arc → ℕ × ℤ → Bool
 moved_agrees arcs m = can_carry (slice_get arcs (m.0 - 1)) m.1
 
@@ -60,8 +61,8 @@ bad_moved g moved = option_map (λ m. m.0) (find (λ m. not (moved_agrees g.arcs
 
 -- ---- nodes
 
--- the least number of a node without a price line, of a price line without a node, or of a node whose net
--- is not its supply
+-- the least number of a node without a price line, of a price line without a node, or of a node
+-- whose net is not its supply
 abbrev pub bad_node : Network → List ℤ → List ℤ → Option ℕ
 bad_node g prices flow =
     least_up_to (max (node_count g) (length prices)) (λ v.
@@ -69,7 +70,8 @@ bad_node g prices flow =
 
 -- ---- prices
 
--- a flow above the low of an arc of positive reduced cost, or below the cap of one of negative reduced cost
+-- a flow above the low of an arc of positive reduced cost, or below the cap of one of negative
+-- reduced cost
 -- Source: AMO 9.3
 abbrev pub is_loose : List ℤ → Arc × ℤ → Bool
 is_loose prices m =
@@ -101,7 +103,7 @@ unfoldable pub solution_verdict : Network → Solution → Verdict
 solution_verdict g a =
     option_map_or BadArc (bad_arc g a.sent) (flow_verdict g a.cost a.prices (amounts a.sent))
 
--- of a flow answer of the second form for an instance
+-- of a flow answer of the sparse form for an instance
 unfoldable pub sparse_verdict : Network → SparseSolution → Verdict
 sparse_verdict g a =
     option_map_or BadArc (bad_moved g a.moved) (flow_verdict g a.cost a.prices (spread g.arcs a.moved))

@@ -5,6 +5,6 @@ use Rattle.std.specs.Bool.{IsTrue}
 use Rattle.mcf_checker.specs.Correct.{IsCorrect}
 use Rattle.mcf_checker.specs.Judging.{accepts, verdict}
 
--- the verdict accepts exactly where the answer text is correct for the instance text
+-- the verdict accepts exactly if the answer text is correct for the instance text
 abbrev pub CorrectAnswersAreAccepted : Type 0
 CorrectAnswersAreAccepted = (input text : List ℕ) → IsTrue (accepts (verdict input text)) ↔ IsCorrect input text

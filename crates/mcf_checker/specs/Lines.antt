@@ -20,11 +20,11 @@ answer_line = codes "mcfcheck: cannot read the answer\n"
 abbrev pub write_line : List ℕ
 write_line = codes "mcfcheck: write failed\n"
 
--- memory was wanting
+-- memory ran out
 abbrev pub memory_line : List ℕ
 memory_line = codes "mcfcheck: out of memory\n"
 
--- what is said of a file that wasn't read: memory was wanting, or this line
+-- what is said of a file that wasn't read: memory ran out, or this line
 abbrev pub file_line : List ℕ → FileFault → List ℕ
 file_line unreadable NoMemory = memory_line
 file_line unreadable Unreadable = unreadable

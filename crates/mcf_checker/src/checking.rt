@@ -19,7 +19,7 @@ use mcf_instance::{Instance, Refusal, read};
 use mcf_text::NoMemory;
 use std::alloc::Global;
 
-// Whether the refusals name one line and one code.
+// Whether the refusals name the same line and the same code.
 fn is_same(refusal: &Refusal, fault: &Refusal) -> bool
     ensures { result ≡ same_fault refusal.now fault.now }
 {
@@ -49,7 +49,7 @@ fn fault_verdict(fault: &Refusal, answer: &Answer) -> Verdict
     }
 }
 
-// The verdict on an answer to an instance text without fault.
+// The verdict on an answer to an instance text without a fault.
 #[tactic(auto, unfolding(crate::specs::Judging::judged))]
 fn instance_verdict(
     alloc: Global,
@@ -69,7 +69,7 @@ fn instance_verdict(
     }
 }
 
-// The verdict on an answer to what was read of an instance text.
+// The verdict on an answer to the result of reading an instance text.
 fn outcome_verdict(
     alloc: Global,
     outcome: &Result<Instance, Refusal>,
@@ -85,11 +85,14 @@ fn outcome_verdict(
     }
 }
 
-/// The verdict on a flow with its cost and prices for an instance: the first of `BadArc`, `BadNode`, `BadPrice`, `BadCost` and
-/// `Flow` that applies. It accepts exactly where the flow is right, whoever made it, and then no feasible flow costs less.
+/// The verdict on a flow with its cost and prices for an instance: the first of `BadArc`,
+/// `BadNode`, `BadPrice`, `BadCost` and `Flow` that applies. It accepts exactly if the flow is
+/// right, whoever made it; then no feasible flow costs less.
 ///
 /// # Errors
-/// `NoMemory` where there is no memory for the nets of the nodes; an instance without nodes wants none.
+///
+/// `NoMemory` if the allocation for the nodes' balances is refused; an instance without nodes needs
+/// none.
 pub fn check_flow(
     alloc: Global,
     instance: &Instance,
@@ -104,16 +107,17 @@ pub fn check_flow(
     solution_verdict(alloc, instance, answer)
 }
 
-/// The verdict on an answer text for an instance text: the first of `Verdict` that applies. It accepts exactly where
-/// the answer text is correct, whoever made it.
+/// The verdict on an answer text for an instance text: the first of `Verdict` that applies. It
+/// accepts exactly if the answer text is correct, whoever made it.
 ///
-/// Any texts are judged, with prices of any size that an answer may have, and any node set that blocks. The
-/// time is about linear in the two texts.
+/// It judges any texts, with prices of any size that an answer may have, and any blocking node set.
+/// The time is about linear in the two texts.
 ///
 /// # Errors
-/// `NoMemory` where there is no memory for what the texts say: an instance text whose first problem line
-/// isn't good, names no nodes or comes after a fault wants none, nor does an answer text without a line `f`,
-/// `g`, `y` or `x` that says something.
+///
+/// `NoMemory` if an allocation for the content of the texts is refused. An instance text needs none
+/// if its first problem line isn't valid, names no nodes or follows a fault, nor does an answer
+/// text without a line `f`, `g`, `y` or `x` that has content.
 pub fn check(alloc: Global, input: &[u8], answer: &[u8]) -> Result<Verdict, NoMemory>
     ensures verdict { IfOk result (λ v. v ≡ verdict input.now answer.now) }
     ensures exact { IfOk result (λ v. IsTrue (accepts v) ↔ IsCorrect input.now answer.now) }

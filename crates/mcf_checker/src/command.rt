@@ -18,15 +18,15 @@ use thiserror::Error;
 /// Why a file wasn't read.
 #[derive(Clone, Copy, Debug, PartialEq, Eq, Error)]
 pub enum FileFault {
-    /// There was no memory for its bytes.
+    /// The allocation for its bytes was refused.
     #[error("out of memory")]
     NoMemory,
-    /// It isn't there, or it can't be read.
+    /// It doesn't exist, or it can't be read.
     #[error("cannot read the file")]
     Unreadable,
 }
 
-// The status where there is no verdict.
+// The status if there is no verdict.
 const FAILED: u8 = 3;
 
 // Why there is no verdict.
@@ -43,7 +43,7 @@ impl Failure {
     ghost use Rattle.std.specs.Prelude.{◌≡◌};
     ghost use Rattle.mcf_checker.specs.Private.Failures.{failure_line, failure_of};
 
-    // The line that says so.
+    // The line that reports it.
     fn text(self) -> &'static str
         ensures { result.now ≡ failure_line self }
     {
@@ -56,7 +56,7 @@ impl Failure {
         }
     }
 
-    // What is said of a file that wasn't read.
+    // The failure for a file that wasn't read.
     fn of(fault: FileFault, unreadable: Failure) -> Failure
         ensures { result ≡ failure_of fault unreadable }
     {
@@ -78,7 +78,7 @@ impl From<NoMemory> for Failure {
     }
 }
 
-// The status of a verdict: 0 where it accepts, else 1.
+// The status of a verdict: 0 if it accepts, otherwise 1.
 fn status_of(verdict: &Verdict) -> u8
     ensures value { result ≡ (if accepts verdict.now then 0 else 1) }
     ensures small { result ≤ 1 }
@@ -89,7 +89,7 @@ fn status_of(verdict: &Verdict) -> u8
     }
 }
 
-// The line that is printed of a verdict.
+// The printed line of a verdict.
 fn line_of(alloc: Global, verdict: &Verdict) -> Result<String, NoMemory>
     ensures { IfOk result (λ line. string_bytes line ≡ printed_line verdict.now) }
 {
@@ -97,7 +97,7 @@ fn line_of(alloc: Global, verdict: &Verdict) -> Result<String, NoMemory>
     Ok(line)
 }
 
-// The line and the status of an answer text for an instance text.
+// The line and the status for an answer text and its instance text.
 fn outcome_of(alloc: Global, input: &[u8], answer: &[u8]) -> Result<(String, u8), NoMemory>
     ensures line { IfOk result (λ o. string_bytes o.0 ≡ printed_line (verdict input.now answer.now)) }
     ensures status { IfOk result (λ o. o.1 ≡ (if accepts (verdict input.now answer.now) then 0 else 1)) }
@@ -108,8 +108,8 @@ fn outcome_of(alloc: Global, input: &[u8], answer: &[u8]) -> Result<(String, u8)
     Ok((line, status_of(&verdict)))
 }
 
-// Takes at least one byte of a piece that isn't empty, from its beginning, and answers how many. An interrupted write
-// fails, and so does one that takes no byte.
+// Writes at least one byte from the front of a piece that isn't empty, and returns their number. An
+// interrupted write fails, and so does one that takes no byte.
 fn write_some<W: Write>(writer: &mut W, piece: &[u8]) -> Result<usize, Failure>
     ensures bound { IfOk result (λ count. (1 ≤ count) × (count ≤ length piece.now)) }
     ensures bytes { WriteAppends (W.contents writer.old) (W.contents writer.new) result piece.now }
@@ -120,7 +120,7 @@ fn write_some<W: Write>(writer: &mut W, piece: &[u8]) -> Result<usize, Failure>
     }
 }
 
-// Writes a text and flushes. Nothing is tried again: the first failure ends it.
+// Writes a text and flushes. Nothing is retried: the first failure ends it.
 fn send<W: Write>(writer: &mut W, text: &[u8]) -> Result<(), Failure>
     ensures taken { OnOk result (Appends (W.contents writer.old) (W.contents writer.new) text.now) }
     ensures beginning { TakesBeginning (W.contents writer.old) (W.contents writer.new) text.now }
@@ -139,7 +139,7 @@ fn send<W: Write>(writer: &mut W, text: &[u8]) -> Result<(), Failure>
     }
 }
 
-// Prints the verdict on an answer text for an instance text, and gives the status.
+// Prints the verdict on an answer text for an instance text, and returns the status.
 fn print_outcome<O: Write>(
     alloc: Global,
     input: &[u8],
@@ -158,8 +158,8 @@ fn print_outcome<O: Write>(
     Ok(status)
 }
 
-// Judges the answer in the second file for the instance in the first, prints the line, and gives the status. The
-// reader of files is lent, so that its state tells which calls were made.
+// Judges the answer in the second file for the instance in the first, prints the line, and returns
+// the status. The reader of files is borrowed, so that its state shows which calls were made.
 fn run<S: AsStr, R: FnMut(&str) -> Result<Vec<u8>, FileFault>, O: Write>(
     alloc: Global,
     words: &[S],
@@ -190,13 +190,13 @@ fn run<S: AsStr, R: FnMut(&str) -> Result<Vec<u8>, FileFault>, O: Write>(
     print_outcome(alloc, &input, &answer, out)
 }
 
-/// Judges the answer in one file for the instance in another, and gives the exit status.
+/// Judges the answer in one file for the instance in another, and returns the exit status.
 ///
-/// `words` are the name of the program, the name of the instance's file and that of the answer's. `read`
-/// gives the bytes of a file; the instance is read first. The verdict is one line on `out`, and the status
-/// is 0 where it accepts and 1 where it doesn't. Status 3 is given, with one line on `err`, for another
-/// number of words, a file that can't be read, a line that can't be written, and want of memory. Nothing that
-/// fails is tried again. A line that can't be written on `err` changes nothing.
+/// `words` are the name of the program, of the instance's file and of the answer's. `read` returns
+/// the bytes of a file; it is called for the instance first. The verdict is one line on `out`, and
+/// the status is 0 if it accepts and 1 if it doesn't. Status 3, with one line on `err`, reports
+/// another number of words, a file that can't be read, a line that can't be written, and lack of
+/// memory. Nothing that fails is retried. A line that can't be written on `err` changes nothing.
 pub fn judge<S: AsStr, R: FnMut(&str) -> Result<Vec<u8>, FileFault>, O: Write, E: Write>(
     alloc: Global,
     words: &[S],

@@ -1,10 +1,11 @@
 #![tactic(auto)]
 
-//! The judge of answers: what an answer text is worth, from the two texts alone.
+//! The judge of answers: a verdict from the two texts alone.
 //!
-//! It stands on `mcf_text`, `mcf_instance` and `mcf_answer`, and shares no code with any solver but what reads texts. Definitions
-//! stand in `specs/`: `Correct` says when an answer is right, `Judging` which verdict applies first, `Laws` that these agree,
-//! `Printed` and `Lines` what is printed, and `Runs` what a run of the command does.
+//! It builds on `mcf_text`, `mcf_instance` and `mcf_answer`, and shares no code with any solver
+//! except the reading of texts. The definitions in `specs/`: `Correct` says when an answer is
+//! right, `Judging` which verdict applies first, `Laws` that these agree, `Printed` and `Lines`
+//! what is printed, and `Runs` what a run of the command does.
 
 mod checking;
 mod command;

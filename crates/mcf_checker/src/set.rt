@@ -10,7 +10,7 @@ use mcf_instance::{Instance, blocks, table_of};
 use mcf_text::{NoMemory, NodeId};
 use std::alloc::Global;
 
-// Whether each of the nodes is one of so many.
+// Whether each node's number is at most the count.
 fn are_nodes(count: u32, nodes: &[NodeId]) -> bool
     ensures { result ≡ list_all (λ v. nat_le v count) nodes.now }
 {
@@ -20,7 +20,9 @@ fn are_nodes(count: u32, nodes: &[NodeId]) -> bool
 /// The verdict on a blocked answer for an instance.
 ///
 /// # Errors
-/// `NoMemory` where there is no memory for the table of the set; an instance without nodes wants none.
+///
+/// `NoMemory` if the allocation for the table of the set is refused; an instance without nodes
+/// needs none.
 pub(crate) fn set_verdict(
     alloc: Global,
     instance: &Instance,

@@ -37,21 +37,21 @@ fn supply_at(instance: &Instance, place: usize) -> i128
     instance.supply(NodeId::at(place as u32))
 }
 
-// Whether the line is that of the arc: the same ends, and a flow within the bounds.
+// Whether the line belongs to the arc: the same ends, and a flow within the bounds.
 fn agrees(arc: &Arc, line: &Sent) -> bool
     ensures { result ≡ arc_agrees (Some arc.now) (Some line.now) }
 {
     line.src == arc.src && line.dst == arc.dst && arc.low <= line.flow && line.flow <= arc.cap
 }
 
-// Whether there is an arc at the place, and the line is that of the arc.
+// Whether there is an arc at the place, and the line belongs to it.
 fn agrees_at(instance: &Instance, place: usize, line: &Sent) -> bool
     ensures { result ≡ arc_agrees (slice_get instance.now.arcs place) (Some line.now) }
 {
     place < instance.arc_count() as usize && agrees(&arc_at(instance, place as u32), line)
 }
 
-// The least number of an arc and a flow line that aren't both there, or that disagree.
+// The least number of an arc and a flow line of which one is missing, or which disagree.
 fn first_bad_arc(instance: &Instance, sent: &[Sent]) -> Option<u64>
     ensures { result ≡ bad_arc instance.now sent.now }
 {
@@ -66,7 +66,7 @@ fn first_bad_arc(instance: &Instance, sent: &[Sent]) -> Option<u64>
     None
 }
 
-// What leaves each node less what enters it, in the order of the nodes.
+// The outflow of each node less its inflow, in the order of the nodes.
 fn nets_of(alloc: Global, instance: &Instance, stated: Stated<'_>) -> Result<Vec<i128>, NoMemory>
     requires bounds { IsWithinBounds instance.now.arcs (flow_stated instance.now.arcs stated) }
     requires order { IsInOrder stated }
@@ -86,7 +86,7 @@ fn nets_of(alloc: Global, instance: &Instance, stated: Stated<'_>) -> Result<Vec
     Ok(nets)
 }
 
-// Whether the node at the place has a price, and its net is its supply.
+// Whether the node at the place has a price, and its net outflow is its supply.
 fn is_met_at(instance: &Instance, place: usize, net: i128, prices: usize) -> bool
     requires { place < node_count instance.now }
     ensures { result ≡ (nat_lt place prices
@@ -95,7 +95,8 @@ fn is_met_at(instance: &Instance, place: usize, net: i128, prices: usize) -> boo
     place < prices && net == supply_at(instance, place)
 }
 
-// The least number of a node and a price that aren't both there, or of a node whose net isn't its supply.
+// The least number of a node and a price of which one is missing, or of a node whose net outflow
+// isn't its supply.
 fn first_unmet(instance: &Instance, nets: &[i128], prices: usize) -> Option<u32>
     requires { length nets.now ≡ node_count instance.now }
     ensures { result ≡ least_up_to (max (node_count instance.now) prices)
@@ -114,7 +115,8 @@ fn first_unmet(instance: &Instance, nets: &[i128], prices: usize) -> Option<u32>
     None
 }
 
-// The least number of a node and a price line that aren't both there, or of a node whose net isn't its supply.
+// The least number of a node and a price line of which one is missing, or of a node whose net
+// outflow isn't its supply.
 fn first_bad_node(
     alloc: Global,
     instance: &Instance,
@@ -130,7 +132,7 @@ fn first_bad_node(
     Ok(first_unmet(instance, &nets, prices.len()))
 }
 
-// The cost of the arc less the price of its first end plus that of its second.
+// The reduced cost of the arc: its cost, less the price of its first end, plus that of its second.
 fn reduced_cost_of(arc: &Arc, prices: &[i128]) -> i128
     requires ends { HasEnds (length prices.now) arc.now }
     requires limits { IsArcWithinLimits limits arc.now }
@@ -140,7 +142,7 @@ fn reduced_cost_of(arc: &Arc, prices: &[i128]) -> i128
     arc.cost - prices[arc.src.place()] + prices[arc.dst.place()]
 }
 
-// Whether the prices don't show the flow of the arc.
+// Whether the prices don't show the flow of the arc (complementary slackness fails).
 fn is_loose(arc: &Arc, prices: &[i128], flow: i128) -> bool
     requires ends { HasEnds (length prices.now) arc.now }
     requires limits { IsArcWithinLimits limits arc.now }
@@ -151,7 +153,7 @@ fn is_loose(arc: &Arc, prices: &[i128], flow: i128) -> bool
     (0 < reduced && arc.low < flow) || (reduced < 0 && flow < arc.cap)
 }
 
-// The least arc whose flow the prices don't show.
+// The first arc whose flow the prices don't show.
 fn first_bad_price(instance: &Instance, prices: &[i128], stated: Stated<'_>) -> Option<u32>
     requires bounds { IsWithinBounds instance.now.arcs (flow_stated instance.now.arcs stated) }
     requires order { IsInOrder stated }
@@ -188,7 +190,7 @@ fn cost_of(instance: &Instance, stated: Stated<'_>) -> i128
     total
 }
 
-// Whether the stated cost is that of the flow.
+// Whether the stated cost is the cost of the flow.
 fn has_cost(instance: &Instance, stated: Stated<'_>, total: i128) -> bool
     requires bounds { IsWithinBounds instance.now.arcs (flow_stated instance.now.arcs stated) }
     requires order { IsInOrder stated }
@@ -200,7 +202,9 @@ fn has_cost(instance: &Instance, stated: Stated<'_>, total: i128) -> bool
 /// The verdict on a flow within the bounds of an instance, with its stated cost and prices.
 ///
 /// # Errors
-/// `NoMemory` where there is no memory for the nets of the nodes; an instance without nodes wants none.
+///
+/// `NoMemory` if the allocation for the nodes' balances is refused; an instance without nodes needs
+/// none.
 pub(crate) fn flow_verdict(
     alloc: Global,
     instance: &Instance,
@@ -230,7 +234,9 @@ pub(crate) fn flow_verdict(
 /// The verdict on a flow answer for an instance.
 ///
 /// # Errors
-/// `NoMemory` where there is no memory for the nets of the nodes; an instance without nodes wants none.
+///
+/// `NoMemory` if the allocation for the nodes' balances is refused; an instance without nodes needs
+/// none.
 pub(crate) fn solution_verdict(
     alloc: Global,
     instance: &Instance,

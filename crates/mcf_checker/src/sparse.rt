@@ -1,4 +1,4 @@
-//! The verdict on a flow answer of the second form.
+//! The verdict on a flow answer of the sparse form.
 ghost use Rattle.std.specs.Prelude.{◌≡◌, ◌≤◌, IfOk, OnErr, Some};
 ghost use Rattle.std.specs.List.{All};
 ghost use Rattle.mcf_checker.specs.Judging.{bad_moved, can_carry, moved_agrees, sparse_verdict};
@@ -15,14 +15,14 @@ use mcf_instance::{Arc, Instance};
 use mcf_text::{ArcId, NoMemory};
 use std::alloc::Global;
 
-// Whether the arc can carry this much.
+// Whether the arc can carry this flow.
 fn can_carry(arc: &Arc, flow: i128) -> bool
     ensures { result ≡ can_carry (Some arc.now) flow }
 {
     arc.low <= flow && flow <= arc.cap
 }
 
-// Whether there is an arc of this number, and it can carry this much.
+// Whether there is an arc with this number, and it can carry this flow.
 fn is_carried(instance: &Instance, arc: ArcId, flow: i128) -> bool
     requires { 1 ≤ arc }
     ensures { result ≡ moved_agrees instance.now.arcs (arc, flow) }
@@ -30,7 +30,7 @@ fn is_carried(instance: &Instance, arc: ArcId, flow: i128) -> bool
     arc.get() <= instance.arc_count() && can_carry(&instance.arc(arc), flow)
 }
 
-// The least arc of a line that isn't of the instance, or can't carry what the line states.
+// The first arc of a line that isn't in the instance, or can't carry the stated flow.
 fn first_bad_moved(instance: &Instance, moved: &[(ArcId, i128)]) -> Option<u32>
     requires { All (λ m. 1 ≤ m.0) moved.now }
     ensures least { result ≡ bad_moved instance.now moved.now }
@@ -45,10 +45,12 @@ fn first_bad_moved(instance: &Instance, moved: &[(ArcId, i128)]) -> Option<u32>
     None
 }
 
-/// The verdict on a flow answer of the second form for an instance.
+/// The verdict on a flow answer of the sparse form for an instance.
 ///
 /// # Errors
-/// `NoMemory` where there is no memory for the nets of the nodes; an instance without nodes wants none.
+///
+/// `NoMemory` if the allocation for the nodes' balances is refused; an instance without nodes needs
+/// none.
 pub(crate) fn sparse_verdict(
     alloc: Global,
     instance: &Instance,

@@ -1,4 +1,4 @@
-//! What a flow answer states, read along the arcs.
+//! The content of a flow answer, read along the arcs.
 ghost use Rattle.std.specs.Prelude.{◌≡◌, ◌+◌, slice_get};
 ghost use Rattle.mcf_checker.specs.Private.StatedFlows.{HasLine, IsFlowAt, IsNext, flow_if_of};
 
@@ -11,12 +11,12 @@ use mcf_text::ArcId;
 pub(crate) enum Stated<'a> {
     /// A line for each arc, in order.
     Each(&'a [Sent]),
-    /// Lines of arcs in order, by their numbers: the other arcs carry their low.
+    /// Lines of arcs in order, by their numbers: the other arcs carry their lower bounds.
     Moved(&'a [(ArcId, i128)]),
 }
 
-/// What the arc at a place carries, counted from 0, where `next` lines are of arcs before it; afterwards these are the
-/// lines of the arcs up to it.
+/// The flow of the arc at a place, counted from 0, if the first `next` lines belong to arcs before
+/// it; afterwards `next` lines belong to the arcs up to it.
 pub(crate) fn flow_at(stated: Stated<'_>, arc: &Arc, place: u32, next: &mut usize) -> i128
     requires line { HasLine stated place }
     requires next { IsNext stated place next.old }
@@ -35,7 +35,7 @@ pub(crate) fn flow_at(stated: Stated<'_>, arc: &Arc, place: u32, next: &mut usiz
     }
 }
 
-// The flow of the next line, if there is one and it is of the arc at the place.
+// The flow of the next line, if there is one and it belongs to the arc at the place.
 fn flow_of_next(moved: &[(ArcId, i128)], place: u32, next: usize) -> Option<i128>
     ensures { result ≡ flow_if_of (place + 1) (slice_get moved.now next) }
 {

@@ -6,7 +6,7 @@ use Rattle.std.specs.Prelude.{ℕ, ◌^◌, ◌≤◌}
 abbrev pub block_limit : ℕ
 block_limit = 10 ^ 6
 
--- so many arcs may be a block
+-- this many arcs may be a block
 abbrev pub IsBlockSize : ℕ → Type 0
 IsBlockSize size = (1 ≤ size) × (size ≤ block_limit)
 

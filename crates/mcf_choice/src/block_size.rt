@@ -4,7 +4,7 @@ ghost use Rattle.mcf_choice.specs.BlockSizes.{IsBlockSize, standard_block};
 
 use std::marker::Model;
 
-/// How many arcs a block of block pricing has: 1 to 1,000,000.
+/// The number of arcs in a block of block pricing: 1 to 1,000,000.
 #[derive(Clone, Copy, Debug, PartialEq, Eq)]
 pub struct BlockSize {
     size: u32,
@@ -24,7 +24,7 @@ impl Model for BlockSize {
 }
 
 impl BlockSize {
-    /// This size, if it is one of a block: from 1 to 1,000,000.
+    /// This size, if a block may have it: from 1 to 1,000,000.
     pub fn new(size: u32) -> Option<BlockSize>
         ensures { SomeIff result (IsBlockSize size) size }
     {
@@ -42,7 +42,7 @@ impl BlockSize {
         BlockSize { size: 256 }
     }
 
-    /// How many arcs that are.
+    /// The number of arcs.
     pub fn get(self) -> u32
         ensures value { result ≡ self }
         ensures range { IsBlockSize result }

@@ -1,9 +1,10 @@
 #![tactic(auto)]
 
-//! What a caller chooses: the engine, its pricing rule with the size of its blocks, and the form of the answer.
+//! The choices of a caller: the engine, its pricing rule with the size of its blocks, and the form
+//! of the answer.
 //!
-//! It stands on nothing. Definitions stand in `specs/`: `BlockSizes` says what a size of blocks is, `Choices` what is
-//! chosen where nothing is named.
+//! It builds on nothing. The definitions in `specs/`: `BlockSizes` says what a size of blocks is,
+//! `Choices` what the defaults are.
 
 mod block_size;
 mod choice;

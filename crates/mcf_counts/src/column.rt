@@ -5,7 +5,7 @@ ghost use Rattle.std.specs.Prelude.{◌≡◌, ◌+◌, ◌<◌, length, set, sl
 use crate::count::Count;
 use std::marker::Model;
 
-/// An entry for each place, and how often one was written since the column was made. `write` alone
+/// An entry for each place, and the number of writes since the column was made. Only `write`
 /// changes an entry, one at a time, and counts it.
 #[derive(Drop)]
 pub struct Column<T> {
@@ -22,7 +22,7 @@ impl<T> Model for Column<T> {
 }
 
 impl<T: Copy> Column<T> {
-    /// A column with these entries, of which none counts as written.
+    /// A column with these entries, which don't count as written.
     pub fn new(entries: Vec<T>) -> Column<T>
         ensures { result ≡ record { entries = entries.items; written = 0 } }
     {

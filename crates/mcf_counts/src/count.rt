@@ -1,12 +1,12 @@
-//! Counts that clauses alone see.
+//! Counts that only clauses see.
 
 ghost use Rattle.std.specs.Prelude.{◌≡◌, ℕ, ◌+◌};
 ghost use Rattle.std.specs.Borrow.{ftrue};
 
 use std::marker::Model;
 
-/// A count that grows by one at a time. It takes no bytes, and nothing is done for it when the
-/// program runs: a clause sees its number, which has no bound.
+/// A count that grows by one at a time. It takes no bytes and no time when the program runs:
+/// clauses see its number, which has no bound.
 #[derive(Drop)]
 pub struct Count {
     pub ghost number: { ℕ },
@@ -17,7 +17,7 @@ impl Model for Count {
 }
 
 impl Count {
-    /// A count of nothing.
+    /// The count 0.
     pub fn zero() -> Count
         ensures { result.number ≡ 0 }
     {

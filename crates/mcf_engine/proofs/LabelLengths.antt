@@ -1,4 +1,4 @@
--- Numbers that are the cost of so many arcs, at costs times a scale and with a slack for each.
+-- Numbers that are the cost of this many arcs, at costs times a scale and with a slack for each.
 use Rattle.std.proofs.Common.{◌≡◌, ℕ, ◌+◌, ◌*◌, ◌<◌, ◌≤◌, ℤ, pos, ◌+ℤ◌, ◌*ℤ◌, ◌≤ℤ◌, ◌<ℤ◌, arith}
 use Rattle.std.proofs.lemmas.Int.{ints, by_lt_z}
 use Rattle.std.proofs.Math.Nat.{mul-le-mul_left}

@@ -1,5 +1,5 @@
--- Prices that nearly show a flow: those that show it, and those of a flow that is 1-optimal at costs times one more
--- than the count of nodes.
+-- Prices that nearly show a flow: those that show it, and those of a flow that is 1-optimal at
+-- costs times one more than the number of nodes.
 use Rattle.std.proofs.Common.{arith}
 use Rattle.std.proofs.lemmas.Int.{ints}
 use Rattle.mcf_flows.proofs.IntLaws.{mul-one}

@@ -1,4 +1,5 @@
--- The greatest prices of a state are small: where no price lies between two marks that are a cost apart, all below could be raised.
+-- The greatest prices of a state are small: where no price lies between two marks that are a cost
+-- apart, all below could be raised.
 use Rattle.std.proofs.Common.{◌≡◌, ℕ, zero, suc, ◌≤◌, ◌+◌, ◌-◌, ◌*◌, ◌^◌, List, [], ◌∷◌, length, get_or, map, cond, true, false, ℤ, pos, neg_ℤ, ◌+ℤ◌, ◌≤ℤ◌}
 use Rattle.std.proofs.Common.{◌<ℤ◌, refl, subst, ◌∙◌, arith, ◌⊎◌, inl, inr, Bool}
 use Rattle.std.specs.Prelude.{int_lt}
@@ -123,7 +124,7 @@ raise_low m y mark h =
       | inr p ↦ rw p.1 h
     ]
 
--- an arc from x to y of cost c that lowers nothing lowers nothing where it has slack across the mark
+-- an arc from x to y of cost c that lowers nothing lowers nothing if it has slack across the mark
 raise_respects : (m x y c : ℤ) → x ≤ℤ (c +ℤ y) → (x <ℤ m → m ≤ℤ y → x <ℤ (c +ℤ y)) → raise m x ≤ℤ (c +ℤ raise m y)
 raise_respects m x y c h slack =
     elim (raised m x) [

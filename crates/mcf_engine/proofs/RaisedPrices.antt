@@ -22,7 +22,7 @@ use Rattle.mcf_engine.proofs.RaisingSteps.{none_contained}
 use Rattle.mcf_engine.proofs.PriceFloors.{greatest_are_small}
 use Rattle.mcf_engine.proofs.Showing.{shows_from_respects}
 
--- the opposite of a quotient that was rounded up
+-- the negative of a quotient that was rounded up
 pub rounded_is : (scale depth q : ℕ) (z g : ℤ) → z ≤ℤ pos 0 → depth ≡ unsigned_abs z → g ≡ neg_ℤ (pos q) → depth ≤ q * scale → q * scale < depth + scale
     → IsRoundedDown scale z g
 rounded_is scale depth q z g high depth_is is enough least =

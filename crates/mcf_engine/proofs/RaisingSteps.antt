@@ -109,7 +109,8 @@ passed_more s passed list rest out costs before =
 pub scanned : (p : NearState) (h h' : Keyed) (out : Rid) → IsRelaxed p h h' out → IsRaising p h (out ∷ []) → IsScanned p h h'
 scanned p h h' out relaxed search = record { search = relaxed.search [] search; waiting = relaxed.keeps.waiting }
 
--- a residual arc that leaves the node that was settled last, whose label is the base, and those after it are still to come
+-- a residual arc that leaves the node that was settled last, whose label is the base, and those
+-- after it are still to come
 pub record IsFound (p : NearState) (h : Keyed) (w : ℕ) (base : ℤ) (out : Rid) (rest : List Rid) : Type 0 where
   pub arc : IsArcNumber p.state.now.net out.arc
   pub leaves : All (Leaves p.state.now.net w) rest
@@ -200,7 +201,8 @@ module _ (p : NearState) (flow : IsPseudoflow p.state.now) where
           ];
         }
 
-    -- whatever list has the reverses of the residual arcs that enter the node, but for those that are respected
+    -- whatever list has the reverses of the residual arcs that enter the node, but for those that
+    -- are respected
     popped_any : (rest : List Rid)
         → ((r : Rid) → HasRoom p.state.now r → head p.state.now.net r ≡ w → RespectsLabel p (without h w) r ⊎ Contains rest (reverse r))
         → IsRaising p (without h w) rest
@@ -489,7 +491,8 @@ module _ (p : NearState) (flow : IsPseudoflow p.state.now) where
       pub offer_node : length h.waiting ≡ node_count p.state.now.net → IsNode (length h.waiting) from
       offer_node count = let node = tail_node (reverse out) offer.room in (rw offer.from_is node.0, rw (offer.from_is, count) node.1)
 
-      -- the tail is settled at once, with a key that is no greater than that of the node that was settled last
+      -- the tail is settled at once, with a key that is no greater than that of the node that was
+      -- settled last
       pub relax_settles : IsRaising p h (out ∷ []) → key ≤ℤ at_node h.keys (tail p.state.now.net out)
           → h' ≡ without (with_key h from key) from → IsSettledNext p h h' from
       relax_settles search tied new =

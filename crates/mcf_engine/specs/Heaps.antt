@@ -1,4 +1,5 @@
--- A priority queue of the nodes of a net (Cormen et al., Introduction to Algorithms, 6.5): each has a key, and some wait, by key and then by number.
+-- A priority queue of the nodes of a net (Cormen et al., Introduction to Algorithms, 6.5): each has
+-- a key, and some wait, by key and then by number.
 -- Source: own
 use Rattle.std.specs.Prelude.{◌≡◌, ℕ, ◌-◌, ◌≤◌, Bool, true, false, List, length, replicate, slice_set, ℤ, pos, ◌<ℤ◌, ◌⊎◌}
 use Rattle.mcf_flows.specs.Blocking.{in_table}
@@ -10,7 +11,8 @@ pub record Keyed : Type 0 where
   pub keys : List ℤ
   pub waiting : List Bool
 
--- key x of number a comes before key y of number b, or is the same: x is less, or they are equal and a is at most b
+-- key x of number a comes before key y of number b, or is the same: x is less, or they are equal
+-- and a is at most b
 -- Source: CLRS 6.5
 abbrev pub ComesFirst : ℤ → ℕ → ℤ → ℕ → Type 0
 ComesFirst x a y b = (x <ℤ y) ⊎ ((x ≡ y) × (a ≤ b))
@@ -30,7 +32,7 @@ pub record IsFirst (h : Keyed) (v : ℕ) : Type 0 where
   pub waits : Waits h v
   pub precedes : (w : ℕ) → IsNode (length h.waiting) w → Waits h w → ComesFirst (at_node h.keys v) v (at_node h.keys w) w
 
--- so many nodes with key 0, none of which waits
+-- this many nodes with key 0, none of which waits
 abbrev pub no_keys : ℕ → Keyed
 no_keys nodes = record { keys = replicate nodes (pos 0); waiting = no_nodes nodes }
 

@@ -1,5 +1,5 @@
--- Prices that nearly show a flow, with all costs taken times a scale (Ahuja, Magnanti and Orlin, Network Flows,
--- section 10.3).
+-- Prices that nearly show a flow, with all costs taken times a scale (Ahuja, Magnanti and Orlin,
+-- Network Flows, section 10.3).
 -- Source: AMO 10.3
 use Rattle.std.specs.Prelude.{◌≡◌, ℕ, ◌+◌, ◌*◌, ◌^◌, ◌<◌, ◌≤◌, List, length, ℤ, pos, neg_ℤ, ◌+ℤ◌, ◌-ℤ◌, ◌*ℤ◌, ◌≤ℤ◌}
 use Rattle.std.specs.List.{All}
@@ -12,7 +12,7 @@ use Rattle.mcf_network.specs.Residual.{tail, head, unit_cost}
 use Rattle.mcf_network.specs.States.{Pseudoflow, IsPseudoflow}
 use Rattle.mcf_network.specs.Walks.{HasRoom}
 
--- how far from 0 a price that nearly shows a flow may lie
+-- the greatest absolute value of a price that nearly shows a flow
 abbrev pub near_limit : ℕ
 near_limit = 10 ^ 37
 
@@ -20,8 +20,9 @@ near_limit = 10 ^ 37
 abbrev pub scaled_reduced : ℕ → Network → List ℤ → Rid → ℤ
 scaled_reduced scale g prices r = unit_cost g r *ℤ pos scale -ℤ at_node prices (tail g r) +ℤ at_node prices (head g r)
 
--- a price for each node, within the limit; no residual arc with room has a reduced cost below minus the slack, at costs times the scale, which is
--- greater than the slack of a walk through all nodes, and at most one more than a net can have nodes: the textbook's optimality within a slack
+-- a price for each node, within the limit; no residual arc with room has a reduced cost below minus
+-- the slack, at costs times the scale, which is greater than the slack of a walk through all nodes,
+-- and at most one more than a net can have nodes: the textbook's optimality within a slack
 -- Source: AMO 10.3 (e-optimality); scale and slack own
 pub record AreNearPrices (s : Pseudoflow) (scale slack : ℕ) (prices : List ℤ) : Type 0 where
   pub one_per_node : length prices ≡ node_count s.net
@@ -36,8 +37,8 @@ ShownPricesAreNear =
     (s : Pseudoflow) (prices : List ℤ) → IsPseudoflow s → length prices ≡ node_count s.net → All (IsUpTo near_limit) prices → Shows s.net.arcs prices s.amounts
     → AreNearPrices s 1 0 prices
 
--- a flow is 1-optimal by prices, at costs times one more than the count of nodes: they nearly show it, with that scale
--- and slack 1
+-- a flow is 1-optimal by prices, at costs times one more than the number of nodes: they nearly show
+-- it, with that scale and slack 1
 abbrev pub OptimalPricesAreNear : Type 0
 OptimalPricesAreNear =
     (s : Pseudoflow) (prices : List ℤ) → IsPseudoflow s → length prices ≡ node_count s.net → All (IsUpTo near_limit) prices

@@ -1,4 +1,5 @@
--- Prices that no residual arc with room lowers (Ahuja, Magnanti and Orlin, Network Flows, section 9.3).
+-- Prices that no residual arc with room lowers (Ahuja, Magnanti and Orlin, Network Flows, section
+-- 9.3).
 -- Source: AMO 9.3
 use Rattle.std.specs.Prelude.{ℕ, List, length, not, ℤ, pos, neg_ℤ, ◌+ℤ◌, ◌≤ℤ◌}
 use Rattle.mcf_flows.specs.Limits.{limits}

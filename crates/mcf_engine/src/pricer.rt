@@ -18,12 +18,13 @@ use mcf_text::{NoMemory, NodeId};
 use std::alloc::Global;
 use std::marker::Model;
 
-/// Finds the greatest prices that show a state, from prices that nearly show it, by one search for shortest walks
-/// (Dijkstra's algorithm with a heap; Ahuja, Magnanti and Orlin, Network Flows, sections 4.5 and 4.7), which runs
-/// against the arcs and from all nodes at once. In a dense net few arcs can lower a key: one walk over all arcs in their
-/// order lists them beforehand.
+/// Finds the greatest prices that show a state, from prices that nearly show it, by one search for
+/// shortest walks (Dijkstra's algorithm with a heap; Ahuja, Magnanti and Orlin, Network Flows,
+/// sections 4.5 and 4.7), which runs against the arcs and from all nodes at once. In a dense net
+/// few arcs can lower a key: one pass over all arcs in their order lists them beforehand.
 ///
-/// It is made for the nodes of a net, and only then takes memory. A clause sees how many nodes it has room for.
+/// It is made for the nodes of a net, and allocates only then. Clauses see for how many nodes it
+/// has space.
 #[derive(Drop)]
 pub struct Pricer {
     heap: Heap,
@@ -39,11 +40,11 @@ impl Model for Pricer {
 }
 
 impl Pricer {
-    /// Room for the prices of the nodes of a net.
+    /// Space for the prices of the nodes of a net.
     ///
     /// # Errors
     ///
-    /// Want of memory; a net without nodes wants none.
+    /// `NoMemory` if an allocation is refused; a net without nodes needs none.
     pub fn start(alloc: Global, net: &Net) -> Result<Pricer, NoMemory>
         ensures room { IfOk result (λ p. p ≡ node_count net.now) }
         ensures wants { OnErr result (1 ≤ node_count net.now) }
@@ -54,12 +55,14 @@ impl Pricer {
         })
     }
 
-    /// Replaces prices that nearly show the flow of a state by the greatest prices not above 0 that show it.
+    /// Replaces prices that nearly show the flow of a state by the greatest prices not above 0 that
+    /// show it.
     ///
-    /// With all costs taken times `scale`, no residual arc with room may have a reduced cost below minus `slack`.
-    /// So prices that show the flow come with scale 1 and slack 0, and those of a flow that is 1-optimal at costs
-    /// times one more than the count of nodes with that scale and slack 1. It takes time linear in the arcs, and
-    /// logarithmic in the nodes for each node and each key that is lowered; it takes no memory.
+    /// With all costs multiplied by `scale`, no residual arc with room may have a reduced cost
+    /// below minus `slack`. So prices that show the flow come with scale 1 and slack 0, and those
+    /// of a flow that is 1-optimal at costs times the number of nodes plus one come with that scale
+    /// and slack 1. It takes time linear in the arcs, and logarithmic in the nodes for each node
+    /// and each lowered key; it allocates nothing.
     pub fn raise(&mut self, state: &State<'_>, scale: u32, slack: u32, prices: &mut [i128])
         requires room { self.old ≡ node_count state.now.net }
         requires near { AreNearPrices state.now scale slack prices.old }
@@ -81,15 +84,16 @@ impl Pricer {
 
 /// Prices that show the flow of a state nearly show it, with scale 1 and slack 0.
 ///
-/// It does nothing when it runs: its contract is the law.
+/// The function does nothing at run time; its contract is the law.
 pub fn shown_prices_are_near()
     ensures { ShownPricesAreNear }
 {}
 
-/// Prices by which the flow of a state is 1-optimal, at costs times one more than the count of nodes, nearly show it,
-/// with that scale and slack 1 (Bertsekas; Ahuja, Magnanti and Orlin, Network Flows, section 10.3).
+/// Prices by which the flow of a state is 1-optimal, at costs times the number of nodes plus one,
+/// nearly show it, with that scale and slack 1 (Bertsekas; Ahuja, Magnanti and Orlin, Network
+/// Flows, section 10.3).
 ///
-/// It does nothing when it runs: its contract is the law.
+/// The function does nothing at run time; its contract is the law.
 pub fn optimal_prices_are_near()
     ensures { OptimalPricesAreNear }
 {}
@@ -114,8 +118,8 @@ pub(crate) fn label_of(heap: &Heap, prices: &[i128], v: NodeId) -> i128
     price_of(prices, v) + heap.key(v)
 }
 
-/// The cost from which on a residual arc offers its tail no label below 0, where its head has the label `base`. The slack
-/// is left out, since it only adds to what is offered.
+/// A residual arc of at least this cost offers its tail no label below 0, if its head has the label
+/// `base`. The slack is left out, since it only raises the offer.
 pub(crate) fn passing_cost(base: i128, scale: u32) -> i128
     requires scale { 1 ≤ scale }
     requires low { neg_ℤ (pos label_reach) ≤ℤ base }
@@ -126,7 +130,7 @@ pub(crate) fn passing_cost(base: i128, scale: u32) -> i128
     quotient_above(depth, u128::from(scale)) as i128
 }
 
-// Makes each price the label of its node, divided by the scale and rounded down.
+// Replaces each price by the label of its node, divided by the scale and rounded down.
 fn round_all(heap: &Heap, scale: u32, prices: &mut [i128])
     requires scale { 1 ≤ scale }
     requires keys { length heap.now.keys ≡ length prices.old }
@@ -154,7 +158,7 @@ fn rounded_down(label: i128, scale: u32) -> i128
     opposite(quotient_above(depth, u128::from(scale)))
 }
 
-// The quotient of a depth by the scale, rounded up. The scale is often 1, and a division takes long.
+// The quotient of a depth by the scale, rounded up. The scale is often 1, and a division is slow.
 fn quotient_above(depth: u128, scale: u128) -> u128
     requires scale { 1 ≤ scale }
     requires scale_small { scale < 2 ^ 32 }
@@ -169,7 +173,7 @@ fn quotient_above(depth: u128, scale: u128) -> u128
     (depth + (scale - 1)) / scale
 }
 
-// The opposite of a depth.
+// The negative of a depth.
 fn opposite(depth: u128) -> i128
     requires { depth ≤ quotient_reach }
     ensures { result ≡ neg_ℤ (pos depth) }

@@ -61,7 +61,8 @@ reached_old s visits v predecessor i (Some l) h by =
       to = by.to ∙ sym (node_old visits v predecessor i h);
     }
 
--- how a node comes to be the next: it has a surplus, or a residual arc with room leads to it from a visited one
+-- how a node comes to be the next: it has a surplus, or a residual arc with room leads to it from a
+-- visited one
 pub record IsNextPredecessor (s : Pseudoflow) (visits : List Visit) (v : ℕ) (l : Predecessor) : Type 0 where
   pub earlier : l.place < length visits
   pub room : HasRoom s l.along
@@ -193,7 +194,7 @@ module _ (s : Pseudoflow) (table : List Bool) (visits : List Visit) (k v : ℕ) 
         ];
       }
 
--- where none is visited, none has a surplus
+-- if none is visited, none has a surplus
 pub none_started : (s : Pseudoflow) (table : List Bool) (visits : List Visit) (k : ℕ) → IsStarted s table visits k → node_count s.net ≤ k → length visits ≡ 0
     → (v : ℕ) → IsNode (node_count s.net) v → surplus_at s v ≤ℤ pos 0
 none_started s table visits k ok all none v h =
@@ -209,7 +210,8 @@ started_end s table visits k n empty ok all len e =
 
 -- ---- the residual arcs that leave one node
 
--- each residual arc with room that leaves the node at a place leads to a visited one, or is still to come
+-- each residual arc with room that leaves the node at a place leads to a visited one, or is still
+-- to come
 pub record IsScanning (s : Pseudoflow) (table : List Bool) (visits : List Visit) (place : ℕ) (rest : List Rid) : Type 0 where
   pub scanned : IsScanned s table visits place
   pub in_range : place < length visits

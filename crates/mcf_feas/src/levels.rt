@@ -1,4 +1,4 @@
-//! Levels: how far each node is from the nodes that take, along residual arcs with room.
+//! Levels: the distance of each node from the nodes that take, along residual arcs with room.
 ghost use Rattle.std.specs.Prelude.{◌≡◌, length};
 ghost use Rattle.mcf_flows.specs.Network.{IsArcNumber, IsNode, node_count};
 
@@ -7,14 +7,16 @@ use mcf_network::{Rid, State};
 use mcf_text::{ArcId, NodeId};
 use std::collections::VecDeque;
 
-// Up to which level it is enough that three quarters of the nodes with a surplus have theirs. Where more arcs lie
-// between, as on a map of roads, relabels one arc at a time would cost more than the search for the levels.
+// Up to this level the search may stop when three quarters of the nodes with a surplus have a
+// level. If the distances are greater, as on a road map, relabelling one arc at a time would cost
+// more than the search.
 const SHALLOW: u32 = 16;
 
-/// Sets the level of each node to the least number of residual arcs with room to a node that takes, by a
-/// breadth-first search backward from the nodes that take. It ends once all of so many nodes with a surplus have
-/// their level, or three quarters of them, where these are near; the nodes that it didn't reach by then are one level above
-/// those from which it went on, and above every level where there was nothing left to search.
+/// Sets the level of each node to the least number of residual arcs with room on a path to a node
+/// that takes, by a breadth-first search backward from those nodes. The search ends when all of the
+/// given number of nodes with a surplus have their level, or three quarters of them if they are
+/// near. The nodes that it hasn't reached are then one level above the nodes that it reached last,
+/// or above every level if there was nothing left to search.
 pub(crate) fn set_levels(
     state: &State<'_>,
     levels: &mut [u32],
@@ -28,7 +30,7 @@ pub(crate) fn set_levels(
     lower_to(levels, top);
 }
 
-// Sets the level of each node that takes to 0, and lets it wait; sets the others above every level.
+// Sets the level of each node that takes to 0, and queues it; sets the others above every level.
 fn start_levels(state: &State<'_>, levels: &mut [u32], queue: &mut VecDeque<NodeId>)
     requires { length levels.old ≡ node_count state.now.net }
 {
@@ -44,8 +46,8 @@ fn start_levels(state: &State<'_>, levels: &mut [u32], queue: &mut VecDeque<Node
     }
 }
 
-// Sets the levels of the nodes behind those that wait, until enough of so many nodes with a surplus have theirs.
-// Says a level that the nodes without one are not below.
+// Sets the levels of the nodes behind the queued ones, until enough of the given number of nodes
+// with a surplus have theirs. Returns a level that no node without one is below.
 fn search_back(
     state: &State<'_>,
     levels: &mut [u32],
@@ -71,7 +73,7 @@ fn search_back(
     far
 }
 
-// Whether enough of so many nodes with a surplus have their level, where some are still sought.
+// Whether enough of the nodes with a surplus have their level, if some are still without one.
 fn is_enough(senders: u32, sought: u32, level: u32) -> bool {
     if level > SHALLOW {
         sought == 0
@@ -80,8 +82,8 @@ fn is_enough(senders: u32, sought: u32, level: u32) -> bool {
     }
 }
 
-// Sets the level of each node that has none yet, and from which a residual arc with room leads to a node, to the
-// level above that node, and lets it wait. Says how many of these have a surplus.
+// Sets the level of each node without one, from which a residual arc with room leads to a node, to
+// one above that node's, and queues it. Returns how many of these have a surplus.
 fn level_tails(
     state: &State<'_>,
     levels: &mut [u32],
@@ -115,7 +117,7 @@ fn level_tails(
     senders
 }
 
-// Whether a residual arc is an arc, and not the way back, and carries nothing, so that nothing can come back along it.
+// Whether a residual arc is a backward one whose arc carries nothing, so that it has no room.
 fn is_unused(state: &State<'_>, arc: ArcId, back: bool) -> bool
     requires { IsArcNumber state.now.net arc }
 {
@@ -125,7 +127,7 @@ fn is_unused(state: &State<'_>, arc: ArcId, back: bool) -> bool
     state.amount(arc) == 0
 }
 
-// Lowers the levels above one to it.
+// Lowers higher levels to this one.
 fn lower_to(levels: &mut [u32], top: u32) {
     'levels: for i in 0..levels.len() {
         if levels[i] > top {

@@ -13,21 +13,21 @@ use mcf_network::{Net, NodeSet, Rid, State, push_along};
 use mcf_text::{ArcId, NoMemory, NodeId};
 use std::alloc::Global;
 
-/// How a search came to a node: the place of the node from which it came, and the residual arc along which.
+/// How a search reached a node: the place of its predecessor, and the residual arc from there.
 #[derive(Clone, Copy)]
 struct Predecessor {
     place: u32,
     along: Rid,
 }
 
-/// A node that a search reached, and how; a node with a surplus has no predecessor.
+/// A node that a search reached, with its predecessor; a node with a surplus has none.
 #[derive(Clone, Copy)]
 struct Visit {
     node: NodeId,
     predecessor: Option<Predecessor>,
 }
 
-/// The tables of a search, which every search of a net uses again.
+/// The tables of a search, which every search of a net reuses.
 #[derive(Drop)]
 pub(crate) struct PathSearch {
     reached: NodeSet,
@@ -70,7 +70,7 @@ impl PathSearch {
         self.reached.insert(node);
     }
 
-    /// Begins a search: visits the nodes with a surplus, and says whether there is one.
+    /// Begins a search: visits the nodes with a surplus, and returns whether there is one.
     pub(crate) fn start(&mut self, state: &State<'_>) -> bool
         requires nodes { length self.old.reached ≡ node_count state.now.net }
         requires room { node_count state.now.net ≤ vec_capacity self.old.visits }
@@ -91,7 +91,7 @@ impl PathSearch {
         !self.visits.is_empty()
     }
 
-    /// Visits what can be reached, until a visited node takes, and says whether one does.
+    /// Visits the nodes that can be reached, until one takes, and returns whether one does.
     pub(crate) fn run(&mut self, state: &State<'_>) -> bool
         requires flow { IsPseudoflow state.now }
         requires room { node_count state.now.net ≤ vec_capacity self.old.visits }
@@ -113,8 +113,8 @@ impl PathSearch {
         false
     }
 
-    // Visits the nodes to which residual arcs with room lead from the node at a place, until one of them takes,
-    // and says whether one does.
+    // Visits the nodes to which residual arcs with room lead from the node at a place, until one of
+    // them takes, and returns whether one does.
     fn scan(&mut self, state: &State<'_>, place: usize) -> bool
         requires room { node_count state.now.net ≤ vec_capacity self.old.visits }
         requires scanned { IsScanned state.now self.old.reached self.old.visits.items place }
@@ -143,7 +143,7 @@ impl PathSearch {
         false
     }
 
-    /// Moves along the path to the last visited node as much as the path takes.
+    /// Pushes as much as possible along the path to the last visited node.
     pub(crate) fn augment(&mut self, state: &mut State<'_>) -> Result<(), NoMemory>
         requires { IsFound state.old self.old.visits.items }
         ensures nodes { length self.new.reached ≡ length self.old.reached }
@@ -180,7 +180,7 @@ fn open_end(state: &State<'_>, arc: ArcId, back: bool) -> Option<NodeId>
     Some(to)
 }
 
-// Writes the path to the last visited node, and says how much can go along it.
+// Writes the path to the last visited node, and returns how much can be pushed along it.
 fn trace(state: &State<'_>, visits: &[Visit], path: &mut Vec<Rid>) -> Result<i128, NoMemory>
     requires { IsFound state.now visits.now }
     ensures path { IfOk result

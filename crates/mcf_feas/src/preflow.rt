@@ -11,14 +11,15 @@ use mcf_network::{Rid, State};
 use mcf_text::{ArcId, NodeId};
 use std::collections::VecDeque;
 
-// As how many visits one counts that relabels its node: it goes over the residual arcs of the node in vain, and many of
-// them say that the levels are stale.
+// A visit that relabels its node counts as this many visits: it scans the residual arcs of the node
+// in vain, and many of them mean that the levels are stale.
 const RELABEL_COST: u32 = 4;
 
-/// How often the surplus is pushed down before a search judges what is left.
+/// How often the surplus is pushed down before a search decides what is left.
 const PASSES: u32 = 4;
 
-/// Pushes surplus down the levels, and again while each time no more than half of the nodes with a surplus are left.
+/// Pushes surplus down the levels, again and again as long as at most half of the nodes with a
+/// surplus are left each time.
 pub(crate) fn round(state: &mut State<'_>, levels: &mut [u32], queue: &mut VecDeque<NodeId>)
     requires valid { IsPseudoflow state.old }
     requires levels { length levels.old ≡ node_count state.old.net }
@@ -35,8 +36,8 @@ pub(crate) fn round(state: &mut State<'_>, levels: &mut [u32], queue: &mut VecDe
     }
 }
 
-// Finds the levels of the nodes, and then visits nodes with a surplus, first in, first out, until none waits, or as
-// many were visited as there are nodes. So many nodes have a surplus.
+// Sets the levels of the nodes, and then visits active nodes, first in, first out, until none is
+// left, or as many were visited as there are nodes. The given number of nodes have a surplus.
 fn pass(state: &mut State<'_>, levels: &mut [u32], queue: &mut VecDeque<NodeId>, senders: u32)
     requires { length levels.old ≡ node_count state.old.net }
     ensures { IsPushedOn state.old state.new }
@@ -46,7 +47,7 @@ fn pass(state: &mut State<'_>, levels: &mut [u32], queue: &mut VecDeque<NodeId>,
     visit_all(state, levels, queue);
 }
 
-// Lets each node with a surplus wait, and no other. Says how many there are.
+// Queues each node with a surplus, and no other. Returns their number.
 fn start(state: &State<'_>, queue: &mut VecDeque<NodeId>) -> u32 {
     queue.clear();
     let mut senders = 0u32;
@@ -60,8 +61,8 @@ fn start(state: &State<'_>, queue: &mut VecDeque<NodeId>) -> u32 {
     senders
 }
 
-// Visits nodes that wait, until none does, or as many were visited as there are nodes, where one that relabels its
-// node counts as several.
+// Visits active nodes until none is left, or as many were visited as there are nodes; one that
+// relabels its node counts as several.
 fn visit_all(state: &mut State<'_>, levels: &mut [u32], queue: &mut VecDeque<NodeId>)
     requires { length levels.old ≡ node_count state.old.net }
     ensures { IsPushedOn state.old state.new }
@@ -76,9 +77,9 @@ fn visit_all(state: &mut State<'_>, levels: &mut [u32], queue: &mut VecDeque<Nod
     }
 }
 
-// Pushes what a node has left to send to lower ones. Where they can't take all of it, relabels the node, to one
-// level above the lowest node to which it can push then, and lets it wait, if it isn't above every level. Says as how many visits
-// this counts.
+// Pushes the surplus of a node to lower ones. If they can't take all of it, relabels the node to
+// one level above the lowest node to which it can push, and queues it, unless that is above every
+// level. Returns as how many visits this counts.
 fn visit(
     state: &mut State<'_>,
     levels: &mut [u32],
@@ -102,8 +103,8 @@ fn visit(
     RELABEL_COST
 }
 
-// Pushes what a node has left to send along its residual arcs to lower nodes. Where something is left, says the
-// least level of the nodes to which those lead that still have room.
+// Pushes the surplus of a node along its residual arcs to lower nodes. If some is left, returns the
+// least level of the nodes at the ends of arcs that still have room.
 fn push_down(
     state: &mut State<'_>,
     levels: &mut [u32],
@@ -132,7 +133,7 @@ fn push_down(
     Some(least)
 }
 
-// The level of the node that a residual arc enters, or the count of nodes where the arc has no room.
+// The level of the node that a residual arc enters, or the number of nodes if the arc has no room.
 fn open_level(state: &State<'_>, levels: &[u32], arc: ArcId, back: bool) -> u32
     requires levels { length levels.now ≡ node_count state.now.net }
     requires arc { IsArcNumber state.now.net arc }
@@ -144,8 +145,8 @@ fn open_level(state: &State<'_>, levels: &[u32], arc: ArcId, back: bool) -> u32
     levels[to.place()]
 }
 
-// Pushes a share of what the node has left to send that a residual arc leaves along the arc, and says whether that
-// was all.
+// Pushes a share of the surplus of a node along a residual arc that leaves it, and returns whether
+// that was all.
 fn push_share(
     state: &mut State<'_>,
     levels: &mut [u32],
@@ -168,8 +169,9 @@ fn push_share(
     state.surplus(from) <= 0
 }
 
-// How much is pushed along a residual arc from a node with a surplus: what this node has, or as much of it as the
-// arc has room for, and no more than the node takes that it enters, if that takes anything.
+// The amount to push along a residual arc from a node with a surplus: its surplus, or as much of it
+// as the arc has room for, and no more than the node at the other end takes, if that takes
+// anything.
 fn share(state: &State<'_>, arc: ArcId, back: bool) -> i128
     requires arc { IsArcNumber state.now.net arc }
     requires some { pos 0 <ℤ surplus_at state.now (tail state.now.net (record { arc = arc; back = back })) }
@@ -187,8 +189,8 @@ fn share(state: &State<'_>, arc: ArcId, back: bool) -> i128
     }
 }
 
-// After a push to a node: it waits, if it had no surplus before and has one now, and is relabelled, if it
-// took something before and takes nothing now.
+// After a push to a node: it becomes active, if it had no surplus before and has one now, and is
+// relabelled, if it took something before and takes nothing now.
 fn receive(
     state: &State<'_>,
     levels: &mut [u32],
@@ -208,7 +210,8 @@ fn receive(
     wake(state, queue, node);
 }
 
-// Relabels a node: sets its level to one above the lowest node to which a residual arc with room leads from it.
+// Relabels a node: sets its level to one above the lowest node to which a residual arc with room
+// leads from it.
 fn relabel(state: &State<'_>, levels: &mut [u32], node: NodeId)
     requires levels { length levels.old ≡ node_count state.now.net }
     requires node { IsNode (node_count state.now.net) node }
@@ -222,7 +225,7 @@ fn relabel(state: &State<'_>, levels: &mut [u32], node: NodeId)
     levels[node.place()] = least.saturating_add(1);
 }
 
-// Lets a node wait, if it has a surplus.
+// Queues a node, if it has a surplus.
 fn wake(state: &State<'_>, queue: &mut VecDeque<NodeId>, node: NodeId)
     requires { IsNode (node_count state.now.net) node }
 {

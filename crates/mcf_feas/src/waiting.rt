@@ -1,4 +1,4 @@
-//! Nodes that wait, first in, first out.
+//! A queue of active nodes, first in, first out.
 ghost use Rattle.std.specs.Prelude.{IfSome};
 ghost use Rattle.mcf_flows.specs.Network.{IsNode, node_count};
 
@@ -6,14 +6,14 @@ use mcf_network::State;
 use mcf_text::NodeId;
 use std::collections::VecDeque;
 
-/// Lets a node wait, if the queue has a place left: it takes no memory.
+/// Queues a node, if there is a free place: it allocates nothing.
 pub(crate) fn wait(queue: &mut VecDeque<NodeId>, node: NodeId) {
     if queue.len() < queue.capacity() {
         queue.push_back_reserved(node);
     }
 }
 
-/// The node of the net that waits longest, which waits no longer.
+/// Takes the node of the net that was queued first.
 pub(crate) fn next_waiting(state: &State<'_>, queue: &mut VecDeque<NodeId>) -> Option<NodeId>
     ensures { IfSome result (IsNode (node_count state.now.net)) }
 {

@@ -49,7 +49,7 @@ pub when_up_to : (t : Bool) (m : ℕ) (z : ℤ) → IsUpTo m z → IsUpTo m (whe
 when_up_to true m z h = h
 when_up_to false m z h = omega (arith, ints)
 
--- ---- sums of so many terms, each up to a bound
+-- ---- sums of this many terms, each up to a bound
 
 -- over the first i arcs and their flows
 pub flow_sum_up_to : (R : Arc → ℤ → Type 0) (t : Arc → ℤ → ℤ) (m : ℕ) → ((a : Arc) (f : ℤ) → R a f → IsUpTo m (t a f))

@@ -12,7 +12,8 @@ use Rattle.mcf_flows.proofs.IntLaws.{mul-mono, mul-anti, sub-mul}
 use Rattle.mcf_flows.proofs.ArcSums.{flow_sum-sub, flow_sum-same, flow_sum-le_two}
 use Rattle.mcf_flows.proofs.NodeSums.{node_sum-same, node_sum-net}
 
--- where an arc is complementary, no other flow within its bounds has a smaller product with the reduced cost r
+-- where an arc is complementary, no other flow within its bounds has a smaller product with the
+-- reduced cost r
 no_smaller : (r low cap f other : ℤ) → (pos 0 <ℤ r → f ≡ low) → (r <ℤ pos 0 → f ≡ cap) → low ≤ℤ other → other ≤ℤ cap → (r *ℤ f) ≤ℤ (r *ℤ other)
 no_smaller (pos zero) low cap f other above below l u = omega (arith, ints)
 no_smaller (pos (suc n)) low cap f other above below l u =

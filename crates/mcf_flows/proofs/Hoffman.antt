@@ -13,7 +13,7 @@ use Rattle.mcf_flows.specs.Laws.{BlockedHasNoFlow}
 use Rattle.mcf_flows.proofs.ArcSums.{flow_sum-sub, flow_sum-same, flow_sum-le, flow_sum-arc_sum}
 use Rattle.mcf_flows.proofs.NodeSums.{indicator, when-indicator, node_sum-same, node_sum-net, nets_cancel}
 
--- the nets of the nodes of a set add up to what leaves the set less what enters it
+-- the nets of the nodes of a set sum to what leaves the set less what enters it
 pub nets_across : (n : ℕ) (arcs : List Arc) (flow : List ℤ) (set : ℕ → Bool) → All (HasEnds n) arcs
     → node_sum (λ v. when (set v) (net arcs flow v)) n ≡ flow_sum (λ a f. when (leaves set a) f) arcs flow -ℤ flow_sum (λ a f. when (enters set a) f) arcs flow
 nets_across n arcs flow set ends =
@@ -37,14 +37,15 @@ supply_across g set flow ends feasible =
     (λ v h. ap (when (set v)) (sym (feasible.meets_supplies v h)))
     ∙ nets_across (node_count g) g.arcs flow set ends
 
--- the supplies of a network with a feasible flow add up to 0
+-- the supplies of a network with a feasible flow sum to 0
 pub supplies_cancel : (g : Network) (flow : List ℤ) → All (HasEnds (node_count g)) g.arcs → IsFeasible g flow
     → node_sum (at_node g.supplies) (node_count g) ≡ pos 0
 supplies_cancel g flow ends feasible =
     node_sum-same (at_node g.supplies) (net g.arcs flow) (node_count g) (λ v h. sym (feasible.meets_supplies v h))
     ∙ nets_cancel (node_count g) g.arcs flow ends
 
--- a flow within the bounds, over the arcs that pass a test, is at least their lows and at most their caps
+-- a flow within the bounds, over the arcs that pass a test, is at least their lows and at most
+-- their caps
 pub at_least_lows : (test : Arc → Bool) (arcs : List Arc) (flow : List ℤ) → IsWithinBounds arcs flow
     → arc_sum (λ a. when (test a) a.low) arcs ≤ℤ flow_sum (λ a f. when (test a) f) arcs flow
 at_least_lows test arcs flow h =

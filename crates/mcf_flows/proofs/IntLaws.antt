@@ -1,4 +1,5 @@
--- Laws of ℤ that `omega (arith, ints)` does not know: those of products of two unknowns. An integer z is read as `up z - down z`.
+-- Laws of ℤ that `omega (arith, ints)` does not know: those of products of two unknowns. An integer
+-- z is read as `up z - down z`.
 use Rattle.std.proofs.Common.{◌≡◌, zero, suc, ◌*◌, true, ap, ◌∙◌, arith, ℤ, pos, negsuc, ◌+ℤ◌, ◌-ℤ◌, neg_ℤ, ◌≤ℤ◌, ◌<ℤ◌}
 use Rattle.std.proofs.Math.IntN.{◌*ℤ◌, *ℤ_comm}
 use Rattle.std.proofs.Math.Nat.{mul-le-mul_left}

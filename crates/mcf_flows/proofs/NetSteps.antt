@@ -1,4 +1,5 @@
--- The nets of all nodes, as a loop over the arcs makes them: it adds each arc's flow at one end and takes it off at the other.
+-- The nets of all nodes, as a loop over the arcs makes them: it adds each arc's flow at one end and
+-- takes it off at the other.
 use Rattle.std.proofs.Common.{◌≡◌, ◌≢◌, ℕ, ◌+◌, ◌-◌, ◌*◌, ◌≤◌, ◌<◌, eqb, List, length, take, set, get_or, refl, ap, sym, ◌∙◌, arith, ℤ, pos, ◌+ℤ◌, ◌-ℤ◌}
 use Rattle.std.proofs.Common.{neg_ℤ, inl, inr, lit<, to_z, of_z, length-set, get_or-set_same, get_or-set_other}
 use Rattle.std.specs.List.{All}
@@ -51,7 +52,8 @@ net_up_to arcs flow i v small count bounds h =
     all in
     omega (arith, ints, out, into)
 
--- what the loop needs once it has written the source's entry, where y is that of the destination, and `after` the nets in the end
+-- what the loop needs once it has written the source's entry, where y is that of the destination,
+-- and `after` the nets in the end
 pub record NetStepSecond (nodes : ℕ) (arcs : List Arc) (flow after : List ℤ) (f y : ℤ) : Type 0 where
   pub entry_read : to_z w128 (of_z w128 y) ≡ y
   pub difference_read : to_z w128 (of_z w128 (y -ℤ f)) ≡ y -ℤ f

@@ -1,4 +1,4 @@
--- Laws of the sums over nodes, and what the nets of all nodes add up to.
+-- Laws of the sums over nodes, and what the nets of all nodes sum to.
 use Rattle.std.proofs.Common.{◌≡◌, ◌≢◌, ℕ, zero, suc, ◌+◌, ◌-◌, ◌<◌, eqb, Bool, true, false, List, [], ◌∷◌, add-one, get_or, refl, ap, sym, ◌∙◌, arith, ℤ, pos}
 use Rattle.std.proofs.Common.{◌+ℤ◌, ◌-ℤ◌, ◌≤ℤ◌, ◌<ℤ◌, neg_ℤ, inl, inr}
 use Rattle.std.specs.List.{All}
@@ -82,7 +82,7 @@ node_sum-at w s f (suc n) h =
       | inr ne ↦ rw (ne_eqb s (suc n) ne) (omega (arith, ints, mul-zero (w (suc n)), node_sum-at w s f n (omega arith)))
     ]
 
--- 1 in the set, else 0
+-- 1 in the set, otherwise 0
 abbrev pub indicator : (ℕ → Bool) → ℕ → ℤ
 indicator set v = when (set v) (pos 1)
 
@@ -127,7 +127,7 @@ node_sum-net w n arcs flow ends =
         (w a.src -ℤ w a.dst) *ℤ f
     at_ends a f h = rw (node_sum-at w a.src f n h.src_is_node, node_sum-at w a.dst f n h.dst_is_node) (sym (sub-mul (w a.src) (w a.dst) f))
 
--- the nets of all nodes add up to 0
+-- the nets of all nodes sum to 0
 pub nets_cancel : (n : ℕ) (arcs : List Arc) (flow : List ℤ) → All (HasEnds n) arcs → node_sum (net arcs flow) n ≡ pos 0
 nets_cancel n arcs flow ends =
     node_sum-same (net arcs flow) (λ v. pos 1 *ℤ net arcs flow v) n (λ v h. omega (arith, ints))

@@ -1,5 +1,6 @@
--- Node sets that must send or take more than they can (Hoffman's condition; Ahuja, Magnanti and Orlin,
--- Network Flows, chapter 6). A set is a test of nodes; an arc with both ends in it counts nowhere.
+-- Node sets that must send or take more than they can (Hoffman's condition; Ahuja, Magnanti and
+-- Orlin, Network Flows, chapter 6). A set is a test of nodes; an arc with both ends in it counts
+-- nowhere.
 -- Source: AMO 6 (Hoffman's condition: 6.7)
 use Rattle.std.specs.Prelude.{ℕ, ◌==◌, ◌-◌, Bool, false, not, ◌&&◌, List, length, ℤ, ◌+ℤ◌, neg_ℤ, ◌<ℤ◌, slice_index_or}
 use Rattle.std.specs.List.{list_any}
@@ -20,19 +21,19 @@ enters set a = set a.dst && not (set a.src)
 abbrev pub supply_in : List ℤ → (ℕ → Bool) → ℤ
 supply_in supplies set = node_sum (λ v. when (set v) (at_node supplies v)) (length supplies)
 
--- the lower bounds of the arcs that enter the set, added up
+-- the lower bounds of the arcs that enter the set, summed
 abbrev pub low_entering : List Arc → (ℕ → Bool) → ℤ
 low_entering arcs set = arc_sum (λ a. when (enters set a) a.low) arcs
 
--- the upper bounds of the arcs that enter the set, added up
+-- the upper bounds of the arcs that enter the set, summed
 abbrev pub cap_entering : List Arc → (ℕ → Bool) → ℤ
 cap_entering arcs set = arc_sum (λ a. when (enters set a) a.cap) arcs
 
--- the lower bounds of the arcs that leave the set, added up
+-- the lower bounds of the arcs that leave the set, summed
 abbrev pub low_leaving : List Arc → (ℕ → Bool) → ℤ
 low_leaving arcs set = arc_sum (λ a. when (leaves set a) a.low) arcs
 
--- the upper bounds of the arcs that leave the set, added up
+-- the upper bounds of the arcs that leave the set, summed
 abbrev pub cap_leaving : List Arc → (ℕ → Bool) → ℤ
 cap_leaving arcs set = arc_sum (λ a. when (leaves set a) a.cap) arcs
 

@@ -1,10 +1,12 @@
--- Networks: arcs with bounds and costs between nodes with supplies. An instance is one, and so is a net.
+-- Networks: arcs with bounds and costs between nodes with supplies. An instance is one, and so is a
+-- net.
 -- Source: textbook
 use Rattle.std.specs.Prelude.{ℕ, zero, suc, ◌-◌, ◌≤◌, Bool, true, false, List, [], ◌∷◌, length, ℤ, pos, ◌+ℤ◌, slice_index_or}
 use Rattle.mcf_flows.specs.declared.arc.Arc.{Arc}
 use Rattle.mcf_flows.specs.declared.problem.Problem.{Problem}
 
--- the problem, the arcs in order, and the supplies of the nodes in order; nodes and arcs count from 1
+-- the problem, the arcs in order, and the supplies of the nodes in order; nodes and arcs count from
+-- 1
 -- Source: AMO 1.2
 pub record Network : Type 0 where
   pub problem : Problem
@@ -31,7 +33,7 @@ IsArcNumber g k = (1 ≤ k) × (k ≤ length g.arcs)
 abbrev pub at_node : List ℤ → ℕ → ℤ
 at_node xs v = slice_index_or xs (v - 1) (pos 0)
 
--- z where the test holds, else 0
+-- z where the test holds, otherwise 0
 abbrev pub when : Bool → ℤ → ℤ
 when true z = z
 when false z = pos 0

@@ -5,7 +5,8 @@ ghost use Rattle.mcf_flows.specs.WellFormed.{weight};
 
 use mcf_text::NodeId;
 
-/// An arc, from the node `src` to the node `dst`, with the bounds of its flow and the cost of each unit.
+/// An arc from the node `src` to the node `dst`, with the bounds of its flow and the cost of a
+/// unit.
 #[derive(Clone, Copy, Debug, PartialEq, Eq)]
 pub struct Arc {
     pub src: NodeId,
@@ -15,7 +16,7 @@ pub struct Arc {
     pub cost: i128,
 }
 
-/// An arc as it is stored: 32 bytes.
+/// An arc as an instance stores it, in 32 bytes.
 #[derive(Clone, Copy, Debug)]
 pub struct PackedArc {
     pub src: u32,
@@ -25,7 +26,8 @@ pub struct PackedArc {
     pub cost: i64,
 }
 
-/// An arc as it is stored without its bounds: 16 bytes. Where no bounds stand apart, its low is 0 and its cap 1.
+/// An arc as an instance stores it without bounds, in 16 bytes. If no bounds are stored elsewhere,
+/// its lower bound is 0 and its capacity 1.
 #[derive(Clone, Copy, Debug)]
 pub struct Link {
     pub src: u32,
@@ -34,7 +36,7 @@ pub struct Link {
 }
 
 impl PackedArc {
-    /// The arc that is stored.
+    /// The stored arc.
     pub(crate) fn unpack(self) -> Arc
         ensures { result ≡ unpacked self }
     {
@@ -47,7 +49,8 @@ impl PackedArc {
         }
     }
 
-    /// The most that the arc can cost or earn: the size of its cost times that of its greater bound.
+    /// The most that the arc can cost or earn: the absolute value of its cost times the greater
+    /// absolute value of its bounds.
     pub fn weight(self) -> u128
         ensures value { result ≡ weight (unpacked self) }
         ensures small { result ≤ 2 ^ 126 }

@@ -1,4 +1,5 @@
-//! The arcs of an instance in order, in 16 bytes each while all of them have low 0 and cap 1, else in 32.
+//! The arcs of an instance in order: 16 bytes each as long as all have lower bound 0 and capacity
+//! 1, otherwise 32.
 
 ghost use Rattle.std.specs.Prelude.{◌≡◌, ◌<◌, ◌++◌, ◌∷◌, [], IfOk, IfSome, length, map, OnErr, OnOk, slice_get, Some};
 ghost use Rattle.mcf_flows.specs.Private.StoredArcs.{arcs_in, of_unit};
@@ -9,15 +10,16 @@ use std::alloc::Global;
 use std::marker::Model;
 use std::rc::Rc;
 
-/// A list of arcs. A clause sees the arcs in order.
+/// A list of arcs. Clauses see the arcs in order.
 ///
-/// While all have low 0 and cap 1, as those of an assignment do, they take half the memory.
+/// As long as all have lower bound 0 and capacity 1, as in an assignment, they take half the
+/// memory.
 #[derive(Drop)]
 pub struct ArcTable {
     stored: Stored,
 }
 
-// The same arcs, in one of two sizes; those of the smaller may have several owners.
+// The same arcs in one of two sizes; those of the smaller size may have several owners.
 #[derive(Drop)]
 enum Stored {
     Unit(Vec<Link>),
@@ -36,7 +38,7 @@ impl Model for ArcTable {
 }
 
 impl ArcTable {
-    /// No arcs, which take no memory.
+    /// No arcs, without any allocation.
     pub fn new(alloc: Global) -> ArcTable
         ensures { result ≡ [] }
     {
@@ -45,7 +47,7 @@ impl ArcTable {
         }
     }
 
-    /// How many arcs there are.
+    /// The number of arcs.
     #[inline(always)]
     pub fn len(&self) -> usize
         ensures { result ≡ length self.now }
@@ -74,7 +76,7 @@ impl ArcTable {
     ///
     /// # Errors
     ///
-    /// Want of memory, where a growth was refused. The arcs are then as they were.
+    /// `NoMemory` if an allocation is refused. The arcs are then unchanged.
     #[inline(always)]
     pub fn push(&mut self, arc: PackedArc) -> Result<(), NoMemory>
         ensures ok { OnOk result (self.new ≡ self.old ++ arc ∷ []) }
@@ -83,7 +85,8 @@ impl ArcTable {
         push_arc(&mut self.stored, arc)
     }
 
-    /// The same arcs, to be shared where all have low 0 and cap 1, and there is memory for a count of owners.
+    /// The same arcs, shareable if all have lower bound 0 and capacity 1, and if the allocation of
+    /// a reference count succeeds.
     pub(crate) fn shared(self) -> ArcTable
         ensures { result ≡ self }
     {
@@ -100,7 +103,7 @@ impl ArcTable {
         ArcTable { stored }
     }
 
-    /// One more owner of the arcs, if they are shared.
+    /// Another owner of the arcs, if they are shared.
     pub(crate) fn shared_links(&self) -> Option<Rc<Vec<Link>>>
         ensures { IfSome result (λ links. self.now ≡ map of_unit links.value.items) }
     {
@@ -112,7 +115,7 @@ impl ArcTable {
 }
 
 impl Link {
-    // The arc, if its low is 0 and its cap 1.
+    // The arc, if its lower bound is 0 and its capacity 1.
     #[inline(always)]
     fn of(arc: PackedArc) -> Option<Link>
         ensures { IfSome result (λ unit. of_unit unit ≡ arc) }
@@ -159,8 +162,9 @@ fn push_arc(stored: &mut Stored, arc: PackedArc) -> Result<(), NoMemory>
     }
 }
 
-// Appends an arc with bounds of its own, or any to arcs that are shared, and gives all arcs before it theirs. Its fields come one by
-// one: the place in memory that a call with the arc itself asks for would be written at each arc of the others, too.
+// Appends an arc that has bounds, or any arc to shared ones, after giving all arcs before it their
+// bounds. The fields come one by one: an argument of the type itself would be written to memory for
+// each arc of the fast path, too.
 #[cold]
 #[inline(never)]
 fn push_bounded(
@@ -190,7 +194,7 @@ fn push_bounded(
     Ok(())
 }
 
-// These arcs with their bounds, and one more.
+// These arcs with their bounds, and one more arc.
 fn bounded(units: &Vec<Link>, arc: PackedArc) -> Result<Vec<PackedArc>, NoMemory>
     ensures { IfOk result (λ arcs. arcs.items ≡ map of_unit units.now.items ++ arc ∷ []) }
 {

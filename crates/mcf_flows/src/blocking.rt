@@ -16,7 +16,8 @@ use crate::problem::Side;
 use mcf_text::{NoMemory, NodeId, copies};
 use std::alloc::Global;
 
-/// The sums of the lower and of the upper bounds over the arcs that enter a set, and over those that leave it.
+/// The sums of the lower and of the upper bounds over the arcs that enter a set, and over those
+/// that leave it.
 #[derive(Clone, Copy)]
 struct Border {
     low_in: i128,
@@ -25,10 +26,11 @@ struct Border {
     cap_out: i128,
 }
 
-/// The table of a node set: the entry at place `v - 1` says whether the node `v` is among the members.
+/// The table of a node set: the entry at place `v - 1` says whether the node `v` is a member.
 ///
 /// # Errors
-/// `NoMemory` where there is no memory for the table; that of no nodes wants none.
+///
+/// `NoMemory` if the allocation is refused; without nodes none is needed.
 pub fn table_of(alloc: Global, nodes: u32, members: &[NodeId]) -> Result<Vec<bool>, NoMemory>
     requires { All (IsNode nodes) members.now }
     ensures one_per_node { IfOk result (λ table. length table.items ≡ nodes) }
@@ -42,7 +44,7 @@ pub fn table_of(alloc: Global, nodes: u32, members: &[NodeId]) -> Result<Vec<boo
     Ok(table)
 }
 
-/// The total, with the amount added where it counts.
+/// The total, plus the amount if it counts.
 fn add_when(total: i128, counts: bool, amount: i64) -> i128
     requires total { IsUpTo sum_limit total }
     requires amount { IsUpTo limits.bound amount }
@@ -141,8 +143,9 @@ fn blocks_by_take(instance: &Instance, table: &[bool]) -> bool
     border.cap_in < border.low_out - supply
 }
 
-/// Whether the cut at the set that the table marks is violated: the set must send more than it can, or take more than
-/// it can, so that no flow is feasible (Hoffman's condition; Ahuja, Magnanti and Orlin, Network Flows, chapter 6).
+/// Whether the cut at the marked set is violated: the set must send more than it can, or take more
+/// than it can, so that no flow is feasible (Hoffman's condition; Ahuja, Magnanti and Orlin,
+/// Network Flows, chapter 6).
 ///
 /// The table has an entry for each node, in order. The time is about linear in the nodes and arcs.
 pub fn blocks(instance: &Instance, table: &[bool], side: Side) -> bool

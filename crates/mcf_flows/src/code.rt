@@ -1,7 +1,7 @@
-//! The nineteen faults of an instance text.
+//! The nineteen kinds of faults of an instance text.
 
-/// What is wrong with a line of an instance text, in the order in which a line's faults are looked for;
-/// the last two are faults of the whole text.
+/// What is wrong with a line of an instance text, in the order in which they are looked for; the
+/// last two are faults of the whole text.
 #[derive(Clone, Copy, Debug, PartialEq, Eq)]
 pub enum Code {
     /// The first field isn't `p`, `n` or `a`.
@@ -12,17 +12,17 @@ pub enum Code {
     Problem,
     /// A field that should be a whole number isn't one.
     Number,
-    /// A problem line stands before.
+    /// It is a second problem line.
     SecondP,
-    /// No problem line stands before.
+    /// No problem line comes before it.
     BeforeP,
     /// The number of nodes or of arcs is out of range.
     Size,
     /// A node's number is out of range.
     Node,
-    /// A node line after an arc line.
+    /// It is a node line after an arc line.
     LateN,
-    /// A node line before names the same node.
+    /// An earlier node line names the same node.
     Twice,
     /// A supply is out of range.
     Supply,
@@ -32,15 +32,16 @@ pub enum Code {
     Order,
     /// The cost of an arc is out of range.
     Cost,
-    /// More arc lines than the problem line says.
+    /// There are more arc lines than the problem line says.
     Extra,
     /// An arc of an assignment doesn't go from a node with a node line to one without.
     Side,
-    /// The total of the arcs so far, of the size of the cost times that of the greater bound, is above 10^36.
+    /// The total over the arcs so far, each the absolute value of the cost times the greater
+    /// absolute value of the bounds, is above 10^36.
     Total,
     /// The text has no problem line.
     NoP,
-    /// Fewer arc lines than the problem line says.
+    /// There are fewer arc lines than the problem line says.
     Missing,
 }
 
@@ -48,7 +49,7 @@ impl Code {
     ghost use Rattle.std.specs.Prelude.{◌≡◌, ◌↔◌, Some, bytes_eq};
     ghost use Rattle.mcf_flows.specs.Codes.{code_of_word, code_word};
 
-    /// The word of the code in refusals. No two codes share one.
+    /// The word of the code in refusals. No two codes have the same word.
     pub fn word(self) -> &'static str
         ensures value { result.now ≡ code_word self }
         ensures back { code_of_word (code_word self) ≡ Some self }
@@ -76,7 +77,7 @@ impl Code {
         }
     }
 
-    // Whether this is the word of the code.
+    // Whether the code has this word.
     fn has_word(self, word: &[u8]) -> bool
         ensures { result ≡ bytes_eq (code_word self) word.now }
     {
@@ -90,7 +91,7 @@ impl Code {
         ALL.iter().copied().find(|code| code.has_word(word))
     }
 
-    /// The code with this word, if there is one.
+    /// The code that has this word, if any.
     pub fn of(word: &[u8]) -> Option<Code>
         ensures value { result ≡ code_of_word word.now }
         ensures known { (code : Code) → (result ≡ Some code) ↔ (code_word code ≡ word.now) }
@@ -99,7 +100,8 @@ impl Code {
     }
 }
 
-// The codes, in the order in which a line's faults are looked for, and then those of the whole text.
+// The codes, first those of a line in the order in which they are looked for, then those of the
+// whole text.
 static ALL: [Code; 19] = [
     Code::Kind,
     Code::Fields,

@@ -12,10 +12,11 @@ use mcf_text::{ArcId, NodeId};
 use std::marker::Model;
 use std::rc::Rc;
 
-/// A minimum-cost flow problem or an assignment problem, within the limits: supplies and bounds at most 10^18 from 0, costs at
-/// most 10^15, and the total over the arcs, of the size of the cost times that of the greater bound, at most 10^36.
+/// A minimum-cost flow problem or an assignment problem, within the limits: supplies and bounds at
+/// most 10^18 from 0, costs at most 10^15 from 0, and at most 10^36 in total over the arcs, each
+/// counted as the absolute value of its cost times the greater absolute value of its bounds.
 ///
-/// Nodes and arcs are numbered from 1. A clause sees the network: its problem, its arcs in order and
+/// Nodes and arcs are numbered from 1. Clauses see the network: its problem, its arcs in order and
 /// the supplies of its nodes in order.
 #[derive(Drop)]
 pub struct Instance {
@@ -39,9 +40,11 @@ impl Model for Instance {
 }
 
 impl Instance {
-    /// The instance of a problem, of arcs in order and of the supplies of its nodes in order, which are within the limits.
+    /// The instance of a problem, with arcs in order and supplies of its nodes in order, all within
+    /// the limits.
     ///
-    /// For arcs that can be shared it asks for memory for a count of owners, and does without where that is refused.
+    /// If the arcs can be shared, it tries to allocate a reference count, and does without if that
+    /// is refused.
     pub fn of(problem: Problem, arcs: ArcTable, supplies: Vec<i64>) -> Instance
         requires { IsWellFormed limits (record { problem = problem; arcs = map unpacked arcs; supplies = supplies.items }) }
         ensures { result ≡ record { problem = problem; arcs = map unpacked arcs; supplies = supplies.items } }
@@ -61,7 +64,7 @@ impl Instance {
         self.problem
     }
 
-    /// How many nodes there are, at most 1,000,000.
+    /// The number of nodes, at most 1,000,000.
     pub fn node_count(&self) -> u32
         ensures value { result ≡ node_count self.now }
         ensures well_formed { IsWellFormed limits self.now }
@@ -69,7 +72,7 @@ impl Instance {
         self.supplies.len() as u32
     }
 
-    /// How many arcs there are, at most 10,000,000.
+    /// The number of arcs, at most 10,000,000.
     pub fn arc_count(&self) -> u32
         ensures value { result ≡ length self.now.arcs }
         ensures well_formed { IsWellFormed limits self.now }
@@ -77,7 +80,7 @@ impl Instance {
         self.arcs.len() as u32
     }
 
-    /// The arc of this number.
+    /// The arc with this number.
     pub fn arc(&self, k: ArcId) -> Arc
         requires { IsArcNumber self.now k }
         ensures value { slice_get self.now.arcs (k - 1) ≡ Some result }
@@ -86,7 +89,7 @@ impl Instance {
         self.arcs.get(k.get() as usize - 1).unpack()
     }
 
-    /// The supply of the node of this number: what it sends, less what it takes.
+    /// The supply of the node with this number: what it sends, less what it takes.
     pub fn supply(&self, v: NodeId) -> i128
         requires { IsNode (node_count self.now) v }
         ensures value { result ≡ at_node self.now.supplies v }
@@ -95,8 +98,9 @@ impl Instance {
         i128::from(self.supplies[v.get() as usize - 1])
     }
 
-    /// The arcs in order as they are stored, to be shared and not copied, if all have low 0 and cap 1. `None` says nothing of
-    /// the arcs: where memory is short, they aren't shared.
+    /// The arcs in order as they are stored, to be shared instead of copied, if all have lower
+    /// bound 0 and capacity 1. `None` says nothing about the arcs: if memory is short, they aren't
+    /// shared.
     pub fn shared_links(&self) -> Option<Rc<Vec<Link>>>
         ensures some { IfSome result (λ links. self.now.arcs ≡ map unit_arc links.value.items) }
         ensures well_formed { IsWellFormed limits self.now }
@@ -104,7 +108,7 @@ impl Instance {
         self.arcs.shared_links()
     }
 
-    /// The arcs as they are stored, in order.
+    /// The stored arcs, in order.
     pub(crate) fn packed_arcs(&self) -> &ArcTable
         ensures value { map unpacked result.now ≡ self.now.arcs }
         ensures well_formed { IsWellFormed limits self.now }
@@ -112,7 +116,7 @@ impl Instance {
         &self.arcs
     }
 
-    /// The supplies as they are stored, in the order of their nodes.
+    /// The stored supplies, in the order of their nodes.
     pub(crate) fn packed_supplies(&self) -> &[i64]
         ensures value { result.now ≡ self.now.supplies }
         ensures well_formed { IsWellFormed limits self.now }

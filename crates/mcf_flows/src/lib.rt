@@ -1,10 +1,11 @@
 #![tactic(auto)]
 
-//! The vocabulary of flows: networks, flows, prices and node sets, and instances as they are stored.
+//! The vocabulary of flows: networks, flows, prices and node sets, and instances as they are
+//! stored.
 //!
-//! It stands on `mcf_text`. Definitions stand in `specs/`: `Network`, `Flow`, `Blocking`, `Assignment` and `Laws` say what networks,
-//! flows, prices and node sets are, `Limits` and `WellFormed` what every instance keeps, `Packed` what is stored, and `Codes` what can
-//! be wrong with a text.
+//! It builds on `mcf_text`. The definitions in `specs/`: `Network`, `Flow`, `Blocking`,
+//! `Assignment` and `Laws` define networks, flows, prices and node sets; `Limits` and `WellFormed`
+//! what every instance satisfies; `Packed` what is stored; `Codes` what can be wrong with a text.
 
 mod arc;
 mod arc_table;

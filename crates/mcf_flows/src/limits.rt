@@ -1,25 +1,26 @@
-//! The limits of instances and of answers, each a number that code and definitions share.
+//! The limits of instances and of answers. Code and definitions share each number.
 
-/// How many nodes there may be.
+/// The greatest number of nodes.
 pub const NODE_LIMIT: u32 = 1_000_000;
 
-/// How many arcs there may be.
+/// The greatest number of arcs.
 pub const ARC_LIMIT: u32 = 10_000_000;
 
-/// How far from 0 the supply of a node may lie.
+/// The greatest absolute value of a supply.
 pub const SUPPLY_LIMIT: u64 = 1_000_000_000_000_000_000;
 
-/// How far from 0 a bound of an arc may lie.
+/// The greatest absolute value of a bound.
 pub const BOUND_LIMIT: u64 = 1_000_000_000_000_000_000;
 
-/// How far from 0 the cost of an arc may lie.
+/// The greatest absolute value of a cost.
 pub const COST_LIMIT: u64 = 1_000_000_000_000_000;
 
-/// The greatest total, over the arcs, of the size of the cost times that of the greater bound.
+/// The greatest total over the arcs, each counted as the absolute value of its cost times the
+/// greater absolute value of its bounds.
 pub const TOTAL_LIMIT: u128 = 1_000_000_000_000_000_000_000_000_000_000_000_000;
 
-/// How far from 0 a cost, a flow and a price of an answer may lie.
+/// The greatest absolute value of a cost, a flow and a price in an answer.
 pub const AMOUNT_LIMIT: u128 = 10_000_000_000_000_000_000_000_000_000_000_000_000;
 
-/// The greatest number of a line that a refusal may name.
+/// The greatest line number that a refusal may name.
 pub const LINE_LIMIT: u128 = 10_000_000_000_000_000_000_000_000_000_000_000_000;

@@ -1,11 +1,12 @@
 //! The two problems, and the two sides by which a node set blocks.
 
-/// The problem that an instance states.
+/// The problem of an instance.
 #[derive(Clone, Copy, Debug, PartialEq, Eq)]
 pub enum Problem {
     /// A minimum-cost flow problem.
     Min,
-    /// An assignment problem: each arc carries at most one unit, from a node of supply 1 to one of supply -1.
+    /// An assignment problem: each arc carries at most one unit, from a node of supply 1 to one of
+    /// supply -1.
     Asn,
 }
 

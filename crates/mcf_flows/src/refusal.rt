@@ -2,7 +2,8 @@
 use crate::code::Code;
 use std::marker::Model;
 
-/// The first fault of an instance text: the number of the line, from 1 to 10^37, and what is wrong there.
+/// The first fault of an instance text: the number of the line, from 1 to 10^37, and the kind of
+/// the fault.
 #[derive(Clone, Copy, Debug, PartialEq, Eq)]
 pub struct Refusal {
     pub line: u128,

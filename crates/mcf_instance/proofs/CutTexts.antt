@@ -17,7 +17,7 @@ text = codes "p min 4 5\nn 1 4\nn 4 -4\na 1 2 0 4 2\na 1 3 0 2 2\na 2 3 0 2 1\na
 abbrev faults_of_cuts : ℕ → ℕ → List (Option Fault)
 faults_of_cuts from count = map (λ length. first_fault limits (take length text)) (range_with_len from count)
 
--- so many times this fault
+-- this many times this fault
 abbrev all_at : ℕ → ℕ → Code → List (Option Fault)
 all_at count line code = replicate count (Some (record { line = line; code = code }))
 

@@ -40,7 +40,8 @@ an_assignment : reading_of_text (codes "p asn 4 2" ∷ codes "n 1" ∷ codes "n 
 unfolding first_fault first_fault_of_lines faults fault_of_line total_of fault_at_end instance_of_lines reading
 an_assignment = refl
 
--- blanks of three kinds, a plus sign, leading zeros, a comment, blank lines, a last line without its end
+-- blanks of three kinds, a plus sign, leading zeros, a comment, blank lines, a last line without
+-- its end
 every_leniency : reading limits (codes "c sample\r\n\r\n\tp min 2 1\r\nn 01 +3\nn 2 -003\na 1 2 0 4 7") ≡ Ok (record {
   problem = Min;
   arcs = record { src = 1; dst = 2; low = pos 0; cap = pos 4; cost = pos 7 } ∷ [];

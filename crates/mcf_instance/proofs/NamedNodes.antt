@@ -50,7 +50,8 @@ found_before xs ys row some e = go (find is_p xs) refl some (sym (find-append is
     go None is none k = absurd (omega arith)
     go (Some r) is here k = is ∙ k
 
--- a line by which the state grows is a problem line that names nodes, or stands after one, as it names nodes of its own
+-- a line by which the state grows is a problem line that names nodes, or stands after one, as it
+-- names nodes of its own
 pub step_names_nodes : (s : StateData) (lines : List Row) (row : Row) → Stands limits s lines → s.refusal ≡ None
     → outcome_grows (item_of limits s row.fields) ≡ true
     → (1 ≤ (header (lines ++ row ∷ [])).nodes) × (slice_get (faults limits (lines ++ row ∷ [])) 0 ≡ None)
@@ -79,7 +80,8 @@ step_names_nodes s lines row stands none grows = go (item_of limits s row.fields
         let some : 1 ≤ header_nodes s.header = omega (arith, fits.ends.src_is_node.0, fits.ends.src_is_node.1) in
         (seen_nodes (lines ++ row ∷ []) (subst (λ o. 1 ≤ header_nodes o) after.header_is some), faultless (Link a) is)
 
--- the lines up to one by which the state grows have no fault, and their first problem line is that of the text
+-- the lines up to one by which the state grows have no fault, and their first problem line is that
+-- of the text
 pub text_names_nodes : (text : List ℕ) (s : StateData) (next : ℕ) (x : ℕ × List ℕ) (rest : List (ℕ × List ℕ)) → HasRead limits text s next (x ∷ rest)
     → ((lines : List Row) → Stands limits s lines → (1 ≤ (header (lines ++ row_of x ∷ [])).nodes)
     × (slice_get (faults limits (lines ++ row_of x ∷ [])) 0 ≡ None))

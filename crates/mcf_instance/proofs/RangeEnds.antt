@@ -1,4 +1,5 @@
--- Neighbouring faults of the table at one line, and the ends of the ranges, evaluated on the definitions.
+-- Neighbouring faults of the table at one line, and the ends of the ranges, evaluated on the
+-- definitions.
 use Rattle.std.specs.Prelude.{◌≡◌, ℕ, List, [], ◌∷◌, ◌++◌, flat_map, codes, map, None, Some, Option, refl, replicate}
 use Rattle.mcf_flows.specs.declared.code.Code.{Code}
 use Rattle.mcf_flows.specs.declared.code.Code.TheVariants.{BeforeP, Bound, Cost, Extra, Fields, Kind, LateN, Missing, NoP, Node, Number, Order, Problem}

@@ -1,4 +1,5 @@
--- What tests of ranges say: of a number, of the natural number that it stands for, and of the number that the reader keeps for it.
+-- What tests of ranges say: of a number, of the natural number that it stands for, and of the
+-- number that the reader keeps for it.
 use Rattle.std.proofs.Common.{◌≡◌, ℕ, ◌+◌, ◌≤◌, Bool, true, false, cond, refl, ap, sym, ◌∙◌, arith}
 use Rattle.std.specs.Prelude.{ℤ, pos, negsuc, neg_ℤ, int_le, ◌≤ℤ◌}
 use Rattle.std.proofs.lemmas.Bool.{and_from, and_parts, and_right, both_ways, false_from_ne_true}

@@ -33,7 +33,7 @@ flow_problem supplies arcs = record { problem = Min; arcs = map arc_of_numbers a
 abbrev pub arc_of_pair : ℕ → RawPair → Arc
 arc_of_pair rows p = record { src = p.row; dst = rows + p.column; low = pos 0; cap = pos 1; cost = p.cost }
 
--- the assignment problem of so many rows and columns, and of these pairs
+-- the assignment problem of this many rows and columns, and of these pairs
 abbrev pub assignment_problem : ℕ → ℕ → List RawPair → Network
 assignment_problem rows columns pairs =
     record { problem = Asn; arcs = map (arc_of_pair rows) pairs; supplies = replicate rows (pos 1) ++ replicate columns (neg_ℤ (pos 1)) }
@@ -44,7 +44,7 @@ assignment_problem rows columns pairs =
 abbrev pub first_found : {X Y : Type 0} → (List X → X → Option Y) → List X → Option Y
 first_found test entries = slice_get (filter_map (λ entry. test entry.0 entry.1) (with_earlier entries)) 0
 
--- there may be so many nodes and arcs
+-- there may be this many nodes and arcs
 abbrev pub sizes_fit : Network → Bool
 sizes_fit g = nat_le (node_count g) node_limit && nat_le (length g.arcs) arc_limit
 
@@ -60,8 +60,9 @@ names_node g v = is_within (pos 1) (pos (node_count g)) (pos v)
 abbrev pub is_row_to_column : Network → Arc → Bool
 is_row_to_column g a = int_eq (at_node g.supplies a.src) (pos 1) && int_eq (at_node g.supplies a.dst) (neg_ℤ (pos 1))
 
--- whether a fault applies to an arc of a network, after these: an end that is no node, a bound out of range, bounds in the wrong
--- order, a cost out of range, an arc of an assignment on a wrong side, a total above its limit
+-- whether a fault applies to an arc of a network, after these: an end that is no node, a bound out
+-- of range, bounds in the wrong order, a cost out of range, an arc of an assignment on a wrong
+-- side, a total above its limit
 abbrev pub applies_to_arc : Limits → Network → List Arc → Arc → Code → Bool
 applies_to_arc allowed g earlier a Node = not (names_node g a.src && names_node g a.dst)
 applies_to_arc allowed g earlier a Bound = not (is_up_to allowed.bound a.low && is_up_to allowed.bound a.cap)
@@ -89,7 +90,7 @@ array_fault allowed g =
     if not (sizes_fit g) then Some Size
     else option_or (first_found (supply_fault allowed) g.supplies) (first_found (arc_fault allowed g) g.arcs)
 
--- the first fault, or the network where there is none
+-- the first fault, or the network if there is none
 abbrev pub made_unless : Option ArrayFault → Network → Result Network ArrayFault
 made_unless (Some fault) g = Err fault
 made_unless None g = Ok g

@@ -44,7 +44,7 @@ has_problem_word row = bytes_eq (field row 1) (codes "min") || bytes_eq (field r
 abbrev pub problem_of : Row → Format
 problem_of row = if bytes_eq (field row 1) (codes "asn") then Asn else Min
 
--- the third field is a count of nodes within its limit, and the fourth one of arcs
+-- the third field is a number of nodes within its limit, and the fourth one of arcs
 abbrev pub size_fits : Row → Bool
 size_fits row = is_within (pos 0) (pos node_limit) (number row 2) && is_within (pos 0) (pos arc_limit) (number row 3)
 
@@ -52,11 +52,11 @@ size_fits row = is_within (pos 0) (pos node_limit) (number row 2) && is_within (
 abbrev pub is_good_header : Row → Bool
 is_good_header row = length row.fields == 4 && has_problem_word row && is_whole (field row 2) && is_whole (field row 3) && size_fits row
 
--- what stands for the problem line where there is none, or it is faulty
+-- what stands for the problem line if there is none, or it is faulty
 abbrev pub no_header : Header
 no_header = record { problem = Min; nodes = 0; arcs = 0 }
 
--- the number that a field says as a count of nodes or arcs
+-- the number that a field says as a number of nodes or arcs
 abbrev pub count : Row → ℕ → ℕ
 count row k = natural (number row k)
 
@@ -123,7 +123,7 @@ has_numbers row = list_all is_whole (number_fields row)
 abbrev pub node_places : Row → List ℕ
 node_places row = if is_n row then 1 ∷ [] else 1 ∷ 2 ∷ []
 
--- a number from 1 to the count of nodes that the problem line says
+-- a number from 1 to the number of nodes that the problem line says
 abbrev pub is_node_number : List Row → ℤ → Bool
 is_node_number earlier z = is_within (pos 1) (pos (header earlier).nodes) z
 
@@ -138,7 +138,8 @@ cost_place earlier = if of_min earlier then 5 else 3
 
 -- ---- the total
 
--- an arc line of `min` whose numbers can be read: none of `fields`, `number` and `before-p` applies to it
+-- an arc line of `min` whose numbers can be read: none of `fields`, `number` and `before-p` applies
+-- to it
 abbrev pub is_counted : List Row → Row → Bool
 is_counted earlier row = is_a row && of_min earlier && has_p earlier && has_field_count earlier row && has_numbers row
 
@@ -198,8 +199,8 @@ fault_at_end lines =
     if not (has_p lines) then Some NoP
     else (if nat_lt (length (arc_lines lines)) (header lines).arcs then Some Missing else None)
 
--- the first fault of some kept lines, where the line after the last has this number: that of the first
--- faulty line, else that of the whole
+-- the first fault of some kept lines, where the line after the last has this number: that of the
+-- first faulty line, otherwise that of the whole
 unfoldable pub first_fault_of_lines : Limits → ℕ → List Row → Option Fault
 first_fault_of_lines allowed after lines =
     option_or (slice_get (faults allowed lines) 0) (option_map (λ code. record { line = after; code = code }) (fault_at_end lines))

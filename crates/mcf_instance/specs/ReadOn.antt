@@ -36,7 +36,7 @@ pub record Holds (s : StateData) (lines : List Row) : Type 0 where
   pub arcs_are : map unpacked s.arcs ≡ map (arc_of (header lines).problem) (arc_lines lines)
   pub total_is : of_min lines ≡ true → s.total ≡ total_of lines
 
--- the state refuses with the first fault of the lines, and where there is none holds what they say
+-- the state refuses with the first fault of the lines, and if there is none holds what they say
 pub record Stands (allowed : Limits) (s : StateData) (lines : List Row) : Type 0 where
   pub refusal_is : s.refusal ≡ slice_get (faults allowed lines) 0
   pub holds : s.refusal ≡ None → Holds s lines
@@ -57,7 +57,8 @@ abbrev pub HasReadPieces : Limits → List ℕ → Feed → StateData → Type 0
 HasReadPieces allowed text feed s = (more : List ℕ) → (IsTrue feed.has_ended → more ≡ [])
     → HasRead allowed (text ++ more) s (feed.popped + 1) (numbered_lines (feed.popped + 1) (feed.rest ++ more))
 
--- as long as no line has a fault the state stands for them; the first fault of a line is that of the text, whatever pieces follow it
+-- as long as no line has a fault the state stands for them; the first fault of a line is that of
+-- the text, whatever pieces follow it
 pub record HasReadOn (allowed : Limits) (text : List ℕ) (feed : Feed) (s : StateData) : Type 0 where
   pub lines_read : s.refusal ≡ None → HasReadPieces allowed text feed s
   pub refused : (fault : Fault) → s.refusal ≡ Some fault → (more : List ℕ) → (IsTrue feed.has_ended → more ≡ []) → reading allowed (text ++ more) ≡ Err fault

@@ -22,8 +22,8 @@ abbrev pub supply_of : Problem → List Row → ℕ → ℤ
 supply_of Min lines v = option_map_or (λ row. number row 2) (find (λ row. node row 1 == v) (filter is_n lines)) (pos 0)
 supply_of Asn lines v = if is_listed lines v then pos 1 else neg_ℤ (pos 1)
 
--- the instance of some kept lines: sizes from the problem line, arcs from the arc lines in order, and
--- supplies from the node lines
+-- the instance of some kept lines: sizes from the problem line, arcs from the arc lines in order,
+-- and supplies from the node lines
 unfoldable pub instance_of_lines : List Row → Network
 instance_of_lines lines =
     let h = header lines in

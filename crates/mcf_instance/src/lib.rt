@@ -1,10 +1,11 @@
 #![tactic(auto)]
 
-//! What the texts of instances say, and what arrays say.
+//! The meaning of instance texts, and of arrays.
 //!
-//! It stands on `mcf_text` and `mcf_flows`, whose vocabulary it hands on. Definitions stand in `specs/`: `Fault` and `Reading`
-//! say what a text stands for, `Feeding` and `ReadOn` what a reader of pieces stands for, `Memory` where reading takes
-//! memory, `Arrays` what arrays stand for, `Laws` how wider limits keep instances.
+//! It builds on `mcf_text` and `mcf_flows`, whose vocabulary it re-exports. The definitions in
+//! `specs/`: `Fault` and `Reading` define the meaning of a text, `Feeding` and `ReadOn` the state
+//! of a reader of pieces, `Memory` where reading allocates, `Arrays` the meaning of arrays, `Laws`
+//! how wider limits keep instances.
 
 mod arrays;
 mod laws;

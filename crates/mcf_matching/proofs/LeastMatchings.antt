@@ -15,7 +15,8 @@ use Rattle.mcf_matching.specs.Matchings.{AreMatchingPrices, IsLeastMatching, IsP
 use Rattle.mcf_matching.proofs.Surpluses.{column_matched_or_not, column_surplus, free_column, free_row, matched_column, matched_row, matching_shown, row_matched_or_not}
 use Rattle.mcf_matching.proofs.Surpluses.{row_or_column}
 
--- where an arc is complementary, no other flow within its bounds has a smaller product with the reduced cost r
+-- where an arc is complementary, no other flow within its bounds has a smaller product with the
+-- reduced cost r
 no_smaller : (r low cap f other : ℤ) → (pos 0 <ℤ r → f ≡ low) → (r <ℤ pos 0 → f ≡ cap) → low ≤ℤ other → other ≤ℤ cap → (r *ℤ f) ≤ℤ (r *ℤ other)
 no_smaller (pos zero) low cap f other above below l u = omega (arith, ints)
 no_smaller (pos (suc n)) low cap f other above below l u =

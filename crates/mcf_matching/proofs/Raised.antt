@@ -1,4 +1,5 @@
--- The prices after a search: they show the matching as before, and the arcs that gave the distances cost nothing.
+-- The prices after a search: they show the matching as before, and the arcs that gave the distances
+-- cost nothing.
 use Rattle.std.proofs.Common.{◌≡◌, ℕ, Bool, true, false, List, [], Some, ℤ, pos, ◌≤ℤ◌, refl, sym, ◌∙◌, ap, subst, arith, ◌⊎◌, inl, inr}
 use Rattle.std.proofs.lemmas.Int.{ints}
 use Rattle.std.proofs.lemmas.Bool.{true≢false}
@@ -25,7 +26,8 @@ module _ (s : Pseudoflow) (y z : List ℤ) (q : Search) (source : ℕ) (t : Targ
   near : (u : ℕ) → IsNode (node_count s.net) u → Settled q u → dist_at q u ≤ℤ t.dist
   near = (search.best t found).2
 
-  -- an arc from a settled row to a column that is not offers no less than the distance of the target
+  -- an arc from a settled row to a column that is not offers no less than the distance of the
+  -- target
   beyond : (k : ℕ) → IsArcNumber s.net k → Settled q (row_of s k) → ¬ Settled q (column_of s k) → t.dist ≤ℤ offer s y q k
   beyond k arc h n =
       elim (search.offers k arc h) [

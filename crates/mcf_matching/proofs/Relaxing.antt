@@ -78,7 +78,8 @@ module _ (s : Pseudoflow) (y : List ℤ) (q : Search) (source : ℕ) (rest : Lis
         near = search.near;
       }
 
--- an arc is relaxed: none that waited is taken out, the target is no farther, and the arc is offered now
+-- an arc is relaxed: none that waited is taken out, the target is no farther, and the arc is
+-- offered now
 pub relaxed_ok : (s : Pseudoflow) (y : List ℤ) (q : Search) (source k : ℕ) (rest : List Rid) (queue : List Offer) (best : Option Target)
     → IsSearch s y q source (forward k ∷ rest) → ((o : Offer) → Contains queue o → MayWait s y q o) → ((o : Offer) → Waits q o → Contains queue o)
     → ((t : Target) → best ≡ Some t → MayBeBest s y q t) → ((x : ℤ) → IsBestUpTo q.best x → IsBestUpTo best x)

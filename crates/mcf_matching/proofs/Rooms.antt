@@ -179,7 +179,7 @@ room_left a b all p q kept has fits =
     let few = kept.few in
     omega (arith, more, few, has, fits)
 
--- ---- want of memory
+-- ---- lack of memory
 
 -- whatever comes of it
 pub on_err : {T E : Type 0} (r : Result T E) (P : Type 0) → P → OnErr r P

@@ -28,7 +28,8 @@ not_true false n = refl
 pub none_contained : (r : Rid) → Contains [] r → ⊥
 none_contained r (i, h, e) = omega arith
 
--- the column of an offer and the row with which it is matched, both settled at its distance and by its arc
+-- the column of an offer and the row with which it is matched, both settled at its distance and by
+-- its arc
 pub record IsSettling (s : Pseudoflow) (old new : Search) (o : Offer) (r : ℕ) : Type 0 where
   pub settled : (v : ℕ) → IsNode (node_count s.net) v → Settled new v → Settled old v ⊎ ((v ≡ o.column) ⊎ (v ≡ r))
   pub kept : (v : ℕ) → IsNode (node_count s.net) v → Settled old v → Settled new v

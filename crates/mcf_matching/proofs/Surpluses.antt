@@ -1,4 +1,5 @@
--- What the nodes of a partial matching have left: a matched node nothing, a row that is not matched 1, a column -1.
+-- What the nodes of a partial matching have left: a matched node nothing, a row that is not matched
+-- 1, a column -1.
 use Rattle.std.proofs.Common.{◌≡◌, ◌≢◌, ℕ, ◌+◌, ◌-◌, ◌<◌, ◌≤◌, zero, suc, Bool, true, false, eqb, List, [], None, length, get_or, ℤ, pos, neg_ℤ, ◌≤ℤ◌, sym, ◌∙◌}
 use Rattle.std.proofs.Common.{ap, subst, arith, ◌⊎◌, inl, inr}
 use Rattle.std.specs.List.{AllZip}

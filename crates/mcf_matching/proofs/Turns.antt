@@ -74,8 +74,8 @@ turning_start {s} {mates} {q} {order} {target} {source} {z} forest tight free ma
 
 -- ---- one arc of the path
 
--- what a turn may do: where the row of the arc is matched, exchange its pair for the arc and go on with the predecessor of the column that is
--- free then; else put the arc in and end
+-- what a turn may do: where the row of the arc is matched, exchange its pair for the arc and go on
+-- with the predecessor of the column that is free then; otherwise put the arc in and end
 pub record CanTurn (old s : Pseudoflow) (q : Search) (order : List ℕ) (target k : ℕ) : Type 0 where
   pub free : ¬ IsMatchedColumn s (column_of s k)
   pub next : (j : ℕ) → IsPair s j → row_of s j ≡ row_of s k → (mates : List Mate) → AreMates (joined (parted s j) k) mates

@@ -46,7 +46,7 @@ whole_row {g} rows {v} {x} {list} are node at e none = alone x.others (kept_row 
     alone (Some bound) row e = absurd (true≢false e)
 
 module _ {g : Network} {v : ℕ} {kept : List RowArc} (row : IsKeptRow g v kept None) where
-  -- where there are no others
+  -- if there are no others
   kept_has : (k : ℕ) → IsArcNumber g k → (arc_at g k).src ≡ v → Contains (map forward_of kept) (forward k)
   kept_has k arc from =
       elim (Contains-append_cases (map forward_of kept) (map forward_of row.others) (forward k) (row.every k arc from)) [
@@ -124,7 +124,7 @@ pub readable : (g : Network) (v : ℕ) (z : List ℤ) (kept : List RowArc) → A
     → HasWidth (2 ^ 63 - 1) g → ((u : ℕ) → IsNode (node_count g) u → IsUpTo (price_reach g) (at_node z u)) → All (IsReadable z) kept
 readable g v z kept each count width near i d h = read_arc g v z (get_or kept i d) (each i d h) count width near
 
--- the arc of a pair, as it was read, costs nothing where it offers no more than the price of its row
+-- the arc of a pair, as it was read, costs nothing if it offers no more than the price of its row
 pub pair_tight : (s : Pseudoflow) (g : Network) (z : List ℤ) (v k : ℕ) (a : RowArc) → g ≡ s.net → a.arc ≡ k → IsRowArc g (arc_at g k).src a → row_of s k ≡ v
     → (a.cost +ℤ at_node z a.column) ≤ℤ at_node z v → reduced s z k ≤ℤ pos 0
 pair_tight s g z v k a net number is from below =
@@ -134,7 +134,8 @@ pair_tight s g z v k a net number is from below =
     let at = ap (at_node z) from in
     omega (arith, ints, cost, price, at, below)
 
--- the arcs of a row fit where none offers less than the price of the row, and that of its pair no more
+-- the arcs of a row fit where none offers less than the price of the row, and that of its pair no
+-- more
 pub row_fits : (s : Pseudoflow) (z : List ℤ) {v : ℕ} {kept : List RowArc} → IsKeptRow s.net v kept None
     → All (λ (a : RowArc). at_node z v ≤ℤ (a.cost +ℤ at_node z a.column)) kept → ((k : ℕ) → IsPair s k → row_of s k ≡ v → reduced s z k ≤ℤ pos 0)
     → (k : ℕ) → IsArcNumber s.net k → row_of s k ≡ v → DoesArcFit s z k

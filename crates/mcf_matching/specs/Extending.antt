@@ -14,8 +14,8 @@ use Rattle.mcf_matching.specs.declared.extended.Extended.TheVariants.{Matched, B
 use Rattle.mcf_matching.specs.Matchings.{AreMatchingPrices, IsColumn, IsLeastMatching, IsMatchedColumn, IsMatchedRow, IsPair, IsPartialMatching}
 use Rattle.mcf_matching.specs.Matchings.{column_of, row_of}
 
--- the amounts, the prices, the nodes that the last search settled in their order, and the table of the set that the
--- last search reached that found no path, and how many searches there were
+-- the amounts, the prices, the nodes that the last search settled in their order, and the table of
+-- the set that the last search reached that found no path, and how many searches there were
 pub record Assigned : Type 0 where
   pub flow : Pseudoflow
   pub prices : List ℤ
@@ -27,7 +27,8 @@ pub record Assigned : Type 0 where
 abbrev pub IsMatched : Pseudoflow → ℕ → Type 0
 IsMatched s v = (k : ℕ) × IsPair s k × ((row_of s k ≡ v) ⊎ (column_of s k ≡ v))
 
--- a partial matching with prices that show it, so that no other that matches the same rows costs less
+-- a partial matching with prices that show it, so that no other that matches the same rows costs
+-- less
 pub record IsShownMatching (m : Assigned) : Type 0 where
   pub matching : IsPartialMatching m.flow
   pub shown : AreMatchingPrices m.flow m.prices
@@ -49,8 +50,8 @@ pub record IsSettledList (nodes row : ℕ) (list : List ℕ) : Type 0 where
   pub once : AllPairs (λ u v. u ≢ v) list
   pub each : All (IsNode nodes) list
 
--- an augmentation: one more along each residual arc of a walk from the row to a column that wasn't matched, each of which had room and
--- stands there once, and no other amount changed
+-- an augmentation: one more along each residual arc of a walk from the row to a column that wasn't
+-- matched, each of which had room and stands there once, and no other amount changed
 pub record IsAugmented (old : Pseudoflow) (row : ℕ) (new : Pseudoflow) : Type 0 where
   pub walk : List Rid
   pub column : ℕ
@@ -60,9 +61,10 @@ pub record IsAugmented (old : Pseudoflow) (row : ℕ) (new : Pseudoflow) : Type 
   pub not_matched : ¬ IsMatchedColumn old column
   pub turned : new ≡ pushed_along old walk (pos 1)
 
--- a path from the row was turned: the rows that are matched are those before and the row asked, matched columns stay
--- matched, the search settled both ends of each arc whose amount changed, and residual arcs with room led from the row to
--- each settled node; the set that was reached before stays
+-- a path from the row was turned: the rows that are matched are those before and the row asked,
+-- matched columns stay matched, the search settled both ends of each arc whose amount changed, and
+-- residual arcs with room led from the row to each settled node; the set that was reached before
+-- stays
 pub record IsGrown (old : Assigned) (row : ℕ) (new : Assigned) : Type 0 where
   pub net : new.flow.net ≡ old.flow.net
   pub path : IsAugmented old.flow row new.flow
@@ -75,8 +77,8 @@ pub record IsGrown (old : Assigned) (row : ℕ) (new : Assigned) : Type 0 where
   pub reached : new.reached ≡ old.reached
   pub searches : new.searches ≡ old.searches + 1
 
--- no amount changed; what was reached is what was settled, and that is the row and every node to which
--- residual arcs with room lead from it; it must send more than it can
+-- no amount changed; what was reached is what was settled, and that is the row and every node to
+-- which residual arcs with room lead from it; it must send more than it can
 pub record IsStopped (old : Assigned) (row : ℕ) (new : Assigned) : Type 0 where
   pub flow : new.flow ≡ old.flow
   pub settled : IsSettledList (node_count old.flow.net) row new.settled
@@ -86,8 +88,8 @@ pub record IsStopped (old : Assigned) (row : ℕ) (new : Assigned) : Type 0 wher
   pub blocks : Blocks old.flow.net (in_table new.reached) Send
   pub searches : new.searches ≡ old.searches + 1
 
--- what one search from a row does; of the prices after it nothing is said but that they show the matching (`IsShownMatching`),
--- since all of them may be updated before it begins
+-- what one search from a row does; of the prices after it nothing is said but that they show the
+-- matching (`IsShownMatching`), since all of them may be updated before it begins
 abbrev pub IsExtension : Assigned → ℕ → Extended → Assigned → Type 0
 IsExtension old row Matched new = IsGrown old row new
 IsExtension old row Blocked new = IsStopped old row new

@@ -1,4 +1,4 @@
-//! A whole search, and the matching made greater by what it found.
+//! A whole search, and the matching extended by its result.
 ghost use Rattle.std.specs.Prelude.{◌≡◌, ◌+◌, ◌<◌, ◌≤◌, ◌∷◌, ◌++◌, ◌↔◌, ℕ, [], Some, false, true, IfOk, OnErr, length};
 ghost use Rattle.std.specs.List.{All, Contains};
 ghost use Rattle.mcf_flows.specs.Blocking.{in_table};
@@ -21,7 +21,7 @@ use mcf_text::{ArcId, NoMemory, NodeId, copies};
 use std::alloc::Global;
 
 impl<W: Width> Tables<W> {
-    /// The tables for a net, with all the room that its searches need.
+    /// The tables for a net, with all the space that its searches need.
     pub(crate) fn new(alloc: Global, net: &Net) -> Result<Tables<W>, NoMemory>
         ensures idle { IfOk result (IsIdle net.now) }
         ensures order { IfOk result (λ tables. tables.order.items ≡ []) }
@@ -41,7 +41,8 @@ impl<W: Width> Tables<W> {
         })
     }
 
-    /// Searches for a shortest augmenting path from a row that is not matched, and gives its last arc if there is one.
+    /// Searches for a shortest augmenting path from an unmatched row, and returns its last arc, if
+    /// there is a path.
     pub(crate) fn search(&mut self, scene: &Scene<'_, '_, W>, source: NodeId) -> Option<Target<W>>
         requires scene { IsScene W.room scene.now.state.now scene.now.rows.now scene.now.prices.now scene.now.mates.now }
         requires idle { IsIdle scene.now.state.now.net self.old }
@@ -58,8 +59,8 @@ impl<W: Width> Tables<W> {
         self.best
     }
 
-    /// Matches the row of a search that found a path which ends with an arc, and how long it is: prices rise, the path is turned,
-    /// and the column at its end is settled too.
+    /// Matches the row of a search that found a path, given the path's last arc and length: prices
+    /// rise, the search augments along the path, and the column at its end is settled too.
     pub(crate) fn augment(
         &mut self,
         state: &mut State<'_>,
@@ -92,7 +93,7 @@ impl<W: Width> Tables<W> {
     }
 }
 
-/// Takes back the marks of listed nodes: all, where each marked node is listed.
+/// Removes the marks of listed nodes: all marks, if each marked node is listed.
 pub(crate) fn unmark(marks: &mut [bool], nodes: &[NodeId])
     requires each { All (IsNode (length marks.old)) nodes.now }
     requires listed { (v : ℕ) → IsNode (length marks.old) v → in_table marks.old v ≡ true → Contains nodes.now v }
@@ -103,7 +104,7 @@ pub(crate) fn unmark(marks: &mut [bool], nodes: &[NodeId])
     }
 }
 
-/// Puts listed nodes into a set, in place of those that it had.
+/// Puts listed nodes into a set, instead of those that it had.
 pub(crate) fn fill(set: &mut NodeSet, nodes: &[NodeId])
     requires { All (IsNode (length set.old)) nodes.now }
     ensures count { length set.new ≡ length set.old }

@@ -1,4 +1,4 @@
-//! Whether prices that were made for all nodes at once show a matching.
+//! A judge of prices that were made for all nodes at once: whether they show a matching.
 ghost use Rattle.std.specs.Prelude.{◌≡◌, ◌-◌, ◌^◌, ◌≤ℤ◌, ◌+ℤ◌, ℕ, length, pos, true};
 ghost use Rattle.std.specs.List.{All};
 ghost use Rattle.mcf_flows.specs.Network.{IsArcNumber, IsNode, at_node, node_count};
@@ -14,8 +14,8 @@ use crate::scene::Scene;
 use mcf_offers::Number;
 use mcf_text::{ArcId, NodeId};
 
-/// Whether new prices are near 0 and show the matching of a scene, none is less than before, and those of free nodes are as before.
-/// The answer is no where a row has arcs that aren't kept.
+/// Whether new prices are near 0 and show the matching of a scene, none is less than before, and
+/// those of free nodes are unchanged. The answer is no if a row has arcs that aren't kept.
 pub(crate) fn are_shown(
     scene: &Scene<'_, '_, i64>,
     prices: &[Number<i64>],
@@ -31,7 +31,7 @@ pub(crate) fn are_shown(
     do_rows_fit(scene, prices)
 }
 
-// Whether the new price of each node fits it.
+// Whether each node's new price passes.
 fn do_nodes_fit(scene: &Scene<'_, '_, i64>, prices: &[Number<i64>], reach: Number<i64>) -> bool
     requires scene { IsScene (2 ^ 63 - 1) scene.now.state.now scene.now.rows.now scene.now.prices.now scene.now.mates.now }
     requires count { length prices.now ≡ node_count scene.now.state.now.net }
@@ -47,7 +47,8 @@ fn do_nodes_fit(scene: &Scene<'_, '_, i64>, prices: &[Number<i64>], reach: Numbe
     true
 }
 
-// Whether a new price fits a node: it is near 0 and no less than before, and that of a free node is as before.
+// Whether a node's new price passes: it is near 0 and no less than before, and that of a free node
+// is unchanged.
 #[inline(always)]
 fn does_node_fit(
     scene: &Scene<'_, '_, i64>,
@@ -68,7 +69,7 @@ fn does_node_fit(
     price == old || scene.mates[i].arc > 0
 }
 
-// Whether new prices fit the arcs of each row.
+// Whether new prices pass for the arcs of each row.
 fn do_rows_fit(scene: &Scene<'_, '_, i64>, prices: &[Number<i64>]) -> bool
     requires scene { IsScene (2 ^ 63 - 1) scene.now.state.now scene.now.rows.now scene.now.prices.now scene.now.mates.now }
     requires count { length prices.now ≡ node_count scene.now.state.now.net }
@@ -83,7 +84,8 @@ fn do_rows_fit(scene: &Scene<'_, '_, i64>, prices: &[Number<i64>]) -> bool
     true
 }
 
-// Whether new prices fit the arcs that leave a node: no reduced cost is below 0, and it is 0 for the arc with which the node is matched.
+// Whether new prices pass for the arcs that leave a node: no reduced cost is below 0, and it is 0
+// for the arc with which the node is matched.
 #[inline(always)]
 fn does_row_fit(scene: &Scene<'_, '_, i64>, prices: &[Number<i64>], v: NodeId) -> bool
     requires scene { IsScene (2 ^ 63 - 1) scene.now.state.now scene.now.rows.now scene.now.prices.now scene.now.mates.now }
@@ -111,7 +113,7 @@ fn does_row_fit(scene: &Scene<'_, '_, i64>, prices: &[Number<i64>], v: NodeId) -
     offer(pair, prices) <= price
 }
 
-// What arcs offer at least.
+// The least offer of some arcs.
 fn least_offer(arcs: &[RowArc], prices: &[Number<i64>]) -> Number<i64>
     requires { All (IsReadable prices.now) arcs.now }
     ensures { All (λ (a : RowArc). result ≤ℤ (a.cost +ℤ at_node prices.now a.column)) arcs.now }
@@ -123,7 +125,7 @@ fn least_offer(arcs: &[RowArc], prices: &[Number<i64>]) -> Number<i64>
     least
 }
 
-// What an arc offers its row: its cost and the price of its column.
+// What an arc offers its row: its cost plus the price of its column.
 #[inline(always)]
 fn offer(a: RowArc, prices: &[Number<i64>]) -> Number<i64>
     requires { IsReadable prices.now a }

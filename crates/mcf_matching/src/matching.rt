@@ -1,4 +1,4 @@
-//! Partial matchings, made greater row by row.
+//! Partial matchings, extended row by row.
 ghost use Rattle.std.specs.Prelude.{◌≡◌, ◌≤◌, ◌↔◌, [], IfOk, IsTrue, OnErr, length, pos, replicate};
 ghost use Rattle.std.specs.List.{All};
 ghost use Rattle.mcf_flows.specs.declared.problem.Problem.TheVariants.{Asn};
@@ -17,17 +17,19 @@ use mcf_text::{NoMemory, NodeId};
 use std::alloc::Global;
 use std::marker::Model;
 
-/// A partial matching of the net of an assignment, with prices that show that no other matches the same rows for less.
+/// A partial matching of the net of an assignment, with prices that show that no other matching of
+/// the same rows costs less.
 ///
-/// Rows are the nodes of supply 1, columns those of supply -1. A clause sees the amounts, the prices, the nodes that
-/// the last search settled, the table of the set that the last search reached that found no path, and how many
-/// searches there were.
+/// Rows are the nodes of supply 1, columns those of supply -1. Clauses see the amounts, the prices,
+/// the nodes that the last search settled, the table of the set reached by the last search that
+/// found no path, and the number of searches.
 #[derive(Drop)]
 pub struct Matching<'n> {
     core: Core<'n>,
 }
 
-// The matching in numbers that have room for every sum of its searches: of 64 bits, where all prices may be updated, or of 128.
+// The matching in numbers that hold every sum of its searches: of 64 bits, where all prices may be
+// updated, or of 128.
 #[derive(Drop)]
 enum Core<'n> {
     Narrow(Partial<'n, i64>),
@@ -45,13 +47,13 @@ impl<'n> Model for Matching<'n> {
 }
 
 impl<'n> Matching<'n> {
-    /// The matching without pairs. Nothing was settled, and the set that was reached is empty.
+    /// The matching without pairs. Nothing is settled, and the set reached is empty.
     ///
-    /// All the room that its searches need is made here.
+    /// All memory for its searches is allocated here.
     ///
     /// # Errors
     ///
-    /// Want of memory, where a growth was refused; a net without nodes wants none.
+    /// `NoMemory` if an allocation is refused; a net without nodes needs none.
     pub fn start(alloc: Global, net: &'n Net) -> Result<Matching<'n>, NoMemory>
         requires { net.now.problem ≡ Asn }
         ensures value { IfOk result (λ m. m.flow ≡ record { net = net.now; amounts = replicate (length net.now.arcs) (pos 0) }) }
@@ -70,12 +72,13 @@ impl<'n> Matching<'n> {
         Ok(Matching { core })
     }
 
-    /// Matches one row more, or finds a set that must send more than it can.
+    /// Matches one more row, or finds a set that must send more than it can.
     ///
-    /// It searches for a shortest augmenting path from the row by reduced costs (Dijkstra; Ahuja, Magnanti and Orlin,
-    /// Network Flows, sections 9.7 and 12.4), and ends at the first column that isn't matched. Costs may have either
-    /// sign. Before it begins all prices are updated, if the searches since the last update settled so many pairs that this pays
-    /// (Goldberg and Kennedy, An efficient cost scaling algorithm for the assignment problem, 1995).
+    /// It searches for a shortest augmenting path from the row by reduced costs (Dijkstra; Ahuja,
+    /// Magnanti and Orlin, Network Flows, sections 9.7 and 12.4), and ends at the first unmatched
+    /// column. Costs may have either sign. Before a search, all prices are updated if the searches
+    /// since the last update settled so many pairs that this pays (Goldberg and Kennedy, An
+    /// efficient cost scaling algorithm for the assignment problem, 1995).
     pub fn extend(&mut self, row: NodeId) -> Extended
         requires row { IsRow self.old.flow row }
         requires free { ¬ IsMatchedRow self.old.flow row }
@@ -88,7 +91,7 @@ impl<'n> Matching<'n> {
         }
     }
 
-    /// Whether an arc of amount 1 has an end at a node.
+    /// Whether an arc of amount 1 ends at a node.
     pub fn matched(&self, v: NodeId) -> bool
         requires { IsNode (node_count self.now.flow.net) v }
         ensures value { IsTrue result ↔ IsMatched self.now.flow v }
@@ -100,7 +103,8 @@ impl<'n> Matching<'n> {
         }
     }
 
-    /// The nodes that the last search settled, each once, the row first; none before the first search.
+    /// The nodes that the last search settled, each once, the row first; none before the first
+    /// search.
     pub fn settled(&self) -> &[NodeId]
         ensures value { result.now ≡ self.now.settled }
         ensures shown { IsShownMatching self.now }
@@ -111,7 +115,7 @@ impl<'n> Matching<'n> {
         }
     }
 
-    /// The set that the last search reached that found no path; empty before there is one.
+    /// The set reached by the last search that found no path; empty before there is one.
     pub fn reached(&self) -> &NodeSet
         ensures value { result.now ≡ self.now.reached }
         ensures one_per_node { length result.now ≡ node_count self.now.flow.net }
@@ -123,7 +127,7 @@ impl<'n> Matching<'n> {
         }
     }
 
-    /// The state and the prices, and the count of the searches.
+    /// The state, the prices, and the number of searches.
     pub fn into_parts(self) -> (State<'n>, Vec<i128>, Count)
         ensures state { result.0 ≡ self.entry.flow }
         ensures prices { result.1.items ≡ self.entry.prices }
@@ -137,7 +141,8 @@ impl<'n> Matching<'n> {
         }
     }
 
-    /// The set that the last search reached that found no path, and the count of the searches; empty before there is one.
+    /// The set reached by the last search that found no path, and the number of searches; empty
+    /// before there is one.
     pub fn into_reached(self) -> (NodeSet, Count)
         ensures reached { result.0 ≡ self.entry.reached }
         ensures one_per_node { length result.0 ≡ node_count self.entry.flow.net }

@@ -26,7 +26,8 @@ use std::alloc::Global;
 use std::marker::Model;
 use std::mem::swap;
 
-/// A partial matching, whose prices and distances are numbers of one width. A clause sees what it does of a `Matching`.
+/// A partial matching whose prices and distances are numbers of one width. Clauses see the same as
+/// of a `Matching`.
 #[derive(Drop)]
 pub(crate) struct Partial<'n, W: Width> {
     state: State<'n>,
@@ -58,7 +59,7 @@ impl<'n, W: Width> Model for Partial<'n, W> {
 }
 
 impl<'n, W: Width> Partial<'n, W> {
-    /// The matching without pairs. All the room that its searches need is made here.
+    /// The matching without pairs. All memory for its searches is allocated here.
     pub(crate) fn start(
         alloc: Global,
         net: &'n Net,
@@ -91,7 +92,7 @@ impl<'n, W: Width> Partial<'n, W> {
         })
     }
 
-    /// Searches from a row, and turns the path that was found.
+    /// Searches from a row, and augments along the path that was found.
     pub(crate) fn grow(&mut self, row: NodeId) -> Extended
         requires row { IsRow self.old.flow row }
         requires free { ¬ IsMatchedRow self.old.flow row }
@@ -120,7 +121,7 @@ impl<'n, W: Width> Partial<'n, W> {
         }
     }
 
-    /// Whether an arc of amount 1 has an end at a node.
+    /// Whether an arc of amount 1 ends at a node.
     pub(crate) fn matched(&self, v: NodeId) -> bool
         requires { IsNode (node_count self.now.flow.net) v }
         ensures value { IsTrue result ↔ IsMatched self.now.flow v }
@@ -129,7 +130,8 @@ impl<'n, W: Width> Partial<'n, W> {
         self.mates[v.place()].arc > 0
     }
 
-    /// The nodes that the last search settled, each once, the row first; none before the first search.
+    /// The nodes that the last search settled, each once, the row first; none before the first
+    /// search.
     pub(crate) fn settled(&self) -> &[NodeId]
         ensures value { result.now ≡ self.now.settled }
         ensures shown { IsShownMatching self.now }
@@ -137,7 +139,7 @@ impl<'n, W: Width> Partial<'n, W> {
         self.tables.order.as_slice()
     }
 
-    /// The set that the last search reached that found no path; empty before there is one.
+    /// The set reached by the last search that found no path; empty before there is one.
     pub(crate) fn reached(&self) -> &NodeSet
         ensures value { result.now ≡ self.now.reached }
         ensures one_per_node { length result.now ≡ node_count self.now.flow.net }
@@ -146,7 +148,7 @@ impl<'n, W: Width> Partial<'n, W> {
         &self.reached
     }
 
-    /// The state and the prices, and the count of the searches.
+    /// The state, the prices, and the number of searches.
     pub(crate) fn into_parts(self) -> (State<'n>, Vec<i128>, Count)
         ensures state { result.0 ≡ self.entry.flow }
         ensures prices { result.1.items ≡ self.entry.prices }
@@ -166,7 +168,7 @@ impl<'n, W: Width> Partial<'n, W> {
         (state, wide, searches)
     }
 
-    /// The set that the last search reached that found no path, and the count of the searches.
+    /// The set reached by the last search that found no path, and the number of searches.
     pub(crate) fn into_reached(self) -> (NodeSet, Count)
         ensures reached { result.0 ≡ self.entry.reached }
         ensures one_per_node { length result.0 ≡ node_count self.entry.flow.net }
@@ -183,7 +185,8 @@ impl<'n, W: Width> Partial<'n, W> {
 }
 
 impl<'n> Partial<'n, i64> {
-    /// Updates all prices, if that pays now, searches from a row, and turns the path that was found.
+    /// Updates all prices, if that pays now, searches from a row, and augments along the path that
+    /// was found.
     pub(crate) fn extend(&mut self, row: NodeId) -> Extended
         requires row { IsRow self.old.flow row }
         requires free { ¬ IsMatchedRow self.old.flow row }
@@ -194,7 +197,8 @@ impl<'n> Partial<'n, i64> {
         self.grow(row)
     }
 
-    // Updates all prices, if that pays now. Nothing else changes, and the new prices show the matching.
+    // Updates all prices, if that pays now. Nothing else changes, and the new prices show the
+    // matching.
     fn refresh(&mut self, row: NodeId)
         requires row { IsRow self.old.flow row }
         requires free { ¬ IsMatchedRow self.old.flow row }

@@ -1,4 +1,4 @@
-//! The prices of the nodes, and how far from 0 they lie.
+//! The prices of the nodes, and bounds on their absolute values.
 ghost use Rattle.std.specs.Prelude.{◌≡◌, ◌-◌, ◌^◌, ◌≤◌, IfOk, OnErr, length, max, pos, true};
 ghost use Rattle.mcf_flows.specs.Network.{node_count};
 ghost use Rattle.mcf_network.specs.Nets.{IsNet};
@@ -10,7 +10,7 @@ use mcf_offers::{Number, Width};
 use mcf_text::{ArcId, NoMemory, NodeId, copies};
 use std::alloc::Global;
 
-/// The greatest size of a cost of a net.
+/// The greatest absolute value of a cost of a net.
 pub(crate) fn greatest_cost(net: &Net) -> u128
     ensures value { result ≡ greatest_cost net.now }
     ensures of_net { IsNet net.now }
@@ -29,7 +29,7 @@ fn greater(left: u128, right: u128) -> u128
     if left < right { right } else { left }
 }
 
-/// Whether 64 bits have room for every sum of a search.
+/// Whether 64 bits hold every sum of a search.
 pub(crate) fn is_narrow(net: &Net, greatest: u128) -> bool
     requires { greatest ≡ greatest_cost net.now }
     ensures { result ≡ true → HasWidth (2 ^ 63 - 1) net.now }
@@ -37,7 +37,7 @@ pub(crate) fn is_narrow(net: &Net, greatest: u128) -> bool
     64 * path_cost(net, greatest) <= MOST
 }
 
-// What a path costs at most, by the greatest cost.
+// The greatest cost of a path, by the greatest cost of an arc.
 fn path_cost(net: &Net, greatest: u128) -> u128
     requires { greatest ≡ greatest_cost net.now }
     ensures value { result ≡ path_cost net.now }
@@ -46,7 +46,7 @@ fn path_cost(net: &Net, greatest: u128) -> u128
     u128::from(net.node_count()) * greatest
 }
 
-/// How far from 0 the prices of a matching lie, by the price with which each row begins.
+/// A bound on the prices of a matching, by the price with which each row begins.
 pub(crate) fn price_reach(net: &Net, first: Number<i64>) -> Number<i64>
     requires width { HasWidth (2 ^ 63 - 1) net.now }
     requires first { first ≡ first_price net.now }
@@ -56,8 +56,8 @@ pub(crate) fn price_reach(net: &Net, first: Number<i64>) -> Number<i64>
     Number::of(reach as i64)
 }
 
-/// The prices before the first search: those of columns are 0, and those of rows so far below it that no arc has a negative
-/// reduced cost.
+/// The prices before the first search: those of columns are 0, and those of rows so low that no arc
+/// has a negative reduced cost.
 pub(crate) fn first_prices<W: Width>(
     alloc: Global,
     net: &Net,

@@ -9,7 +9,8 @@ use mcf_offers::{Number, Width};
 use mcf_text::NodeId;
 use std::marker::Model;
 
-/// The arc with which a node is matched, and the node at its other end. Both are 0 where the node is not matched.
+/// The arc with which a node is matched, and the node at its other end. Both are 0 if the node is
+/// unmatched.
 #[derive(Clone, Copy)]
 pub(crate) struct Mate {
     pub(crate) arc: u32,
@@ -25,8 +26,8 @@ pub(crate) struct Scene<'a, 'n, W: Width> {
     pub(crate) mates: &'a [Mate],
 }
 
-/// A settled row whose arcs are relaxed, and its distance less its price: what its arcs offer but for their costs and the prices of
-/// their columns.
+/// A settled row whose arcs are relaxed, and its distance less its price: what its arcs offer,
+/// without their costs and the prices of their columns.
 #[derive(Drop)]
 pub(crate) struct Row<W: Width> {
     pub(crate) id: NodeId,
@@ -42,7 +43,7 @@ impl<W: Width> Model for Row<W> {
 }
 
 impl<W: Width> Row<W> {
-    /// The distance that an arc of the row offers to its column.
+    /// The distance that an arc of the row offers its column.
     #[inline(always)]
     pub(crate) fn offered(&self, prices: &[Number<W>], a: RowArc) -> Number<W>
         requires column { IsNode (length prices.now) a.column }

@@ -27,7 +27,7 @@ use mcf_text::NodeId;
 use std::alloc::AllocError;
 use std::marker::Model;
 
-/// The last arc of a walk to a column that is not matched, and the length of the walk.
+/// The last arc of a walk to an unmatched column, and the length of the walk.
 pub(crate) struct Target<W: Width> {
     pub(crate) arc: u32,
     pub(crate) dist: Number<W>,
@@ -51,8 +51,8 @@ impl<W: Width> Model for Target<W> {
     ghost inverse = { λ t. record { arc = t.arc; dist = t.dist } };
 }
 
-/// The tables of a search, which every search of a net uses again, how many searches there were, and how many pairs those since
-/// the last update settled.
+/// The tables of a search, which every search of a net reuses, the number of searches, and the
+/// number of pairs settled since the last update.
 #[derive(Drop)]
 pub(crate) struct Tables<W: Width> {
     pub(crate) offers: Offers<W>,
@@ -66,8 +66,8 @@ pub(crate) struct Tables<W: Width> {
 }
 
 impl<W: Width> Tables<W> {
-    /// Begins a search at a row that is not matched, and counts it. What the search before left is taken back, in time of what it
-    /// settled.
+    /// Begins a search at an unmatched row, and counts it. What the last search left is removed, in
+    /// time proportional to what it settled.
     pub(crate) fn begin(&mut self, state: &State<'_>, source: NodeId)
         requires matching { IsPartialMatching state.now }
         requires idle { IsIdle state.now.net self.old }
@@ -89,8 +89,9 @@ impl<W: Width> Tables<W> {
         self.order.push_reserved(source);
     }
 
-    /// Runs a search that was begun at a row, until no offer that waits is nearer than the target. What it settled stands as row,
-    /// column, row, column and so on, and the rows are scanned in that order.
+    /// Runs a search that was begun at a row, until no queued offer is nearer than the target. The
+    /// settled nodes are listed as row, column, row, column and so on, and the rows are scanned in
+    /// that order.
     pub(crate) fn run(&mut self, scene: &Scene<'_, '_, W>, source: NodeId)
         requires scene { IsScene W.room scene.now.state.now scene.now.rows.now scene.now.prices.now scene.now.mates.now }
         requires ready { IsReady scene.now.state.now scene.now.prices.now (search_of self.old) source self.old.order.items source }
@@ -112,7 +113,7 @@ impl<W: Width> Tables<W> {
         }
     }
 
-    /// Raises the prices of the settled nodes by what they are nearer than the target.
+    /// Raises the price of each settled node by the distance of the target less its own.
     pub(crate) fn raise(&self, prices: &mut [Number<W>], target: Number<W>)
         requires entries { HasEntries (length prices.old) (search_of self.now) }
         requires few { length prices.old < 2 ^ 31 }
@@ -128,8 +129,8 @@ impl<W: Width> Tables<W> {
         }
     }
 
-    // Relaxes the arcs that leave the row that was settled last: first those that are kept, and all of them if what the others cost at
-    // least may improve the distance of the target.
+    // Relaxes the arcs that leave the row that was settled last: first the kept ones, then all of
+    // them, if the bound on the others' costs allows one to be nearer than the target.
     fn scan(&mut self, scene: &Scene<'_, '_, W>, id: NodeId)
         requires scene { IsScene W.room scene.now.state.now scene.now.rows.now scene.now.prices.now scene.now.mates.now }
         requires ready { (source : ℕ) × IsReady scene.now.state.now scene.now.prices.now (search_of self.old) source self.old.order.items id }
@@ -174,7 +175,8 @@ impl<W: Width> Tables<W> {
         }
     }
 
-    // Whether arcs of a row that cost no less than a bound, if there are any, may offer less than the distance of the target.
+    // Whether arcs of a row that cost no less than a bound, if there are any, may offer less than
+    // the distance of the target.
     fn may_improve(&self, row: &Row<W>, others: Option<i64>) -> bool
         requires { IfSome others (λ bound. IsUpTo W.room (row.now.base +ℤ bound)) }
         ensures { result ≡ false → IfSome others (λ bound. IsBestUpTo self.now.best (row.now.base +ℤ bound)) }
@@ -185,7 +187,7 @@ impl<W: Width> Tables<W> {
         }
     }
 
-    // The row that was settled last, as its arcs are relaxed.
+    // The row that was settled last, prepared for relaxing its arcs.
     fn row_of(&self, scene: &Scene<'_, '_, W>, id: NodeId) -> Row<W>
         requires scene { IsScene W.room scene.now.state.now scene.now.rows.now scene.now.prices.now scene.now.mates.now }
         requires ready { (source : ℕ) × IsReady scene.now.state.now scene.now.prices.now (search_of self.now) source self.now.order.items id }
@@ -197,8 +199,8 @@ impl<W: Width> Tables<W> {
         Row { id, base }
     }
 
-    // Takes out the offers that wait, the nearest first, up to one whose column isn't settled, which is answered, or one that is no
-    // nearer than the target.
+    // Takes queued offers, the nearest first, up to one whose column isn't settled, which is
+    // returned, or one that is no nearer than the target.
     fn nearest(&mut self) -> Option<Offer<W>>
         requires search { (s : Pseudoflow) × (y : List ℤ) × (source : ℕ) × IsPartialMatching s × IsSearch s y (search_of self.old) source [] }
         ensures found { (s : Pseudoflow) (y : List ℤ) (source : ℕ) → IsPartialMatching s → IsSearch s y (search_of self.old) source []
@@ -216,7 +218,8 @@ impl<W: Width> Tables<W> {
         }
     }
 
-    // Settles the column of an offer at its distance and by its arc, with the row that it is matched with, which is answered.
+    // Settles the column of an offer, at its distance and by its arc, with its matched row, which
+    // is returned.
     #[inline(always)]
     fn settle(&mut self, scene: &Scene<'_, '_, W>, offer: Offer<W>) -> NodeId
         requires scene { IsScene W.room scene.now.state.now scene.now.rows.now scene.now.prices.now scene.now.mates.now }
@@ -244,8 +247,8 @@ impl<W: Width> Tables<W> {
         row
     }
 
-    // Relaxes an arc of a row. What it offers is of no use where the target is as near, or where its column is settled. An offer to a
-    // matched column waits.
+    // Relaxes an arc of a row. Its offer is useless if the target is as near, or if its column is
+    // settled. An offer to a matched column is queued.
     #[inline(always)]
     fn relax(&mut self, scene: &Scene<'_, '_, W>, row: &Row<W>, a: RowArc)
         requires row { IsScannedRow W.room scene.now.state.now scene.now.rows.now scene.now.prices.now scene.now.mates.now (search_of self.old) row.now }

@@ -1,4 +1,4 @@
-//! The turning of an augmenting path.
+//! Augmenting along a path.
 ghost use Rattle.std.specs.Prelude.{◌≡◌, ℕ, ℤ, List, length, pos, true, false};
 ghost use Rattle.mcf_flows.specs.Network.{IsArcNumber, node_count};
 ghost use Rattle.mcf_network.specs.States.{pushed};
@@ -14,8 +14,8 @@ use mcf_offers::Width;
 use mcf_text::ArcId;
 
 impl<W: Width> Tables<W> {
-    /// Turns the path that ends with an arc to a column that is not matched, from its end back to its row: each arc of
-    /// amount 1 on it leaves the matching, and each of amount 0 comes in.
+    /// Augments along the path that ends with an arc to an unmatched column, from its end back to
+    /// its row: each arc of amount 1 on it leaves the matching, and each of amount 0 enters it.
     pub(crate) fn turn(&self, state: &mut State<'_>, mates: &mut [Mate], target: ArcId)
         requires entries { HasEntries (node_count state.old.net) (search_of self.now) }
         requires forest { (source : ℕ) × (z : List ℤ) × IsForest state.old (search_of self.now) source self.now.order.items z
@@ -52,7 +52,7 @@ fn row_mate(state: &State<'_>, mates: &[Mate], k: ArcId) -> Mate
     mates[row.place()]
 }
 
-// Takes an arc of amount 1 out of a partial matching.
+// Removes an arc of amount 1 from a partial matching.
 fn part(state: &mut State<'_>, mates: &mut [Mate], k: ArcId)
     requires matching { IsPartialMatching state.old }
     requires mates { AreMates state.old mates.old }
@@ -68,7 +68,7 @@ fn part(state: &mut State<'_>, mates: &mut [Mate], k: ArcId)
     mates[column.place()] = none;
 }
 
-// Puts an arc between a row and a column that are not matched into a partial matching.
+// Adds an arc between an unmatched row and an unmatched column to a partial matching.
 fn join(state: &mut State<'_>, mates: &mut [Mate], k: ArcId)
     requires matching { IsPartialMatching state.old }
     requires mates { AreMates state.old mates.old }

@@ -15,7 +15,7 @@ pub no_bytes : (count : ℕ) → map pos (replicate count 0) ≡ replicate count
 no_bytes zero = refl
 no_bytes (suc count) = ap (λ amounts. pos 0 ∷ amounts) (no_bytes count)
 
--- a byte in place of another
+-- a byte instead of another
 pub set_byte : (bytes : List ℕ) (place : ℕ) (byte : ℕ) (amount : ℤ) → pos byte ≡ amount
     → map pos (set bytes place byte) ≡ set (map pos bytes) place amount
 set_byte bytes place byte amount e = map-set pos bytes place byte ∙ ap (λ x. set (map pos bytes) place x) e

@@ -56,7 +56,7 @@ read_written xs i v a d l =
 
 -- ---- amounts
 
--- an amount from 0 to the width in place of that of an arc
+-- an amount from 0 to the width instead of that of an arc
 pub set_ok : (s : Pseudoflow) (k : ℕ) (y : ℤ) → IsPseudoflow s → IsArcNumber s.net k → pos 0 ≤ℤ y → y ≤ℤ (arc_at s.net k).cap
     → IsPseudoflow (record s { amounts = set s.amounts (k - 1) y })
 set_ok s k y ok h low high =

@@ -15,7 +15,7 @@ use Rattle.mcf_network.specs.States.{Pseudoflow, IsPseudoflow, HasNoSurplus}
 use Rattle.mcf_network.specs.Stuck.{IsStuck}
 use Rattle.mcf_network.specs.TreeSolutions.{IsTreeSolution}
 
--- amounts are a feasible flow of a net exactly where they are a state without surplus
+-- amounts are a feasible flow of a net exactly if they are a state without surplus
 abbrev pub FeasibleFlowsAreStates : Type 0
 FeasibleFlowsAreStates =
     (g : Network) (flow : List ℤ) → IsNet g → IsFeasible g flow ↔ (IsPseudoflow (record { net = g; amounts = flow })
@@ -26,8 +26,8 @@ FeasibleFlowsAreStates =
 abbrev pub StuckSetsBlock : Type 0
 StuckSetsBlock = (s : Pseudoflow) (set : ℕ → Bool) → IsPseudoflow s → IsStuck s set → Blocks s.net set Send
 
--- for each feasible flow some state of the net without surplus costs no more than the flow, but for the
--- cost that is the same for all
+-- for each feasible flow some state of the net without surplus costs no more than the flow, but for
+-- the cost that is the same for all
 abbrev pub NetFlowsCostNoMore : Type 0
 NetFlowsCostNoMore =
     (g : Network) (flow : List ℤ) → IsFeasible g flow → (amounts : List ℤ) × IsFeasible (net_of g) amounts
@@ -44,7 +44,8 @@ abbrev pub RestoredLeastFlowsAreLeast : Type 0
 RestoredLeastFlowsAreLeast =
     (g : Network) (amounts : List ℤ) → All (λ a. a.low ≤ℤ a.cap) g.arcs → IsLeast (net_of g) amounts → IsLeast g (restored g.arcs amounts)
 
--- the greatest prices not above 0 of a feasible flow of the net are those of the flow for which it stands
+-- the greatest prices not above 0 of a feasible flow of the net are those of the flow for which it
+-- stands
 -- Source: own
 abbrev pub GreatestPricesCarryOver : Type 0
 GreatestPricesCarryOver =

@@ -32,7 +32,8 @@ pub record IsNetArc (a : Arc) : Type 0 where
   pub cost_small : IsUpTo limits.cost a.cost
   pub no_loop_width : a.src ≡ a.dst → a.cap ≡ pos 0
 
--- what a net keeps: counts, ends, arcs, supplies and the total within limits; an assignment where it is one
+-- what a net keeps: counts, ends, arcs, supplies and the total within limits; an assignment if it
+-- is one
 pub record IsNet (g : Network) : Type 0 where
   pub nodes : node_count g ≤ node_limit
   pub arcs : length g.arcs ≤ arc_limit

@@ -6,7 +6,7 @@ use Rattle.std.specs.Prelude.{ℕ, ◌-◌, Bool, true, false, List, count_by, r
 abbrev pub member_count : List Bool → ℕ
 member_count table = count_by (λ b. b) table
 
--- the table that marks no node of so many
+-- the table that marks no node of this many
 abbrev pub no_nodes : ℕ → List Bool
 no_nodes nodes = replicate nodes false
 

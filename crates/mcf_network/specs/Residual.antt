@@ -1,5 +1,5 @@
--- Residual arcs (Ahuja, Magnanti and Orlin, Network Flows, section 2.4): an arc of a network, forward or
--- backward.
+-- Residual arcs (Ahuja, Magnanti and Orlin, Network Flows, section 2.4): an arc of a network,
+-- forward or backward.
 -- Source: AMO 2.4
 use Rattle.std.specs.Prelude.{ℕ, ◌-◌, ℤ, pos, neg_ℤ, if◌then◌else◌, slice_index_or}
 use Rattle.mcf_flows.specs.declared.arc.Arc.{Arc}

@@ -10,8 +10,8 @@ use Rattle.mcf_network.specs.Removal.{is_loop}
 abbrev pub is_earning_loop : Arc → Bool
 is_earning_loop a = is_loop a && int_lt a.cost (pos 0)
 
--- what an arc carries where the arc of the net carries x: x more than its low; but a loop of negative cost
--- carries its cap, and every other loop its low, whatever x is
+-- what an arc carries where the arc of the net carries x: x more than its low; but a loop of
+-- negative cost carries its cap, and every other loop its low, whatever x is
 abbrev pub restored_flow : Arc → ℤ → ℤ
 restored_flow a x = if is_loop a then (if int_lt a.cost (pos 0) then a.cap else a.low) else a.low +ℤ x
 

@@ -17,8 +17,9 @@ pub record ListsLeaving (g : Network) (v : ℕ) (list : List Rid) : Type 0 where
   pub every : (r : Rid) → Leaves g v r → Contains list r
   pub once : AllPairs (λ r q. r ≢ q) list
 
--- the forward star: residual arcs one node after another, and behind those of each node a gap, so many entries that mean nothing;
--- those of node v stand from firsts (v - 1) up to the gap that ends at firsts v
+-- the forward star: residual arcs one node after another, and behind those of each node a gap, this
+-- many entries that mean nothing; those of node v stand from firsts (v - 1) up to the gap that ends
+-- at firsts v
 pub record IsForwardStar (g : Network) (gap : ℕ) (firsts : List ℕ) (outs : List Rid) : Type 0 where
   pub count : length firsts ≡ node_count g + 1
   pub rises : (v : ℕ) → IsNode (node_count g) v → slice_index firsts (v - 1) + gap ≤ slice_index firsts v

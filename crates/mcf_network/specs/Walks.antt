@@ -7,7 +7,8 @@ use Rattle.mcf_network.specs.declared.rid.Rid.{Rid}
 use Rattle.mcf_network.specs.Residual.{tail, head, unit_cost}
 use Rattle.mcf_network.specs.States.{Pseudoflow, room_of, pushed}
 
--- each residual arc leaves the node that the one before enters; the first leaves u, the last enters w
+-- each residual arc leaves the node that the one before enters; the first leaves u, the last enters
+-- w
 abbrev pub IsWalk : Network → ℕ → List Rid → ℕ → Type 0
 IsWalk g u [] w = u ≡ w
 IsWalk g u (r ∷ rest) w = (tail g r ≡ u) × IsWalk g (head g r) rest w

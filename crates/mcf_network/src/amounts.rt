@@ -1,4 +1,4 @@
-//! The amounts of a state in order, in a byte each where no width is above 1, else in eight.
+//! The amounts of a state in order: one byte each if no width is above 1, otherwise eight.
 
 ghost use Rattle.std.specs.Prelude.{◌≡◌, ◌<◌, ◌≤◌, ◌≤ℤ◌, IfOk, OnErr, if◌then◌else◌, length, pos, replicate, slice_index_or, slice_set};
 ghost use Rattle.mcf_network.specs.Nets.{width_limit};
@@ -9,7 +9,7 @@ use std::alloc::Global;
 
 /// Amounts in order, in one of two sizes.
 ///
-/// While no width is above 1, as in the net of an assignment, they take an eighth of the memory.
+/// If no width is above 1, as in the net of an assignment, they take an eighth of the memory.
 #[derive(Drop)]
 pub(crate) enum Amounts {
     Small(Vec<u8>),
@@ -17,7 +17,7 @@ pub(crate) enum Amounts {
 }
 
 impl Amounts {
-    /// So many amounts of 0.
+    /// This many amounts of 0.
     pub(crate) fn zero(alloc: Global, count: usize, are_small: bool) -> Result<Amounts, NoMemory>
         ensures value { IfOk result (λ made. amounts_in made ≡ replicate count (pos 0)) }
         ensures limit { IfOk result (λ made. limit_of made ≡ (if are_small then small_limit else width_limit)) }

@@ -5,7 +5,7 @@ ghost use Rattle.mcf_network.specs.declared.rid.Rid.{Rid};
 use crate::rid::{PackedRid, Rid};
 use std::marker::Model;
 
-/// The residual arcs that are still to come. A clause sees their list.
+/// The remaining residual arcs. Clauses see their list.
 #[derive(Clone, Debug, Drop)]
 pub struct Leaving<'a> {
     pub(crate) rest: &'a [PackedRid],
@@ -21,7 +21,7 @@ impl<'a> Model for Leaving<'a> {
 }
 
 impl<'a> Leaving<'a> {
-    /// The first of the residual arcs that are still to come.
+    /// The first of the remaining residual arcs.
     pub fn first(&self) -> Option<Rid>
         ensures some { IfSome result (λ r. (more : List Rid) × (self.now ≡ r ∷ more)) }
         ensures none { IfNone result (self.now ≡ []) }
@@ -30,7 +30,7 @@ impl<'a> Leaving<'a> {
         Some(first.get())
     }
 
-    /// Passes over so many of the residual arcs that are still to come, or over all where there are fewer, in one step.
+    /// Skips this many of the remaining residual arcs, or all if there are fewer, in one step.
     pub fn pass(&mut self, count: usize)
         ensures { self.new ≡ drop count self.old }
     {

@@ -1,4 +1,4 @@
-//! The links of a net in order, which a net of an assignment shares with its instance.
+//! The links (arcs) of a net in order, which the net of an assignment shares with its instance.
 ghost use Rattle.std.specs.Prelude.{◌≡◌, ◌<◌, ◌≤◌, IfOk, OnErr, length, slice_index_or};
 ghost use Rattle.mcf_network.specs.Private.StoredLinks.{links_in, no_link};
 
@@ -7,7 +7,8 @@ use mcf_text::NoMemory;
 use std::alloc::Global;
 use std::rc::Rc;
 
-/// Links in order, which their owners share, so that they aren't copied. No links take no memory.
+/// Links in order, shared by their owners, so that they aren't copied. An empty list needs no
+/// memory.
 #[derive(Drop)]
 pub(crate) enum Links {
     Nothing,

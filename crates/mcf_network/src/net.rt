@@ -13,17 +13,18 @@ use mcf_flows::Problem;
 use mcf_text::{ArcId, NodeId};
 use std::marker::Model;
 
-/// A network in which the flow of each arc goes from 0 to its width, its capacity, and a loop has no width.
+/// A network in which the flow of each arc lies between 0 and its width (capacity), and a loop has
+/// width 0.
 ///
-/// Nodes and arcs are numbered from 1. A clause sees the network: its problem, its arcs in order, with
-/// low 0 and the width as cap, and the supplies of its nodes in order.
+/// Nodes and arcs are numbered from 1. Clauses see the network: its problem, its arcs in order,
+/// with lower bound 0 and the width as capacity, and the supplies of its nodes in order.
 #[derive(Drop)]
 pub struct Net {
     pub(crate) problem: Problem,
     pub(crate) links: Links,
     pub(crate) widths: Vec<i64>,
     pub(crate) supplies: Vec<i128>,
-    // How many unused entries stand in `outs` behind those of each node.
+    // The number of unused entries in `outs` after those of each node.
     pub(crate) gap: u32,
     pub(crate) firsts: Vec<u32>,
     pub(crate) outs: Vec<PackedRid>,
@@ -46,7 +47,7 @@ impl Model for Net {
 }
 
 impl Net {
-    /// The problem of the instance of which this is the net.
+    /// The problem of the instance that this is the net of.
     pub fn problem(&self) -> Problem
         ensures value { result ≡ self.now.problem }
         ensures of_net { IsNet self.now }
@@ -54,7 +55,7 @@ impl Net {
         self.problem
     }
 
-    /// How many nodes there are, at most 1,000,000.
+    /// The number of nodes, at most 1,000,000.
     pub fn node_count(&self) -> u32
         ensures value { result ≡ node_count self.now }
         ensures of_net { IsNet self.now }
@@ -62,7 +63,7 @@ impl Net {
         self.supplies.len() as u32
     }
 
-    /// How many arcs there are, at most 10,000,000.
+    /// The number of arcs, at most 10,000,000.
     pub fn arc_count(&self) -> u32
         ensures value { result ≡ length self.now.arcs }
         ensures of_net { IsNet self.now }
@@ -82,7 +83,7 @@ impl Net {
         (NodeId::new(link.src), NodeId::new(link.dst))
     }
 
-    /// The width of an arc, its capacity, from 0 to 2 * 10^18: the most that it can carry.
+    /// The width (capacity) of an arc, from 0 to 2 * 10^18: the most that it can carry.
     pub fn width(&self, k: ArcId) -> i128
         requires { IsArcNumber self.now k }
         ensures value { result ≡ (arc_at self.now k).cap }
@@ -91,7 +92,7 @@ impl Net {
         i128::from(width_at(&self.widths, k.place()))
     }
 
-    /// The cost of each unit on an arc, at most 10^15 from 0.
+    /// The cost per unit on an arc, at most 10^15 from 0.
     pub fn cost(&self, k: ArcId) -> i128
         requires { IsArcNumber self.now k }
         ensures value { result ≡ (arc_at self.now k).cost }
@@ -121,7 +122,7 @@ impl Net {
         if r.back { (dst, src) } else { (src, dst) }
     }
 
-    /// The cost of each unit along a residual arc: that of the arc, or its opposite backward.
+    /// The cost per unit along a residual arc: the arc's cost forward, its opposite backward.
     pub fn unit_cost(&self, r: Rid) -> i128
         requires { IsArcNumber self.now r.arc }
         ensures value { result ≡ unit_cost self.now r }

@@ -10,7 +10,7 @@ use mcf_text::{NoMemory, NodeId, copies};
 use std::alloc::Global;
 use std::marker::Model;
 
-/// A set of nodes of a net. A clause sees its table: for each node whether it is in the set.
+/// A set of nodes of a net. Clauses see its table: for each node whether it is in the set.
 #[derive(Drop)]
 pub struct NodeSet {
     marks: Vec<bool>,
@@ -34,7 +34,7 @@ impl NodeSet {
     ///
     /// # Errors
     ///
-    /// Want of memory; a net without nodes wants none.
+    /// `NoMemory` if an allocation is refused; a net without nodes needs none.
     pub fn new(alloc: Global, net: &Net) -> Result<NodeSet, NoMemory>
         ensures value { IfOk result (λ set. set ≡ no_nodes (node_count net.now)) }
         ensures wants { OnErr result (1 ≤ node_count net.now) }
@@ -43,7 +43,7 @@ impl NodeSet {
         Ok(NodeSet { marks, count: 0 })
     }
 
-    /// How many nodes are in the set, at most 1,000,000.
+    /// The number of nodes in the set, at most 1,000,000.
     pub fn len(&self) -> u32
         ensures value { result ≡ member_count self.now }
         ensures small { length self.now ≤ node_limit }
@@ -71,7 +71,7 @@ impl NodeSet {
         }
     }
 
-    /// Takes all nodes out of the set.
+    /// Removes all nodes from the set.
     pub fn clear(&mut self)
         ensures { self.new ≡ no_nodes (length self.old) }
     {

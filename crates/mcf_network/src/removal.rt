@@ -1,4 +1,4 @@
-//! Lower bounds taken away.
+//! Removal of lower bounds.
 ghost use Rattle.std.specs.Prelude.{◌≡◌, ◌≤◌, IfOk, IfSome, OnErr, OnOk, length, map};
 ghost use Rattle.std.specs.List.{range_with_len};
 ghost use Rattle.mcf_flows.specs.Limits.{limits};
@@ -20,13 +20,13 @@ use std::alloc::Global;
 use std::rc::Rc;
 
 impl Net {
-    /// The net of an instance: each arc keeps its number, its ends and its cost; its width is its cap less
-    /// its low, or 0 for a loop; the supplies are those left when each arc carries its low (Ahuja,
-    /// Magnanti and Orlin, Network Flows, section 2.4).
+    /// The net of an instance: each arc keeps its number, its ends and its cost; its width is its
+    /// capacity less its lower bound, or 0 for a loop; the supplies are those left when each arc
+    /// carries its lower bound (Ahuja, Magnanti and Orlin, Network Flows, section 2.4).
     ///
     /// # Errors
     ///
-    /// Want of memory; an instance without nodes wants none.
+    /// `NoMemory` if an allocation is refused; an instance without nodes needs none.
     pub fn of(alloc: Global, instance: &Instance) -> Result<Net, NoMemory>
         ensures value { IfOk result (λ made. made ≡ net_of instance.now) }
         ensures of_net { IfOk result IsNet }
@@ -50,8 +50,8 @@ impl Net {
     }
 }
 
-// The links and the widths of the arcs without their lows, and what is left of the supplies. Where an assignment shares its arcs, all
-// stays as it is, and no arc is looked at.
+// The links and the widths of the arcs without their lower bounds, and the remaining supplies. If
+// an assignment shares its arcs, nothing changes, and no arc is read.
 fn links_of(
     alloc: Global,
     instance: &Instance,
@@ -79,7 +79,8 @@ fn shared_links(instance: &Instance) -> Option<Rc<Vec<Link>>>
     }
 }
 
-// The links and the widths of the arcs without their lows, which leaves of the supplies what each node still has to send, in one pass.
+// The links and the widths of the arcs without their lower bounds, in one pass that also reduces
+// the supplies to what each node still has to send.
 fn arcs_without_lows(
     alloc: Global,
     instance: &Instance,
@@ -103,7 +104,7 @@ fn arcs_without_lows(
     Ok((links, widths))
 }
 
-// The arc with its low taken away, and its width.
+// The arc without its lower bound, and its width.
 fn without_low(a: Arc) -> (Link, i64)
     requires { IsArcWithinLimits limits a }
     ensures { stored_arc result.0 result.1 ≡ without_low a }

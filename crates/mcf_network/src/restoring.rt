@@ -1,4 +1,4 @@
-//! Lower bounds put back.
+//! Restoration of lower bounds.
 ghost use Rattle.std.specs.Prelude.{◌≡◌, ◌+ℤ◌, ◌≤◌, ◌≤ℤ◌, ◌↔◌, ◌-◌, ℤ, List, IfOk, OnErr, Some, length, pos, slice_get};
 ghost use Rattle.mcf_flows.specs.Flow.{IsFeasible, Shows, cost};
 ghost use Rattle.mcf_flows.specs.Limits.{limits};
@@ -14,15 +14,16 @@ use mcf_flows::{Arc, Instance};
 use mcf_text::{ArcId, NoMemory};
 use std::alloc::Global;
 
-/// The flow of an instance for which a state of its net without surplus stands: its low and the amount on
-/// each arc that is no loop; a loop of negative cost carries its cap, every other loop its low.
+/// The flow of an instance that a state of its net without surplus stands for: each arc that is no
+/// loop carries its lower bound and the amount; a loop of negative cost carries its capacity, every
+/// other loop its lower bound.
 ///
-/// It is feasible, prices show it exactly where they show the state, and it costs what the state costs and an amount
-/// that is the same for all states.
+/// It is feasible, prices show it exactly if they show the state, and it costs as much as the
+/// state, plus a constant that is the same for all states.
 ///
 /// # Errors
 ///
-/// Want of memory; an instance without arcs wants none.
+/// `NoMemory` if an allocation is refused; an instance without arcs needs none.
 pub fn restore(alloc: Global, instance: &Instance, state: &State<'_>) -> Result<Vec<i128>, NoMemory>
     requires of_net { state.now.net ≡ net_of instance.now }
     requires no_surplus { HasNoSurplus state.now }
@@ -32,7 +33,7 @@ pub fn restore(alloc: Global, instance: &Instance, state: &State<'_>) -> Result<
     ensures cost { IfOk result (λ flow. cost instance.now.arcs flow.items ≡ cost state.now.net.arcs state.now.amounts +ℤ fixed_cost instance.now.arcs) }
     ensures wants { OnErr result (1 ≤ length instance.now.arcs) }
 {
-    // Called for its clause alone: each amount is from 0 to the width of its arc.
+    // Called only for its clause: each amount lies between 0 and the width of its arc.
     let _net = state.net();
     let count = instance.arc_count();
     let mut flow = Vec::with_capacity(alloc, count as usize)?;
@@ -42,7 +43,7 @@ pub fn restore(alloc: Global, instance: &Instance, state: &State<'_>) -> Result<
     Ok(flow)
 }
 
-/// What an arc carries in that flow: of the flow that `restore` lists, the entry of this arc.
+/// The flow of one arc there: the entry of this arc in the list that `restore` gives.
 pub fn restored_amount(instance: &Instance, state: &State<'_>, k: ArcId) -> i128
     requires of_net { state.now.net ≡ net_of instance.now }
     requires arc { IsArcNumber instance.now k }
@@ -52,7 +53,7 @@ pub fn restored_amount(instance: &Instance, state: &State<'_>, k: ArcId) -> i128
     restored_flow(instance.arc(k), amount)
 }
 
-// What an arc carries where the arc of the net carries an amount.
+// The flow of an arc, if the arc of the net carries this amount.
 fn restored_flow(a: Arc, amount: i128) -> i128
     requires arc { IsArcWithinLimits limits a }
     requires low { pos 0 ≤ℤ amount }

@@ -4,14 +4,16 @@ ghost use Rattle.std.specs.Prelude.{◌≡◌, ◌^◌, ◌<◌};
 use mcf_text::ArcId;
 use std::marker::Model;
 
-/// A residual arc: an arc, forward or backward (Ahuja, Magnanti and Orlin, Network Flows, section 2.4).
+/// A residual arc: an arc, forward or backward (Ahuja, Magnanti and Orlin, Network Flows, section
+/// 2.4).
 #[derive(Clone, Copy, Debug, PartialEq, Eq)]
 pub struct Rid {
     pub arc: ArcId,
     pub back: bool,
 }
 
-/// A residual arc in four bytes, as the star of a net keeps it: twice the number of the arc, and one more for backward.
+/// A residual arc in four bytes, as the star of a net stores it: twice the number of the arc, plus
+/// one for backward.
 #[derive(Clone, Copy, Debug, PartialEq, Eq)]
 pub(crate) struct PackedRid {
     code: u32,
@@ -53,7 +55,7 @@ impl PackedRid {
         }
     }
 
-    /// The residual arc that it is.
+    /// The residual arc that this stands for.
     pub(crate) fn get(self) -> Rid
         ensures { result ≡ self }
     {

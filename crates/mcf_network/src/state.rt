@@ -14,10 +14,10 @@ use mcf_text::{ArcId, NoMemory, NodeId};
 use std::alloc::Global;
 use std::marker::Model;
 
-/// A state of a net, a pseudoflow: for each arc an amount from 0 to its width, and for each node its surplus, its
-/// excess, which is its supply less the net of the amounts.
+/// A state of a net (a pseudoflow): for each arc an amount between 0 and its width, and for each
+/// node its surplus (excess), which is its supply less the net outflow of the amounts.
 ///
-/// A clause sees the net and the amounts.
+/// Clauses see the net and the amounts.
 #[derive(Drop)]
 pub struct State<'n> {
     net: &'n Net,
@@ -42,7 +42,7 @@ impl<'n> State<'n> {
     ///
     /// # Errors
     ///
-    /// Want of memory; a net without nodes wants none.
+    /// `NoMemory` if an allocation is refused; a net without nodes needs none.
     pub fn zero(alloc: Global, net: &'n Net) -> Result<State<'n>, NoMemory>
         ensures value { IfOk result (λ s. s ≡ record { net = net.now; amounts = replicate (length net.now.arcs) (pos 0) }) }
         ensures valid { IfOk result IsPseudoflow }
@@ -76,7 +76,8 @@ impl<'n> State<'n> {
         i128::from(self.amounts.get(k.place()))
     }
 
-    /// The surplus of a node, its excess: its supply less the net of the amounts, at most 2 * 10^26 from 0.
+    /// The surplus (excess) of a node: its supply less the net outflow of the amounts, at most 2 *
+    /// 10^26 from 0.
     pub fn surplus(&self, v: NodeId) -> i128
         requires { IsNode (node_count self.now.net) v }
         ensures value { result ≡ surplus_at self.now v }
@@ -86,8 +87,8 @@ impl<'n> State<'n> {
         self.surpluses[v.place()]
     }
 
-    /// The room of a residual arc, its residual capacity: how much more it can carry, from 0 to 2 * 10^18. That is the
-    /// amount of the arc backward, else its width less its amount.
+    /// The room (residual capacity) of a residual arc: how much more it can carry, from 0 to 2 *
+    /// 10^18. Backward it is the amount of the arc, forward its width less its amount.
     pub fn room(&self, r: Rid) -> i128
         requires { IsArcNumber self.now.net r.arc }
         ensures value { result ≡ room_of self.now r }
@@ -102,8 +103,8 @@ impl<'n> State<'n> {
         }
     }
 
-    /// Pushes an amount along a residual arc that has room for it: so much surplus moves from its tail to its head, and
-    /// nothing else changes.
+    /// Pushes an amount along a residual arc that has room for it: this much surplus moves from its
+    /// tail to its head, and nothing else changes.
     pub fn push(&mut self, r: Rid, amount: i128)
         requires arc { IsArcNumber self.old.net r.arc }
         requires low { pos 0 ≤ℤ amount }

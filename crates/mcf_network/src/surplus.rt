@@ -1,4 +1,4 @@
-//! What the nodes have left to send.
+//! The surplus (excess) of the nodes.
 ghost use Rattle.std.specs.Prelude.{◌≡◌, ◌+ℤ◌, ◌-ℤ◌, ◌*◌, ◌==◌, ℕ, length};
 ghost use Rattle.mcf_flows.specs.Network.{IsNode, at_node, when};
 ghost use Rattle.mcf_flows.specs.WellFormed.{IsUpTo};
@@ -6,7 +6,7 @@ ghost use Rattle.mcf_network.specs.Private.Surpluses.{surplus_reach};
 
 use mcf_text::NodeId;
 
-/// Moves `x` of what one node has left to send to another. Nothing is looked up where nothing moves.
+/// Moves `x` of the surplus of one node to another. If `x` is 0, nothing is read.
 pub(crate) fn move_surplus(surpluses: &mut Vec<i128>, from: NodeId, to: NodeId, x: i128)
     requires from { IsNode (length surpluses.old.items) from }
     requires to { IsNode (length surpluses.old.items) to }
@@ -23,7 +23,7 @@ pub(crate) fn move_surplus(surpluses: &mut Vec<i128>, from: NodeId, to: NodeId, 
     add_surplus(surpluses, to, x);
 }
 
-// Adds `x` to what a node has left to send.
+// Adds `x` to the surplus of a node.
 fn add_surplus(surpluses: &mut Vec<i128>, u: NodeId, x: i128)
     requires node { IsNode (length surpluses.old.items) u }
     requires x { IsUpTo surplus_reach x }

@@ -8,7 +8,7 @@ ghost use Rattle.mcf_network.specs.Walks.{CanPushAlong, IsWalk, pushed_along, wa
 use crate::rid::Rid;
 use crate::state::State;
 
-/// The least room, or residual capacity, along residual arcs, of which there is one at least.
+/// The least room (residual capacity) along residual arcs, of which there is at least one.
 pub fn room_along(state: &State<'_>, walk: &[Rid]) -> i128
     requires some { 0 < length walk.now }
     requires arcs { All (λ r. IsArcNumber state.now.net r.arc) walk.now }
@@ -24,8 +24,8 @@ pub fn room_along(state: &State<'_>, walk: &[Rid]) -> i128
 
 /// Pushes the same amount along each of some residual arcs that have room for it.
 ///
-/// Where they are a walk, the amount of the surplus moves from its beginning to its end, and the cost of the state
-/// changes by the walk's cost for each unit.
+/// If they form a walk, this much surplus moves from its beginning to its end, and the cost of the
+/// state changes by the walk's cost per unit.
 pub fn push_along(state: &mut State<'_>, walk: &[Rid], amount: i128)
     requires { CanPushAlong state.old walk.now amount }
     ensures value { state.new ≡ pushed_along state.old walk.now amount }
@@ -33,7 +33,7 @@ pub fn push_along(state: &mut State<'_>, walk: &[Rid], amount: i128)
     ensures cost { cost state.old.net.arcs state.new.amounts ≡ cost state.old.net.arcs state.old.amounts +ℤ walk_cost state.old.net walk.now *ℤ amount }
     ensures valid { IsPseudoflow state.new }
 {
-    // Called for its clause alone: each amount is from 0 to the width of its arc.
+    // Called only for its clause: each amount lies between 0 and the width of its arc.
     let _net = state.net();
     for r in walk {
         state.push(*r, amount);

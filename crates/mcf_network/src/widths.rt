@@ -1,5 +1,5 @@
-//! The widths of arcs, which are stored up to one that isn't 1. Each later arc has width 1, so that an
-//! assignment has none that are stored.
+//! The widths of arcs, stored up to the last one that isn't 1. Each later arc has width 1, so that
+//! an assignment stores none.
 ghost use Rattle.std.specs.Prelude.{◌≡◌, ◌<◌, ◌≤◌, OnOk, length};
 ghost use Rattle.mcf_network.specs.Private.Widths.{GainsWidth};
 ghost use Rattle.mcf_network.specs.Stored.{width_at};
@@ -17,7 +17,7 @@ pub(crate) fn width_at(widths: &[i64], place: usize) -> i64
     }
 }
 
-/// Gives the arc at a place its width, where those before it have theirs. There are `count` arcs.
+/// Gives the arc at a place its width, once those before it have theirs. There are `count` arcs.
 pub(crate) fn put_width(
     widths: &mut Vec<i64>,
     place: usize,

@@ -1,9 +1,10 @@
 #![tactic(auto)]
 
-//! Distances of a search in numbers of one width, 64 bits or 128, and the queue of the offers that wait.
+//! Distances of a search in numbers of one width, 64 or 128 bits, and the queue of offers
+//! (tentative distances).
 //!
-//! Code over them is written once; each net chooses the width. It stands on `mcf_text`, and on `mcf_flows` for a bound. Definitions
-//! stand in `specs/`: `Offers` says what waits.
+//! Code for both widths is written once; each net chooses its width. It builds on `mcf_text`, and
+//! on `mcf_flows` for a bound. The definition in `specs/`: `Offers` says what is queued.
 
 mod number;
 mod offers;

@@ -11,7 +11,7 @@ use std::alloc::AllocError;
 use std::cmp::Ordering;
 use std::marker::Model;
 
-/// A number that is stored in one width. A clause sees the number.
+/// A number stored in one width. Clauses see the number.
 pub struct Number<W: Width> {
     stored: W,
 }
@@ -19,7 +19,7 @@ pub struct Number<W: Width> {
 impl<W: Width> Copy for Number<W> {}
 
 impl<W: Width> Clone for Number<W> {
-    /// The number itself, which takes no memory.
+    /// The same number, without any allocation.
     fn clone(&self) -> Result<Number<W>, AllocError>
         ensures { IfOk result (λ made. made ≡ self.now) }
     {
@@ -56,7 +56,7 @@ impl<W: Width> Number<W> {
         self.stored.wide()
     }
 
-    /// The sum, for which there is room.
+    /// The sum, if it fits the width.
     #[inline(always)]
     pub fn plus(self, other: Number<W>) -> Number<W>
         requires { IsUpTo W.room (self +ℤ other) }
@@ -67,7 +67,7 @@ impl<W: Width> Number<W> {
         }
     }
 
-    /// The difference, for which there is room.
+    /// The difference, if it fits the width.
     #[inline(always)]
     pub fn minus(self, other: Number<W>) -> Number<W>
         requires { IsUpTo W.room (self -ℤ other) }

@@ -1,4 +1,4 @@
-//! The offers of a search that wait.
+//! The queued offers of a search.
 ghost use Rattle.std.specs.Prelude.{◌≡◌, ◌<◌, ◌≤◌, ◌≤ℤ◌, ◌∷◌, [], IfNone, IfOk, IfSome, IsSome, OnErr, length};
 ghost use Rattle.std.specs.Bool.{MatchBool};
 ghost use Rattle.std.proofs.Common.{refl, rules};
@@ -16,7 +16,8 @@ use std::cmp::Ordering;
 use std::collections::BinaryHeap;
 use std::marker::Model;
 
-/// A distance that an arc offers to its column. Of two the nearer is the greater.
+/// A distance that an arc offers its column (a tentative distance). Of two offers the nearer one is
+/// the greater.
 #[derive(Drop)]
 pub struct Offer<W: Width> {
     pub dist: Number<W>,
@@ -70,13 +71,13 @@ impl<W: Width> Ord for Offer<W> {
     }
 }
 
-/// The offers of a search that wait: the nearest comes first.
+/// The queued offers of a search: the nearest comes first.
 ///
-/// The nearest stand on a stack, the others in a heap: an offer that is no farther than the last of the stack goes onto it. After an
-/// update of the prices many arcs of a row have reduced cost 0, and what they offer is as near as the row itself: such an offer needn't
-/// go through the heap.
+/// The nearest are on a stack, the others in a heap: an offer that is no farther than the last one
+/// on the stack goes onto it. After an update of the prices many arcs of a row have reduced cost 0,
+/// and what they offer is as near as the row itself: such an offer needn't go through the heap.
 ///
-/// All the room that they need is made in `new`. A clause sees the offers in no order, and for how many there is room.
+/// `new` allocates everything. Clauses see the offers in no order, and for how many there is space.
 #[derive(Drop)]
 pub struct Offers<W: Width> {
     near: Vec<Offer<W>>,
@@ -99,11 +100,11 @@ impl<W: Width> Model for Offers<W> {
 }
 
 impl<W: Width> Offers<W> {
-    /// Room for so many offers, none of which waits, and for some of them on the stack.
+    /// Space for this many offers, none of which is queued, and for some of them on the stack.
     ///
     /// # Errors
     ///
-    /// Want of memory, where a growth was refused; room for none wants none.
+    /// `NoMemory` if an allocation is refused; space for none needs none.
     pub fn new(alloc: Global, near: usize, room: usize) -> Result<Offers<W>, NoMemory>
         ensures none { IfOk result (λ q. q.items ≡ []) }
         ensures room { IfOk result (λ q. room ≤ q.room) }
@@ -115,7 +116,7 @@ impl<W: Width> Offers<W> {
         Ok(Offers { near, heap })
     }
 
-    /// Lets an offer wait.
+    /// Queues an offer.
     #[inline(always)]
     pub fn put(&mut self, offer: Offer<W>)
         requires { length self.old.items < self.old.room }
@@ -129,7 +130,7 @@ impl<W: Width> Offers<W> {
         }
     }
 
-    /// Takes out the offer that comes first, if one waits.
+    /// Takes the offer that comes first, if any is queued.
     pub fn take(&mut self) -> Option<Offer<W>>
         ensures items { IfSome result (λ o. IsPermutation self.old.items (o ∷ self.new.items)) }
         ensures least { IfSome result (λ o. All (λ p. o.dist ≤ℤ p.dist) self.new.items) }
@@ -147,7 +148,7 @@ impl<W: Width> Offers<W> {
         }
     }
 
-    /// Lets none wait.
+    /// Empties the queue.
     pub fn clear(&mut self)
         ensures none { self.new.items ≡ [] }
         ensures room { self.old.room ≤ self.new.room }

@@ -1,4 +1,4 @@
-//! How wide a number is.
+//! The width of a number.
 ghost use Rattle.std.specs.Prelude.{◌≡◌, ◌^◌, ◌-◌, ℕ, ℤ, ◌+ℤ◌, ◌-ℤ◌};
 ghost use Rattle.std.proofs.Common.{refl};
 ghost use Rattle.std.specs.Ordering.{int_cmp};
@@ -14,10 +14,10 @@ pub trait Width: Copy {
     // The integer that stores a number.
     ghost stored: { ℤ → Self };
 
-    // It is the one that stored it.
+    // It is the integer that stored the number.
     ghost undoes: { (x : Self) → stored (value x) ≡ x };
 
-    // How far from 0 a number may lie.
+    // The greatest absolute value of a number.
     ghost room: { ℕ };
 
     /// The integer that stores this number.
@@ -38,7 +38,7 @@ pub trait Width: Copy {
         requires { IsUpTo room (value self -ℤ value other) }
         ensures { value result ≡ value self -ℤ value other };
 
-    /// How the two compare.
+    /// The order of the two.
     fn compare(self, other: Self) -> Ordering
         ensures { result ≡ int_cmp (value self) (value other) };
 }

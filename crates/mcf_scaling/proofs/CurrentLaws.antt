@@ -226,7 +226,8 @@ relabel_current a b c v rise ys star current_arcs first ok same step raised star
     (raised_current a.flow a.prices star current_arcs v rise first ok.flow ok.count node (omega (arith, ints, most))
     (rw is (star_of.rises v node)) (rw is (star_of.lists v node)) current)
 
--- a look at the residual arcs of a node, as the code makes it: its current arc stands at i, the entry is lent, and comes back as new
+-- a look at the residual arcs of a node, as the code makes it: its current arc stands at i, the
+-- entry is lent, and comes back as new
 module _ (a b : Refinement) (star : Star) (current_arcs : List ℕ) (v i entry : ℕ) (same : a ≡ b) (node : IsNodeOf b v) (read : i ≡ v - 1)
     (current : AreCurrentArcs a.flow a.prices star current_arcs) (lent : entry ≡ get_or current_arcs i entry) where
   here : IsNodeOf a v

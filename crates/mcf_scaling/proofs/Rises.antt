@@ -173,7 +173,8 @@ module _ (s : Pseudoflow) (first : List ℤ) (before prices : List ℤ) (e : ℕ
   abbrev n : ℕ
   n = node_count s.net
 
-  -- along an arc that carries less than at the beginning the rise falls by at most 3e, and backward along one that carries more
+  -- along an arc that carries less than at the beginning the rise falls by at most 3e, and backward
+  -- along one that carries more
   forward : (k : ℕ) → IsArcNumber s.net k → amount_at s k <ℤ amount_at (record s { amounts = first }) k
       → (at_node prices (arc_at s.net k).src -ℤ at_node before (arc_at s.net k).src) ≤ℤ
       ((at_node prices (arc_at s.net k).dst -ℤ at_node before (arc_at s.net k).dst) +ℤ pos (3 * e))

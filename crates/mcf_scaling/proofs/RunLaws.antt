@@ -25,7 +25,7 @@ use Rattle.mcf_scaling.proofs.StepLaws.{filled_optimal, pushed_optimal, pushed_t
 half : (k : ℕ) → 2 ^ suc k ≡ 2 * 2 ^ k
 half k = omega (arith, pow-suc 2 k)
 
--- no node has a surplus where none is active
+-- no node has a surplus if none is active
 pub no_surplus_of_rest : (a : Refinement) → IsRefinement a → ((v : ℕ) → ¬ IsActive a v) → HasNoSurplus a.flow
 no_surplus_of_rest a ok rest =
     let (first, origin) = ok.origin in

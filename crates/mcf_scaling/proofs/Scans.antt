@@ -25,7 +25,8 @@ abbrev pub IsAtMost : Option ℤ → ℤ → Type 0
 IsAtMost None z = ⊥
 IsAtMost (Some x) z = x ≤ℤ z
 
--- the least reduced cost of the residual arcs with room that leave the node, but those still to come
+-- the least reduced cost of the residual arcs with room that leave the node, but those still to
+-- come
 pub record IsLeastSoFar (s : Pseudoflow) (prices : List ℤ) (v : ℕ) (least : Option ℤ) (rest : List Rid) : Type 0 where
   pub leaves : All (Leaves s.net v) rest
   pub each : (r : Rid) → HasRoom s r → tail s.net r ≡ v → IsAtMost least (scaled_reduced s.net prices r) ⊎ Contains rest r

@@ -118,7 +118,7 @@ filled_optimal s s' prices e filled r room =
     (λ less. absurd (let none = filled.full r arc less in let some = room.room in omega (arith, ints, none, some)))
     (λ p. omega (arith, ints, p, same))
 
--- the surpluses of all nodes add up to the supplies
+-- the surpluses of all nodes sum to the supplies
 surplus_total : (s : Pseudoflow) → IsPseudoflow s → node_sum (surplus_at s) (node_count s.net) ≡ node_sum (at_node s.net.supplies) (node_count s.net)
 surplus_total s ok =
     let apart = node_sum-sub (at_node s.net.supplies) (net s.net.arcs s.amounts) (node_count s.net) in

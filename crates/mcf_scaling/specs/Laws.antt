@@ -9,8 +9,8 @@ use Rattle.mcf_scaling.specs.Optimality.{IsOptimalWithin}
 use Rattle.mcf_scaling.specs.Phases.{IsPush, IsRelabel, Run, relabels}
 use Rattle.mcf_scaling.specs.Refinements.{Refinement, IsNodeOf, IsRefinement}
 
--- from a state without surplus that is 2e-optimal no price of an active node has risen by more than 3ne, where the
--- state at hand is e-optimal and no node that takes has been given another price
+-- from a state without surplus that is 2e-optimal no price of an active node has risen by more than
+-- 3ne, where the state at hand is e-optimal and no node that takes has been given another price
 abbrev pub PricesRiseLittle : Type 0
 PricesRiseLittle =
     (s : Pseudoflow) (first : List ℤ) (before prices : List ℤ) (e : ℕ) → IsPseudoflow s → IsPseudoflow (record s { amounts = first }) → HasNoSurplus
@@ -23,14 +23,15 @@ abbrev pub NearlyLeastHaveNoCycle : Type 0
 NearlyLeastHaveNoCycle =
     (s : Pseudoflow) (prices : List ℤ) (walk : List Rid) → IsPseudoflow s → IsOptimalWithin 1 s prices → ¬ IsNegativeCycle s walk
 
--- whatever was reached by steps from a refinement is one, and in the phase at hand no node was relabelled more than
--- 3n times
+-- whatever was reached by steps from a refinement is one, and in the phase at hand no node was
+-- relabelled more than 3n times
 abbrev pub RunsKeepBounds : Type 0
 RunsKeepBounds =
     (a b : Refinement) (k : ℕ) (run : Run a b k) → IsRefinement a → IsRefinement b ×
     ((v : ℕ) → IsNodeOf b v → relabels run v ≤ 3 * node_count b.flow.net) × (a.scale ≡ b.scale + k)
 
--- a measure that each push and each relabel lowers: so a phase ends, in whichever order its steps are taken
+-- a measure that each push and each relabel lowers: so a phase ends, in whichever order its steps
+-- are taken
 abbrev pub PhasesEnd : Type 0
 PhasesEnd =
     (height : Refinement → ℕ) × ((a b : Refinement) (r : Rid) → IsRefinement a → IsPush a b r → height b < height a) ×

@@ -25,8 +25,8 @@ pub record IsPush (a b : Refinement) (r : Rid) : Type 0 where
   pub active : IsActive a (tail a.flow.net r)
   pub pushes : b ≡ record a { flow = pushed a.flow r (int_min (surplus_at a.flow (tail a.flow.net r)) (room_of a.flow r)); steps = record a.steps { pushes = suc a.steps.pushes } }
 
--- an active node that no admissible residual arc leaves is raised by e and the least reduced cost of the residual arcs
--- with room that leave it
+-- an active node that no admissible residual arc leaves is raised by e and the least reduced cost
+-- of the residual arcs with room that leave it
 pub record IsRelabel (a b : Refinement) (v : ℕ) (rise : ℤ) : Type 0 where
   pub active : IsActive a v
   pub stuck : (r : Rid) → tail a.flow.net r ≡ v → ¬ IsAdmissible a.flow a.prices r
@@ -70,8 +70,8 @@ EachPhaseSettles (begin {b = b} run step) = EachPhaseSettles run × IsSettled b
 EachPhaseSettles (push run step) = EachPhaseSettles run
 EachPhaseSettles (relabel run step) = EachPhaseSettles run
 
--- what was reached is e-optimal, and in the phase at hand no price has risen by more than 3ne and no node was relabelled
--- more than 3n times
+-- what was reached is e-optimal, and in the phase at hand no price has risen by more than 3ne and
+-- no node was relabelled more than 3n times
 -- Source: AMO 10.3
 pub record IsBounded {a b : Refinement} {k : ℕ} (run : Run a b k) : Type 0 where
   pub optimal : IsOptimalWithin (within b) b.flow b.prices

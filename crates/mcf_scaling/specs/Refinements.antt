@@ -1,4 +1,5 @@
--- What a refinement holds, and what it keeps (Goldberg and Tarjan; Ahuja, Magnanti and Orlin, Network Flows, section 10.3).
+-- What a refinement holds, and what it keeps (Goldberg and Tarjan; Ahuja, Magnanti and Orlin,
+-- Network Flows, section 10.3).
 -- Source: AMO 10.3
 use Rattle.std.specs.Prelude.{◌≡◌, ℕ, ◌*◌, ◌^◌, ◌≤◌, List, length, ℤ, pos, ◌+ℤ◌, ◌-ℤ◌, ◌≤ℤ◌, ◌<ℤ◌}
 use Rattle.mcf_flows.specs.Network.{IsNode, at_node, node_count}
@@ -16,7 +17,8 @@ pub record StepCounts : Type 0 where
 abbrev pub no_steps : StepCounts
 no_steps = record { phases = 0; pushes = 0; relabels = 0 }
 
--- a state, the prices of its nodes, those prices at the beginning of the phase, the scale: e is 2 to this power, and the steps since the start
+-- a state, the prices of its nodes, those prices at the beginning of the phase, the scale: e is 2
+-- to this power, and the steps since the start
 pub record Refinement : Type 0 where
   pub flow : Pseudoflow
   pub prices : List ℤ

@@ -6,7 +6,7 @@ use Rattle.mcf_flows.specs.Network.{Network, node_count}
 use Rattle.mcf_network.specs.States.{Pseudoflow}
 use Rattle.mcf_scaling.specs.Refinements.{Refinement, no_steps}
 
--- the greatest size of the cost of an arc, 0 without arcs
+-- the greatest absolute value of the cost of an arc, 0 without arcs
 abbrev pub greatest_cost : List Arc → ℕ
 greatest_cost [] = 0
 greatest_cost (a ∷ arcs) = max (unsigned_abs a.cost) (greatest_cost arcs)

@@ -1,4 +1,4 @@
-//! The residual arcs of a node that are still to be looked at: those from its current arc on.
+//! The residual arcs of a node that are still to be scanned: those from its current arc on.
 ghost use Rattle.std.specs.Prelude.{◌≡◌, ◌≤◌, ◌⊎◌, [], IfNone, IfOk, IfSome, OnErr};
 ghost use Rattle.std.specs.List.{All, Contains};
 ghost use Rattle.mcf_flows.specs.Network.{IsNode, node_count};
@@ -14,8 +14,8 @@ use mcf_network::{Net, Rid, State};
 use mcf_text::{NoMemory, NodeId};
 use std::alloc::Global;
 
-/// The first residual arc with room and negative reduced cost of those that are still to be looked at. Those before
-/// it are looked at no more.
+/// The first residual arc with room and negative reduced cost, from the current arc on. Those
+/// before it aren't scanned again.
 pub(crate) fn next_admissible(
     state: &State<'_>,
     prices: &[i128],

@@ -1,4 +1,5 @@
-//! A mark for each position of the forward star, which says whether the residual arc there has capacity.
+//! A mark for each position of the forward star, which says whether the residual arc there has
+//! capacity.
 ghost use Rattle.std.specs.Prelude.{◌≡◌, length};
 ghost use Rattle.std.specs.Bool.{OnFalse, OnTrue};
 ghost use Rattle.mcf_flows.specs.Network.{IsArcNumber};

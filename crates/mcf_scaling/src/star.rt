@@ -1,4 +1,5 @@
-//! The forward star: the residual arcs that leave each node, side by side, as a scan reads them, and the position of each.
+//! The forward star: the residual arcs that leave each node, contiguous, as a scan reads them, and
+//! the position of each.
 ghost use Rattle.std.specs.Prelude.{◌≡◌, ◌-◌, ◌*◌, ◌^◌, ◌<◌, ◌≤◌, [], IfOk, OnErr, length};
 ghost use Rattle.std.specs.List.{All};
 ghost use Rattle.mcf_flows.specs.Limits.{arc_limit};
@@ -10,31 +11,31 @@ use mcf_text::{ArcId, NoMemory, NodeId, copies};
 use std::alloc::Global;
 use std::marker::Model;
 
-/// What a scan reads of a residual arc. 16 bytes.
+/// What a scan reads of a residual arc, in 16 bytes.
 #[derive(Clone, Copy)]
 pub(crate) struct ResidualArc {
-    // the cost of each unit along it
+    // The cost per unit along it.
     pub(crate) cost: i64,
-    // the node that it enters
+    // The node that it enters.
     pub(crate) head: u32,
-    // its number: an arc has an even one forward, and the next one backward
+    // Its number: an arc has an even one forward, and the next one backward.
     pub(crate) link: u32,
 }
 
-/// The positions of the residual arcs that leave a node: the first, and the end behind the last.
+/// The positions of the residual arcs that leave a node: the first, and the end after the last.
 #[derive(Clone, Copy)]
 pub(crate) struct Span {
     pub(crate) first: usize,
     pub(crate) end: usize,
 }
 
-/// The forward star of a net: its residual arcs, those that leave one node after those that leave another, with what
-/// doesn't change of each.
+/// The forward star of a net: its residual arcs, one node after another, with what doesn't change
+/// of each.
 #[derive(Drop)]
 pub(crate) struct ForwardStar {
     spans: Vec<Span>,
     outs: Vec<ResidualArc>,
-    // for each number of a residual arc its position among `outs`
+    // For each number of a residual arc its position in `outs`.
     positions: Vec<u32>,
 }
 
@@ -67,7 +68,7 @@ impl ForwardStar {
         })
     }
 
-    /// How many residual arcs there are.
+    /// The number of residual arcs.
     pub(crate) fn count(&self) -> usize
         ensures { result ≡ length self.now.outs }
     {
@@ -90,7 +91,7 @@ impl ForwardStar {
         self.outs[position]
     }
 
-    /// The position of the residual arc of a number.
+    /// The position of the residual arc with this number.
     pub(crate) fn position(&self, link: usize) -> usize
         requires { link < length self.now.positions }
         ensures { result ≡ position_of self.now.positions link }
@@ -112,7 +113,7 @@ fn write_positions(outs: &[ResidualArc], positions: &mut Vec<u32>)
     }
 }
 
-/// The residual arc of a number.
+/// The residual arc with this number.
 pub(crate) fn residual_of(link: u32) -> Rid
     ensures { result ≡ residual_of link }
 {
@@ -148,7 +149,7 @@ fn link_of(arc: ArcId, back: bool) -> u32
     if back { forward + 1 } else { forward }
 }
 
-// Puts the residual arcs that leave a node behind the others, and the span of their positions behind the other spans.
+// Appends the residual arcs that leave a node, and the span of their positions.
 fn put_leaving(
     net: &Net,
     spans: &mut Vec<Span>,

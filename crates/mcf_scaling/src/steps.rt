@@ -5,7 +5,7 @@ ghost use Rattle.mcf_scaling.specs.Refinements.{no_steps};
 use mcf_counts::Count;
 use std::marker::Model;
 
-/// How many phases were begun, and how many pushes and relabels were made: for clauses alone, in no bytes.
+/// The numbers of phases, pushes and relabels: only for clauses, in no bytes.
 #[derive(Drop)]
 pub(crate) struct Steps {
     phases: Count,
@@ -33,21 +33,21 @@ impl Steps {
         }
     }
 
-    /// A phase more was begun.
+    /// One more phase was begun.
     pub(crate) fn begin(&mut self)
         ensures { self.new ≡ record self.old { phases = suc self.old.phases } }
     {
         self.phases.add_one();
     }
 
-    /// A push more was made.
+    /// One more push was made.
     pub(crate) fn push(&mut self)
         ensures { self.new ≡ record self.old { pushes = suc self.old.pushes } }
     {
         self.pushes.add_one();
     }
 
-    /// A relabel more was made.
+    /// One more relabel was made.
     pub(crate) fn relabel(&mut self)
         ensures { self.new ≡ record self.old { relabels = suc self.old.relabels } }
     {

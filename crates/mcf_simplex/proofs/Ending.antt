@@ -38,7 +38,8 @@ written n xs ys e = ap (λ k. take k (xs ++ ys)) e ∙ take-append_seam xs ys
 -- ---- the last basis
 
 module _ (b : TreeStructure) (ok : IsBasis b) (last : HasNoEligible b) where
-  -- where no artificial arc carries anything, the flow is least, and the prices of the basis show it
+  -- where no artificial arc carries anything, the flow is least, and the prices of the basis show
+  -- it
   module _ (clear : HasNoArtificial b) where
     own_flow : IsPseudoflow (state_of b)
     own_flow = record { of_net = ok.of_net; within_bounds = (last_bases_are_shown_lem b ok last clear).0.within_bounds }

@@ -155,7 +155,7 @@ none_of_round b start low high none k el =
           none (k - start) (omega arith) (omega arith) (subst (IsEligible b) (sym same) el))
     ]
 
--- so many arcs of the round were passed, in whole blocks, and none of them is eligible
+-- this many arcs of the round were passed, in whole blocks, and none of them is eligible
 pub record IsPassed (b : TreeStructure) (size start passed : ℕ) : Type 0 where
   pub blocks : ℕ
   pub whole : passed ≡ min (blocks * size) (length b.net.arcs)

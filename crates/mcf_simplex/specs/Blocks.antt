@@ -1,5 +1,6 @@
--- Block pricing (akin to the candidate list of Ahuja, Magnanti and Orlin, Network Flows, section 11.5). The arcs are gone round once, from the
--- one behind the block that gave the last pick, in blocks of a size: the first block that has an eligible arc gives the one of greatest violation.
+-- Block pricing (akin to the candidate list of Ahuja, Magnanti and Orlin, Network Flows, section
+-- 11.5). The arcs are gone round once, from the one behind the block that gave the last pick, in
+-- blocks of a size: the first block that has an eligible arc gives the one of greatest violation.
 -- Source: AMO 11.5 (candidate list), the round own
 use Rattle.std.specs.Prelude.{◌≡◌, ℕ, ◌+◌, ◌-◌, ◌*◌, ◌<◌, ◌≤◌, ◌⊎◌, nat_le, min, length, Option, Some, None, if◌then◌else◌}
 use Rattle.mcf_basis.specs.Pivots.{IsEligible}
@@ -11,7 +12,7 @@ pub record BlockRule : Type 0 where
   pub size : ℕ
   pub next : ℕ
 
--- with which arc of so many a pick begins: the first one, where there is no arc of the number
+-- with which arc of this many a pick begins: the first one, if there is no arc of the number
 abbrev pub start_arc : ℕ → ℕ → ℕ
 start_arc arcs next = if nat_le next arcs then next else 1
 
@@ -27,8 +28,8 @@ round_arc b start place = arc_in_round (length b.net.arcs) start place
 abbrev pub block_end : ℕ → ℕ → ℕ → ℕ
 block_end arcs size place = min (place + size) arcs
 
--- of the arcs at the places from begin up to but not including end the eligible one of greatest violation, and of those of the same
--- violation the one that is met first
+-- of the arcs at the places from begin up to but not including end the eligible one of greatest
+-- violation, and of those of the same violation the one that is met first
 pub record IsInBlock (b : TreeStructure) (start begin end k : ℕ) : Type 0 where
   pub place : ℕ
   pub low : begin ≤ place
@@ -42,12 +43,13 @@ pub record IsInBlock (b : TreeStructure) (start begin end k : ℕ) : Type 0 wher
 abbrev pub HasNoneInRound : TreeStructure → ℕ → ℕ → ℕ → Type 0
 HasNoneInRound b start begin end = (p : ℕ) → begin ≤ p → p < end → ¬ IsEligible b (round_arc b start p)
 
--- what the arcs at these places give: the one of greatest violation, or none where none is eligible
+-- what the arcs at these places give: the one of greatest violation, or none if none is eligible
 abbrev pub IsRoundPick : TreeStructure → ℕ → ℕ → ℕ → Option ℕ → Type 0
 IsRoundPick b start begin end (Some k) = IsInBlock b start begin end k
 IsRoundPick b start begin end None = HasNoneInRound b start begin end
 
--- after some whole blocks without an eligible arc the next block gives k; the next pick begins behind this block
+-- after some whole blocks without an eligible arc the next block gives k; the next pick begins
+-- behind this block
 pub record IsFound (b : TreeStructure) (old : BlockRule) (start k : ℕ) (new : BlockRule) : Type 0 where
   pub blocks : ℕ
   pub passed : HasNoneInRound b start 0 (blocks * old.size)

@@ -15,7 +15,8 @@ abbrev pub IsFirstPick : TreeStructure → Option ℕ → Type 0
 IsFirstPick b (Some k) = IsFirst b k
 IsFirstPick b None = HasNoEligible b
 
--- the eligible arc of greatest violation, and of those of the same violation the one of least number
+-- the eligible arc of greatest violation, and of those of the same violation the one of least
+-- number
 pub record IsBest (b : TreeStructure) (k : ℕ) : Type 0 where
   pub eligible : IsEligible b k
   pub greatest : (j : ℕ) → IsEligible b j → violation b j ≤ violation b k

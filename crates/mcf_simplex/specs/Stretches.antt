@@ -1,6 +1,7 @@
--- Block pricing for large nets. The arcs stand in four stretches, one after another and of one length but for the last, and a stretch in blocks of a
--- size. Turns go round the stretches: the first block of each, then the second of each, and so on. So blocks that are looked at one after another lie
--- far apart, as in the mixed order of the arcs of LEMON's network simplex.
+-- Block pricing for large nets. The arcs stand in four stretches, one after another and of one
+-- length but for the last, and a stretch in blocks of a size. Turns go round the stretches: the
+-- first block of each, then the second of each, and so on. So blocks that are looked at one after
+-- another lie far apart, as in the mixed order of the arcs of LEMON's network simplex.
 -- Source: own, akin to AMO 11.5
 use Rattle.std.specs.Prelude.{◌≡◌, ℕ, ◌+◌, ◌-◌, ◌*◌, ◌/◌, ◌%◌, ◌^◌, ◌<◌, ◌≤◌, min, max, nat_le, length, Option, Some, None, if◌then◌else◌}
 use Rattle.std.specs.Int.{div_ceil}
@@ -16,7 +17,8 @@ pub record WideRule : Type 0 where
 abbrev pub IsRoot : ℕ → ℕ → Type 0
 IsRoot n root = (root * root ≤ n) × (n < (root + 1) * (root + 1))
 
--- the rule for so many arcs that has picked nothing: its blocks have the root of twice their number, rounded down, but 256 arcs at least
+-- the rule for this many arcs that has picked nothing: its blocks have the root of twice their
+-- number, rounded down, but 256 arcs at least
 pub record IsWideFor (arcs : ℕ) (rule : WideRule) : Type 0 where
   pub root : ℕ
   pub is_root : IsRoot (2 * arcs) root
@@ -39,7 +41,7 @@ turn_begin arcs size turn = min (turn % 4 * stretch_length arcs + turn / 4 * siz
 abbrev pub turn_end : ℕ → ℕ → ℕ → ℕ
 turn_end arcs size turn = min (turn % 4 * stretch_length arcs + min (turn / 4 * size + size) (stretch_length arcs)) arcs + 1
 
--- with which of so many turns a pick begins: the first one, where there is no turn of the number
+-- with which of this many turns a pick begins: the first one, if there is no turn of the number
 abbrev pub start_turn : ℕ → ℕ → ℕ
 start_turn turns next = if nat_le (next + 1) turns then next else 0
 
@@ -51,8 +53,9 @@ turn_after turns start passed = if nat_le (start + passed + 1) turns then start 
 abbrev pub HasNoneAt : TreeStructure → ℕ → ℕ → Type 0
 HasNoneAt b size turn = HasNoneIn b (turn_begin (length b.net.arcs) size turn) (turn_end (length b.net.arcs) size turn)
 
--- after some turns without an eligible arc the next one gives k, of its arcs the eligible one of greatest violation, and of those of the same violation
--- the one of least number; the next pick begins with the turn after
+-- after some turns without an eligible arc the next one gives k, of its arcs the eligible one of
+-- greatest violation, and of those of the same violation the one of least number; the next pick
+-- begins with the turn after
 pub record IsFoundAt (b : TreeStructure) (old : WideRule) (turns start k : ℕ) (new : WideRule) : Type 0 where
   pub passed : ℕ
   pub in_round : passed < turns

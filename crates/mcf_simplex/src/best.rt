@@ -3,8 +3,8 @@ use crate::pricing::Pricing;
 use mcf_basis::Basis;
 use mcf_text::ArcId;
 
-/// The eligible arc of greatest violation, that is of greatest size of the reduced cost, and of several such the one of least number
-/// (Dantzig). It needs few pivots, and looks at every arc for each.
+/// The eligible arc of greatest violation (absolute value of the reduced cost); among several, the
+/// one with the least number (Dantzig). It needs few pivots, but scans every arc for each.
 #[derive(Clone, Copy, Debug, Default)]
 pub struct Best;
 

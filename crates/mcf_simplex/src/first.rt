@@ -3,7 +3,7 @@ use crate::pricing::Pricing;
 use mcf_basis::Basis;
 use mcf_text::ArcId;
 
-/// The eligible arc of least number. It needs many pivots, and is there to compare with.
+/// The eligible arc with the least number. It needs many pivots; a baseline.
 #[derive(Clone, Copy, Debug, Default)]
 pub struct First;
 

@@ -9,14 +9,15 @@ use mcf_basis::Basis;
 
 /// Asks the rule for an arc and lets it enter, again and again, until the rule finds none.
 ///
-/// Each pivot lowers the pair of the cost and the sum of the prices, so that it ends, whatever the rule.
+/// Each pivot lowers the pair of the cost and the sum of the prices, so the loop ends, whatever the
+/// rule.
 pub(crate) fn run<P: Pricing>(rule: &mut P, basis: &mut Basis<'_>)
     ensures run { IsLoop P.Picks rule.old basis.old rule.new basis.new }
     ensures over { HasNoEligible basis.new }
     ensures net { basis.new.net ≡ basis.old.net }
     ensures basis { IsBasis basis.new }
 {
-    // Called for its clause alone: this is a basis.
+    // Called only for its clause: this is a basis.
     let _net = basis.net();
     'pivots: while let Some(k) = rule.pick(basis) {
         basis.pivot(k);

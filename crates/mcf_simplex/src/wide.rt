@@ -1,4 +1,4 @@
-//! Blocks of arcs, whose turns go round four stretches of the arcs.
+//! Blocks of arcs, taken in turn from four stretches (segments) of the arcs.
 ghost use Rattle.std.specs.Prelude.{◌≡◌, ◌+◌, ◌*◌, ◌^◌, ◌<◌, ◌≤◌, IfNone, IfSome, length};
 ghost use Rattle.mcf_basis.specs.Pivots.{IsEligible};
 ghost use Rattle.mcf_basis.specs.Violations.{HasNoEligible, IsMostViolatedPick};
@@ -9,15 +9,17 @@ use mcf_basis::Basis;
 use mcf_text::ArcId;
 use std::marker::Model;
 
-// How many stretches the arcs stand in.
+// The number of stretches.
 const STRETCHES: u32 = 4;
 
-/// Blocks of arcs of one size, taken in turn from four stretches of the arcs: the first block of each, then the second of each, and so on,
-/// from where the last pick ended. It picks the eligible arc of greatest violation of the first block that has one, and of several such
-/// the one of least number.
+/// Blocks of arcs of one size, taken in turn from four stretches (segments) of the arcs: the first
+/// block of each, then the second of each, and so on, from where the last pick ended. It picks the
+/// eligible arc of greatest violation in the first block that has one; among several, the one with
+/// the least number.
 ///
-/// On a net that has fewer blocks it begins with the first of them. On large nets it takes fewer pivots than blocks of 256 arcs, and moves
-/// fewer nodes than blocks in the order of the arcs where these run along a grid.
+/// On a net with fewer blocks it begins with the first. On large nets it takes fewer pivots than
+/// blocks of 256 arcs, and moves fewer nodes than blocks in the order of the arcs if these run
+/// along a grid.
 #[derive(Clone, Copy, Debug)]
 pub struct Wide {
     size: u32,
@@ -38,8 +40,8 @@ impl Model for Wide {
 }
 
 impl Wide {
-    /// The rule for nets of so many arcs, whose first pick begins at arc 1: a block has the square root of twice their number,
-    /// rounded down, but 256 arcs at least.
+    /// The rule for nets of this many arcs, whose first pick begins at arc 1: a block has as many
+    /// arcs as the square root of twice their number, rounded down, but at least 256.
     pub fn suited_to(arcs: u32) -> Wide
         ensures { IsWideFor arcs result }
     {
@@ -54,7 +56,7 @@ impl Wide {
 impl Pricing for Wide {
     ghost Picks = { λ old basis answer new. IsWidePick old basis answer new };
 
-    /// The eligible arc of greatest violation of the first block that has one.
+    /// The eligible arc of greatest violation in the first block that has one.
     fn pick(&mut self, basis: &Basis<'_>) -> Option<ArcId> {
         let picked = pick_wide(basis, self.size, self.next);
         self.next = picked.next;
@@ -86,7 +88,7 @@ fn pick_wide(basis: &Basis<'_>, size: u32, next: u32) -> Picked
     }
 }
 
-// How many turns look at each block once.
+// The number of turns that scan each block once.
 fn turn_count(arcs: u32, size: u32) -> u32
     requires size { 1 ≤ size }
     requires small { arcs < 2 ^ 31 }
@@ -96,7 +98,7 @@ fn turn_count(arcs: u32, size: u32) -> u32
     STRETCHES * arcs.div_ceil(STRETCHES).div_ceil(size)
 }
 
-// The turn with which a pick begins.
+// The turn at which a pick begins.
 fn start_turn(turns: u32, next: u32) -> u32
     ensures value { result ≡ start_turn turns next }
     ensures high { 1 ≤ turns → result < turns }
@@ -104,7 +106,7 @@ fn start_turn(turns: u32, next: u32) -> u32
     if next < turns { next } else { 0 }
 }
 
-// The turn after so many that were passed from a turn on.
+// The turn after this many later ones.
 fn turn_after(turns: u32, start: u32, passed: u32) -> u32
     requires start { start < turns }
     requires passed { passed ≤ turns }
@@ -120,7 +122,7 @@ fn turn_after(turns: u32, start: u32, passed: u32) -> u32
     }
 }
 
-// The most violated of the arcs that are looked at at a turn.
+// The most violated of the arcs scanned in a turn.
 fn most_violated_at(basis: &Basis<'_>, size: u32, turn: u32) -> Option<ArcId>
     requires size { 1 ≤ size }
     requires turn { turn < turn_count (length basis.now.net.arcs) size }

@@ -1,4 +1,5 @@
--- The arcs that don't carry their low, as a loop over the arcs lists them, and the flow that they give.
+-- The arcs that don't carry their low, as a loop over the arcs lists them, and the flow that they
+-- give.
 use Rattle.std.proofs.Common.{◌≡◌, ℕ, zero, suc, ◌+◌, ◌-◌, ◌≤◌, ◌<◌, Bool, true, false, cond, eqb, refl, ap, sym, subst, ◌∙◌, arith, List, [], ◌∷◌, ◌++◌}
 use Rattle.std.proofs.Common.{get_or, length, map, drop, take, Option, Some, None, ℤ, pos}
 use Rattle.std.specs.Prelude.{slice_get}
@@ -74,7 +75,7 @@ spread_of_moved arcs flow h = moved_gives 1 arcs flow h
 
 -- ---- their numbers
 
--- a line of so many arcs from a number on, with such a flow
+-- a line of this many arcs from a number on, with such a flow
 pub record IsMovedFrom (P : ℤ → Type 0) (from count : ℕ) (m : ℕ × ℤ) : Type 0 where
   pub low : from ≤ m.0
   pub high : m.0 < from + count

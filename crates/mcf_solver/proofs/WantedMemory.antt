@@ -18,7 +18,7 @@ arcs_have_nodes g n same ok some =
     let arcs : length n.arcs ≡ length g.arcs = ap (λ (h : Network). length h.arcs) same ∙ net_of-arc_count g in
     net_nodes g n same (arcs_need_nodes (node_count n) n.arcs ok.ends (omega (arith, arcs, some)))
 
--- an engine that wants none on nets without nodes
+-- an engine that needs none on nets without nodes
 pub nodes_wanted : (g : Network) → (1 ≤ node_count g) ⊎ (1 ≤ node_count (net_of g)) → 1 ≤ node_count g
 nodes_wanted g (inl some) = some
 nodes_wanted g (inr some) = net_nodes g (net_of g) refl some

@@ -17,13 +17,15 @@ use Rattle.mcf_solver.specs.Answering.{IsAnswerTo}
 abbrev pub text_limit : ℕ
 text_limit = byte_limit
 
--- what the source gave stands for this: an instance, or the first fault; a source that names no bytes gave some
+-- what the source gave stands for this: an instance, or the first fault; a source that names no
+-- bytes gave some
 pub record ReadsGiven (given : Option (List ℕ)) (outcome : Result Network Fault) : Type 0 where
   pub input : List ℕ
   pub is_given : IfSome given (λ bytes. bytes ≡ input)
   pub is_read : outcome ≡ reading limits input
 
--- the sink took the text of an answer to what the source gave; a source that names no bytes gave some
+-- the sink took the text of an answer to what the source gave; a source that names no bytes gave
+-- some
 pub record SendsAnswer (choice : Choice) (given : Option (List ℕ)) (kind : Kind) (old new : Option (List ℕ)) : Type 0 where
   pub input : List ℕ
   pub text : List ℕ

@@ -1,4 +1,4 @@
-//! Where bytes come from and go to.
+//! Sources and sinks of bytes.
 ghost use Rattle.std.specs.Prelude.{◌≡◌, ◌≤◌, ℕ, List, Option, None, IfOk, OnErr, OnOk, length};
 ghost use Rattle.std.specs.Io.{ReadsAtMost};
 ghost use Rattle.std.specs.Io.KnownBytes.{Keeps, ReadConsumes, WriteAppends};
@@ -15,16 +15,16 @@ pub struct SourceFault;
 #[derive(Clone, Copy, Debug, PartialEq, Eq)]
 pub struct SinkFault;
 
-/// Where bytes come from.
+/// A source of bytes.
 pub trait Source {
-    // The bytes that are still to be given, where the source names them.
+    // The bytes that are still to come, if the source names them.
     ghost remaining: { Self → Option (List ℕ) } = { λ _. None };
 
     // How often the source has failed.
     ghost failures: { Self → ℕ };
 
-    /// Puts the next bytes at the beginning of a piece that isn't empty, and answers how many they are: at most
-    /// the piece's length, and 0 only at the end.
+    /// Puts the next bytes at the beginning of a piece that isn't empty, and returns their number:
+    /// at most the piece's length, and 0 only at the end.
     ///
     /// # Errors
     ///
@@ -37,9 +37,9 @@ pub trait Source {
         ensures worked { OnOk result (failures self.new ≡ failures self.old) };
 }
 
-/// Where bytes go to.
+/// A sink of bytes.
 pub trait Sink {
-    // The bytes that were taken, where the sink names them.
+    // The bytes that were taken, if the sink names them.
     ghost contents: { Self → Option (List ℕ) } = { λ _. None };
 
     // How often the sink has failed.
@@ -48,7 +48,8 @@ pub trait Sink {
     // The sink has passed on all that it took.
     ghost IsFinished: { Self → Type 0 };
 
-    /// Takes at least one byte of a piece that isn't empty, from its beginning, and answers how many.
+    /// Takes at least one byte of a piece that isn't empty, from its beginning, and returns their
+    /// number.
     ///
     /// # Errors
     ///
@@ -72,8 +73,8 @@ pub trait Sink {
         ensures worked { OnOk result (failures self.new ≡ failures self.old) };
 }
 
-/// A source over a reader. Each error of the reader counts as a failure, an interrupted read too, and nothing
-/// is tried again. The bytes that are still to be given are those of the reader.
+/// A source over a reader. Each error of the reader counts as a failure, also an interrupted read,
+/// and nothing is retried. The bytes that are still to come are those of the reader.
 #[derive(Drop)]
 pub struct FromReader<R> {
     reader: R,
@@ -109,10 +110,11 @@ impl<R: io::Read> Source for FromReader<R> {
     }
 }
 
-/// A sink over a writer. Each error of the writer, an interrupted write too, and each write that takes no byte
-/// counts as a failure, and nothing is tried again. The bytes that were taken are those that the writer holds.
+/// A sink over a writer. Each error of the writer, also an interrupted write, and each write that
+/// takes no byte counts as a failure, and nothing is retried. The bytes that were taken are those
+/// that the writer holds.
 ///
-/// To finish is to flush the writer. A writer claims nothing of where its bytes are then, so that each such
+/// To finish is to flush the writer. A writer doesn't say where its bytes are then, so each such
 /// sink counts as finished.
 #[derive(Drop)]
 pub struct IntoWriter<W> {

@@ -8,14 +8,14 @@ use std::alloc::{AllocError, AllocFailed};
 use std::error::Error;
 use std::fmt;
 
-/// Why a run ended without an answer. It is shown as the line that `mcf` prints.
+/// Why a run ended without an answer. Its text is the line that `mcf` prints.
 #[derive(Clone, Copy, Debug, PartialEq, Eq)]
 pub enum RunFault {
     /// The source failed.
     Read,
     /// The sink failed.
     Write,
-    /// There was no memory.
+    /// An allocation was refused.
     NoMemory,
     /// The source gave more than 10^18 bytes.
     TooLong,
@@ -31,7 +31,7 @@ impl fmt::Display for RunFault {
     }
 }
 
-// What a fault says.
+// The text of a fault.
 fn fault_text(fault: RunFault) -> &'static str
     ensures { result.now ≡ fault_text fault }
 {

@@ -1,6 +1,6 @@
-//! What kind of answer there is.
+//! The kinds of answers.
 
-/// What an answer holds.
+/// The kind of an answer.
 #[derive(Clone, Copy, Debug, PartialEq, Eq)]
 pub enum Kind {
     /// A least-cost flow with prices.

@@ -1,11 +1,13 @@
 #![tactic(auto)]
 
-//! A DIMACS text is read, solved by an engine, and answered with its evidence; and so from a source to a sink.
+//! From a DIMACS text to an answer with its certificate, by an engine; and the same from a source
+//! to a sink.
 //!
-//! It stands on all the crates below, and of `mcf_checker` on its definitions and one law, and hands on the public names
-//! of `mcf_choice`, which say what is chosen. It doesn't speak of the command line, which `mcf_suite` adds. Definitions
-//! stand in `specs/`: `ChosenSolutions` says which of several right answers is given, `Making` by which engine, `Forms` in
-//! which form, `Answering` what is owed for a text, `Devices` and `Running` what a run from a source to a sink does.
+//! It builds on all the crates below, and on the definitions and one law of `mcf_checker`, and
+//! re-exports the public names of `mcf_choice`. The command line is added by `mcf_suite`. The
+//! definitions in `specs/`: `ChosenSolutions` says which of several right answers is given,
+//! `Making` by which engine, `Forms` in which form, `Answering` what the answer to a text must be,
+//! `Devices` and `Running` what a run from a source to a sink does.
 
 mod device;
 mod fault;

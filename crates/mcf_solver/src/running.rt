@@ -16,18 +16,19 @@ use mcf_instance::{Instance, Reader, Refusal};
 use mcf_text::{FeedFault, NoMemory};
 use std::alloc::{AllocError, Global};
 
-// How many bytes are asked for at once.
+// The number of bytes that are requested at once.
 const PIECE: usize = 65_536;
 
-/// Reads an instance text to its end, solves it, and then writes the answer and finishes. It reads pieces of at
-/// most 65,536 bytes, and gives up the bytes of the lines that were read.
+/// Reads an instance text to its end, solves it, and then writes the answer and finishes. It reads
+/// pieces of at most 65,536 bytes, and frees the bytes of the lines that were read.
 ///
-/// Nothing is tried again: the first failure of the source or of the sink ends the run.
+/// Nothing is retried: the first failure of the source or of the sink ends the run.
 ///
 /// # Errors
 ///
-/// `Read`, `NoMemory` and `TooLong` (more than 10^18 bytes) come before the first byte is written. After
-/// `Write` the sink took a beginning of an answer, perhaps all of it; the source then had no more than 10^18 bytes.
+/// `Read`, `NoMemory` and `TooLong` (more than 10^18 bytes) come before the first byte is written.
+/// After `Write` the sink has taken a beginning of an answer, perhaps all of it; the source then
+/// had at most 10^18 bytes.
 pub fn run<S: Source, K: Sink>(
     alloc: Global,
     source: &mut S,
@@ -55,7 +56,7 @@ pub fn run<S: Source, K: Sink>(
     Ok(kind)
 }
 
-// What all bytes of a source stand for, read piece by piece.
+// The instance or the fault of all bytes of a source, read piece by piece.
 fn read_source<S: Source>(
     alloc: Global,
     source: &mut S,
@@ -102,7 +103,7 @@ fn feed_all<S: Source>(
     }
 }
 
-// Room for a piece.
+// Space for a piece.
 fn zeros(alloc: Global, size: usize) -> Result<Vec<u8>, AllocError>
     ensures { IfOk result (λ piece. length piece.items ≡ size) }
 {
@@ -111,11 +112,11 @@ fn zeros(alloc: Global, size: usize) -> Result<Vec<u8>, AllocError>
 
 /// Writes a text and finishes.
 ///
-/// Nothing is tried again: the first failure of the sink ends it.
+/// Nothing is retried: the first failure of the sink ends it.
 ///
 /// # Errors
 ///
-/// `Write`, and no other. The sink took a beginning of the text, perhaps all of it.
+/// `Write`, and no other. The sink has taken a beginning of the text, perhaps all of it.
 pub fn send<K: Sink>(sink: &mut K, text: &[u8]) -> Result<(), RunFault>
     ensures taken { OnOk result (Appends (K.contents sink.old) (K.contents sink.new) text.now) }
     ensures finished { OnOk result (K.IsFinished sink.new) }

@@ -18,7 +18,7 @@ use Rattle.mcf_suite.specs.Private.Failing.{IsFailure, IsHelpFailure, IsRunFailu
 use Rattle.mcf_suite.specs.Serving.{Answers, AnswersInPart, AsksToSolve, GivesBytes, IsAskedFor, IsReason, IsSource, IsUnopened, Serves, ServesInPart, Tells}
 use Rattle.mcf_suite.specs.Serving.{fault_line}
 
--- a kind that an error has, where it isn't want of memory
+-- a kind that an error has, where it isn't lack of memory
 kind_among : (kind : ErrorKind) (kinds : Kinds) (e : Error) → kind ≢ OutOfMemory → kind_of e ≡ kind → HasKind kinds e → IsAmong kind kinds
 kind_among kind kinds e other is (inl memory) = absurd (other (sym is ∙ memory))
 kind_among kind kinds e other is (inr among) = subst (λ k. IsAmong k kinds) is among
@@ -81,7 +81,8 @@ pub unopened : {S : Type 0} (Opens : Text → Option S → Type 0) (file : Optio
     → file ≡ Some name → Opens name.now None → IsUnopened Opens file
 unopened Opens file name named opened = subst (λ (f : Option (Bor Text)). IsUnopened Opens f) (sym named) opened
 
--- words that aren't taken: they ask for help or for the version, which can't be written, or have another fault
+-- words that aren't taken: they ask for help or for the version, which can't be written, or have
+-- another fault
 pub help_failed : {S : Type 0} (remaining : S → Option (List ℕ)) (failures : S → ℕ) (input input' : S) (Opens : Text → Option S → Type 0) (words : List Text)
     (Gives : Option (Bor Text) → Option (List ℕ) → Type 0) (app : App) (e : Error) (r : Result ℕ Failure) (old new : Option (List ℕ))
     (untouched failed : Type 0) → IsMcf app → HasKind (fault_of app words) e
@@ -149,7 +150,8 @@ module _ {S : Type 0} (remaining : S → Option (List ℕ)) (failures : S → �
   failed_from (Err (Run TooLong)) old new untouched failed h =
       (h.0, asks_to_solve app asked is_mcf faultless asks (source, after, is_source, h.1))
 
--- why there is no answer: writing on the sink failed; or it is as it was, and the text of the failure gives a reason
+-- why there is no answer: writing on the sink failed; or it is as it was, and the text of the
+-- failure gives a reason
 reason_of : {S : Type 0} (remaining : S → Option (List ℕ)) (failures : S → ℕ) (input input' : S) (Opens : Text → Option S → Type 0) (words : List Text)
     (untouched failed : Type 0) (failure : Failure) → IsFailure remaining failures input input' Opens words untouched failed failure
     → (failed × (failure_text failure ≡ fault_line Write)) ⊎ (untouched × IsReason remaining failures input input' Opens words (failure_text failure))
@@ -160,7 +162,7 @@ reason_of remaining failures input input' Opens words untouched failed (Run Writ
 reason_of remaining failures input input' Opens words untouched failed (Run NoMemory) h = inr (h, inr (inr (inr (inr refl))))
 reason_of remaining failures input input' Opens words untouched failed (Run TooLong) h = inr (h.0, inr (inr (inr (inl (h.1, refl)))))
 
--- what becomes of the sink where there is no answer
+-- what becomes of the sink if there is no answer
 pub kept_or_begun : {S : Type 0} (remaining : S → Option (List ℕ)) (failures : S → ℕ) (input input' : S) (Opens : Text → Option S → Type 0) (words : List Text)
     (untouched failed begun : Type 0) (failure : Failure)
     → IsFailure remaining failures input input' Opens words untouched (failed × begun) failure → untouched ⊎ begun

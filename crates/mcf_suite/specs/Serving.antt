@@ -27,7 +27,8 @@ status_of Refused = 2
 abbrev pub OpensBy : {P S : Type 0} → Mut P (Bor Text × Unit {0}) (Option S) → P → P → Text → Option S → Type 0
 OpensBy calls before after name given = CalledAt calls before name given after
 
--- the source before and after: what the opener gives for the name of a file, and the input where there is no file
+-- the source before and after: what the opener gives for the name of a file, and the input if there
+-- is no file
 abbrev pub IsSource : {S : Type 0} → S → S → (Text → Option S → Type 0) → Option (Bor Text) → S → S → Type 0
 IsSource input input' Opens None source after = (source ≡ input) × (after ≡ input')
 IsSource input input' Opens (Some name) source after = Opens name.now (Some source)
@@ -38,7 +39,8 @@ abbrev pub GivesBytes : {S : Type 0} → (S → Option (List ℕ)) → S → S �
 GivesBytes {S} remaining input input' Opens file given =
     (source after : S) × IsSource input input' Opens file source after × (given ≡ remaining source)
 
--- the source failed: the input counts one failure more as it is left; of a file's source, which nobody has afterwards, some state does
+-- the source failed: the input counts one failure more as it is left; of a file's source, which
+-- nobody has afterwards, some state does
 abbrev pub FailsToGive : {S : Type 0} → (S → ℕ) → S → S → (Text → Option S → Type 0) → Option (Bor Text) → Type 0
 FailsToGive {S} failures input input' Opens file =
     (source after : S) × IsSource input input' Opens file source after × CountsOneFailure (failures source) (failures after)
@@ -80,7 +82,8 @@ pub record AnswersInPart (choice : Choice) (given : Option (List ℕ)) (old new 
   pub whole : IsTakenWhole given
   pub sent : SendsBeginning choice given old new
 
--- the words ask to solve, and the sink took an answer, by what they choose, to what the source of their file gives
+-- the words ask to solve, and the sink took an answer, by what they choose, to what the source of
+-- their file gives
 abbrev pub Solves : List Text → (Option (Bor Text) → Option (List ℕ) → Type 0) → ℕ → Option (List ℕ) → Option (List ℕ) → Type 0
 Solves words Gives status old new =
     AsksToSolve words (λ a. (given : Option (List ℕ)) × Gives a.file given × Answers a.choice given status old new)
@@ -102,12 +105,14 @@ pub record ShowsVersion (words : List Text) (status : ℕ) (old new : Option (Li
   pub is_status : status ≡ 0
   pub taken : Appends old new version_text
 
--- the words ask to solve, and the sink took an answer; or they ask for help, and it took some text; or for the version, and it took that
+-- the words ask to solve, and the sink took an answer; or they ask for help, and it took some text;
+-- or for the version, and it took that
 abbrev pub Serves : List Text → (Option (Bor Text) → Option (List ℕ) → Type 0) → ℕ → Option (List ℕ)
     → Option (List ℕ) → Type 0
 Serves words Gives status old new = Solves words Gives status old new ⊎ (ShowsHelp words status old new ⊎ ShowsVersion words status old new)
 
--- the words ask to solve, and the sink took a beginning of an answer, by what they choose, to what the source of their file gives
+-- the words ask to solve, and the sink took a beginning of an answer, by what they choose, to what
+-- the source of their file gives
 abbrev pub SolvesInPart : List Text → (Option (Bor Text) → Option (List ℕ) → Type 0) → Option (List ℕ) → Option (List ℕ) → Type 0
 SolvesInPart words Gives old new =
     AsksToSolve words (λ a. (given : Option (List ℕ)) × Gives a.file given × AnswersInPart a.choice given old new)
@@ -123,7 +128,8 @@ pub record ShowsVersionInPart (words : List Text) (old new : Option (List ℕ)) 
   pub asked : HaveFault words DisplayVersion
   pub taken : TakesBeginning old new version_text
 
--- the words ask to solve, for help or for the version, and the sink took a beginning of what they ask for
+-- the words ask to solve, for help or for the version, and the sink took a beginning of what they
+-- ask for
 abbrev pub ServesInPart : List Text → (Option (Bor Text) → Option (List ℕ) → Type 0) → Option (List ℕ)
     → Option (List ℕ) → Type 0
 ServesInPart words Gives old new = SolvesInPart words Gives old new ⊎ (ShowsHelpInPart words old new ⊎ ShowsVersionInPart words old new)
@@ -148,8 +154,9 @@ pub record HaveUsageFault (words : List Text) : Type 0 where
   pub no_version : kind ≢ DisplayVersion
   pub fault : HaveFault words kind
 
--- why nothing is answered, though nothing was written: the words have a fault, of which the text says something; or their
--- file isn't opened, its source fails or has too many bytes, or memory is wanting, and the text is the line that tells of it
+-- why nothing is answered, though nothing was written: the words have a fault, of which the text
+-- says something; or their file isn't opened, its source fails or has too many bytes, or memory
+-- runs out, and the text is the line that tells of it
 abbrev pub IsReason : {S : Type 0} → (S → Option (List ℕ)) → (S → ℕ) → S → S → (Text → Option S → Type 0) → List Text → List ℕ → Type 0
 IsReason remaining failures input input' Opens words text =
     HaveUsageFault words
@@ -158,8 +165,9 @@ IsReason remaining failures input input' Opens words text =
     ⊎ ((AsksToSolve words (λ a. GivesTooMuch remaining input input' Opens a.file) × (text ≡ fault_line TooLong))
     ⊎ (text ≡ fault_line NoMemory))))
 
--- the sink took the text that tells why nothing is answered, where the other sink is as it was; where writing on the other
--- failed, the line of that; and it finished, or failed, and then took a beginning of the text
+-- the sink took the text that tells why nothing is answered, where the other sink is as it was;
+-- where writing on the other failed, the line of that; and it finished, or failed, and then took a
+-- beginning of the text
 pub record Tells (IsReasonFor : List ℕ → Type 0) (untouched failed heard unheard : Type 0) (old new : Option (List ℕ)) : Type 0 where
   pub text : List ℕ
   pub reason : (failed × (text ≡ fault_line Write)) ⊎ (untouched × IsReasonFor text)

@@ -1,10 +1,10 @@
 #![tactic(auto)]
 
-//! The whole: what the words of a command line ask is done, and its exit status tells how it went.
+//! The whole program: it does what the words of a command line ask, and reports by its exit status.
 //!
-//! It stands on `mcf_solver`, which solves a text and carries an answer from a source to a sink, and on `mcf_asking`,
-//! which reads a command line, and hands on the public names of both. Definitions stand in `specs/`: `Serving` says what
-//! the program does.
+//! It builds on `mcf_solver`, which solves a text and carries an answer from a source to a sink,
+//! and on `mcf_asking`, which reads a command line, and re-exports the public names of both. The
+//! definitions in `specs/`: `Serving` says what the program does.
 
 mod serving;
 mod version;

@@ -14,13 +14,13 @@ use mcf_solver::{Choice, Kind, RunFault, Sink, Source, run, send};
 use std::alloc::{AllocError, Global};
 use std::convert::AsStr;
 
-// The status where nothing was answered.
+// The status if nothing was answered.
 const FAILED: u8 = 3;
 
 // Why nothing was answered.
 #[derive(Drop)]
 enum Failure {
-    // The words aren't a command of `mcf`, and this text says why.
+    // The words aren't a command of `mcf`, for the reason in this text.
     Usage(String),
     // The file can't be opened.
     Open,
@@ -32,7 +32,7 @@ impl Failure {
     ghost use Rattle.std.specs.Prelude.{◌≡◌};
     ghost use Rattle.mcf_suite.specs.Private.Failing.{failure_text};
 
-    // The text that says so.
+    // The text that reports it.
     fn text(&self) -> &str
         ensures { result.now ≡ failure_text self.now }
     {
@@ -67,7 +67,7 @@ impl From<RunFault> for Failure {
     }
 }
 
-// The line that a fault is told by, which takes no memory.
+// The line that reports a fault, without any allocation.
 fn fault_line(fault: RunFault) -> &'static str
     ensures { result.now ≡ fault_line fault }
 {
@@ -79,7 +79,7 @@ fn fault_line(fault: RunFault) -> &'static str
     }
 }
 
-// The status that tells of an answer.
+// The status for an answer.
 fn status_of(kind: Kind) -> u8
     ensures { result ≡ status_of kind }
 {
@@ -90,17 +90,19 @@ fn status_of(kind: Kind) -> u8
     }
 }
 
-/// Does what the words of a command line ask, and gives the exit status.
+/// Does what the words of a command line ask, and returns the exit status.
 ///
-/// The words begin with the name of the program: `mcf solve [--engine ENGINE] [--pricing RULE] [--block N]
-/// [--form FORM] [FILE]`, as `command` reads them, or `mcf --version`. They are judged first; then `opener` opens FILE,
-/// or `input` is read where there is none. The answer goes to `out`. Status 0 tells of a flow, or of help or the version
-/// that was asked for and printed on `out`; 1 of a blocking set; 2 of a refusal. Status 3 is given, with one line on
-/// `err` or the text of the usage fault, where the words aren't a command of `mcf`, the file can't be opened, reading or
-/// writing fails, memory is wanting or the input is too long. A text that can't be written on `err` changes nothing.
+/// The words begin with the name of the program: `mcf solve [--engine ENGINE] [--pricing RULE]
+/// [--block N] [--form FORM] [FILE]`, as `command` reads them, or `mcf --version`. They are checked
+/// first; then `opener` opens FILE, or `input` is read if no file is named. The answer goes to
+/// `out`. Status 0 means a flow, or the requested help or version on `out`; 1 a blocking set; 2 a
+/// refusal. Status 3, with one line on `err` or the text of the usage fault, means that the words
+/// aren't a command of `mcf`, the file can't be opened, reading or writing fails, memory runs out
+/// or the input is too long. A text that can't be written on `err` changes nothing.
 ///
-/// Where the words have a fault, ask for help or the version or name a file, `input` is as it was; where they have a
-/// fault, ask for help or the version or name no file, `opener` is. It is called once at most.
+/// If the words have a fault, ask for help or the version or name a file, `input` is unchanged; if
+/// they have a fault, ask for help or the version or name no file, `opener` is unchanged. It is
+/// called at most once.
 pub fn serve<W: AsStr, S: Source + Drop, P: FnMut(&str) -> Option<S>, O: Sink, E: Sink>(
     alloc: Global,
     words: &[W],
@@ -143,7 +145,7 @@ pub fn serve<W: AsStr, S: Source + Drop, P: FnMut(&str) -> Option<S>, O: Sink, E
     }
 }
 
-// Writes the answer that the words ask for, the help or the version, and gives the status.
+// Writes the answer that the words ask for, or the help or the version, and returns the status.
 fn answer<W: AsStr, S: Source + Drop, P: FnMut(&str) -> Option<S>, O: Sink>(
     alloc: Global,
     words: &[W],
@@ -185,7 +187,7 @@ fn answer<W: AsStr, S: Source + Drop, P: FnMut(&str) -> Option<S>, O: Sink>(
     }
 }
 
-// What the opener gives for the name of a file.
+// The opener's result for the name of a file.
 fn open<S, P: FnMut(&str) -> Option<S>>(opener: &mut P, name: &str) -> Option<S>
     requires { P.IsAlwaysCallable opener.old }
     ensures { OpensBy P.FnMut opener.old opener.new name.now result }
@@ -193,7 +195,7 @@ fn open<S, P: FnMut(&str) -> Option<S>>(opener: &mut P, name: &str) -> Option<S>
     opener(name)
 }
 
-// Writes the answer to what a source gives, and gives the status.
+// Writes the answer for a source, and returns the status.
 fn answer_from<S: Source, O: Sink>(
     alloc: Global,
     source: &mut S,
@@ -217,7 +219,7 @@ fn answer_from<S: Source, O: Sink>(
     Ok(status_of(kind))
 }
 
-// Prints the help, or the version, where the words ask for it, and gives the status.
+// Prints the help or the version, if the words ask for it, and returns the status.
 fn show<O: Sink>(alloc: Global, error: &Error, out: &mut O) -> Result<u8, Failure>
     ensures status { IfOk result (λ status. status ≡ 0) }
     ensures shown { OnOk result (IsShown (kind_of error.now) (O.contents out.old) (O.contents out.new)) }

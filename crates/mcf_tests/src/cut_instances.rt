@@ -34,7 +34,7 @@ static CUTS: [(usize, &[u8]); 18] = [
     ),
 ];
 
-// The answer to so many bytes of the instance.
+// The answer to this many bytes of the instance.
 fn answer_at(count: usize) -> &'static [u8] {
     let mut answer = b"".as_slice();
     for (from, text) in &CUTS {

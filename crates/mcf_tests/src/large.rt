@@ -1,6 +1,7 @@
 //! Texts of 200,000 items through each call that takes memory for them.
 //!
-//! No clause says that memory is there, so a body that answers `NoMemory` past some count meets every contract.
+//! No clause says that memory is there, so a body that answers `NoMemory` past some count meets
+//! every contract.
 use crate::solving::answered;
 use mcf_answer::{parse, write};
 use mcf_checker::{Verdict, check};
@@ -10,10 +11,10 @@ use mcf_text::{NoMemory, put_number};
 use std::alloc::Global;
 use std::test::Fail;
 
-// How many nodes there are, and how many arcs.
+// The number of nodes, and how many arcs.
 const COUNT: u32 = 200_000;
 
-// Room for a text of so many items.
+// Room for a text of this many items.
 fn room(alloc: Global) -> Result<Vec<u8>, NoMemory> {
     Ok(Vec::with_capacity(alloc, 8_000_000)?)
 }
@@ -67,7 +68,7 @@ fn full_nodes_answer(alloc: Global) -> Result<Vec<u8>, NoMemory> {
     Ok(out)
 }
 
-// Whether the text is an instance of that many nodes and so many arcs.
+// Whether the text is an instance of that many nodes and this many arcs.
 fn is_read(alloc: Global, input: &[u8], arcs: u32) -> Result<bool, NoMemory> {
     let Ok(instance) = read(alloc, input)? else {
         return Ok(false);

@@ -136,7 +136,8 @@ fn outcome<S: Source, K: Sink>(
     }
 }
 
-// Whether a run of a text, one byte a read, ends at a read that fails, and leaves the sink as it is.
+// Whether a run of a text, one byte a read, ends at a read that fails, and leaves the sink as it
+// is.
 fn ends_at_read(alloc: Global, text: &str, call: u64) -> Result<bool, NoMemory> {
     let mut source = Giver::new(text.as_bytes(), 1, call);
     let mut sink = Taker::new(alloc, 1, NEVER)?;
@@ -352,7 +353,8 @@ impl Read for Faltering<'_> {
     }
 }
 
-// Whether a run ends at the read that fails, and writes nothing, though the reader would work again.
+// Whether a run ends at the read that fails, and writes nothing, though the reader would work
+// again.
 fn ends_at_error_of_read(alloc: Global, kind: ErrorKind, fails_at: u64) -> Result<bool, NoMemory> {
     let mut nothing = Vec::new(alloc);
     let mut reader = Faltering {
@@ -365,7 +367,8 @@ fn ends_at_error_of_read(alloc: Global, kind: ErrorKind, fails_at: u64) -> Resul
     Ok(ended == Err(RunFault::Read) && nothing.is_empty() && reader.calls == fails_at)
 }
 
-// A writer that takes a byte at a call, fails at a chosen call, of which a flush is one, and then works again.
+// A writer that takes a byte at a call, fails at a chosen call, of which a flush is one, and then
+// works again.
 #[derive(Drop)]
 struct Stumbling {
     written: Vec<u8>,
@@ -393,8 +396,8 @@ impl Write for Stumbling {
     }
 }
 
-// Whether a run ends at the call of the writer that fails, after the bytes of the calls before it, though the
-// writer would work again.
+// Whether a run ends at the call of the writer that fails, after the bytes of the calls before it,
+// though the writer would work again.
 fn ends_at_error_of_write(alloc: Global, kind: ErrorKind, fails_at: u64) -> Result<bool, NoMemory> {
     let mut writer = Stumbling {
         written: Vec::with_capacity(alloc, LEAST.len())?,

@@ -1,9 +1,9 @@
 //! Numbers of arcs.
 use std::marker::Model;
 
-/// The number of an arc. The arcs of an instance are numbered from 1, in the order of their lines;
-/// any `u32` can be held, and whether an instance has that arc is the instance's to say. Numbers
-/// are ordered and compared as numbers.
+/// The number of an arc. An instance numbers its arcs from 1, in the order of their lines. The type
+/// holds any `u32`; whether an instance has that arc is for the instance to say. Numbers are
+/// ordered and compared as numbers.
 #[derive(Clone, Copy, Debug, PartialEq, Eq, PartialOrd, Ord, Hash)]
 pub struct ArcId {
     number: u32,
@@ -44,7 +44,8 @@ impl ArcId {
         ArcId::new(place + 1)
     }
 
-    /// Where the arc stands in a list of all arcs, counted from 0: its number, which isn't 0, less 1.
+    /// Where the arc stands in a list of all arcs, counted from 0: its number, which isn't 0, less
+    /// 1.
     pub fn place(self) -> usize
         requires { 1 ≤ self }
         ensures { result ≡ self - 1 }

@@ -1,26 +1,27 @@
-//! The lines of a text that comes in pieces.
+//! The lines of a text that arrives in pieces (chunks).
 use crate::fault::FeedFault;
 use crate::parts::Line;
 use memchr::memchr;
 use std::alloc::Global;
 use std::marker::Model;
 
-/// The most bytes of a text that are taken.
+/// The greatest number of bytes of a text.
 pub const BYTE_LIMIT: u64 = 1_000_000_000_000_000_000;
 
-/// The lines of a text that comes in pieces, which may be cut anywhere: the lines popped are those that
-/// `lines` gives for the pieces joined, under the same numbers. A clause sees how many lines were popped and
-/// how many bytes fed, the bytes of the lines that weren't popped, and whether the end was said.
+/// The lines of a text that arrives in pieces, which may be cut anywhere: the popped lines are
+/// those that `lines` gives for the joined pieces, with the same numbers. Clauses see how many
+/// lines were popped and how many bytes fed, the bytes of the lines that weren't popped, and
+/// whether `end` was called.
 ///
-/// No byte is looked at twice for the end of its line, and the bytes of popped lines are given up as soon as
-/// they are as many as the others: the time of all calls together is linear in the bytes fed.
+/// No byte is scanned twice for the end of its line, and the bytes of popped lines are freed once
+/// they are at least half of all: the total time of all calls is linear in the bytes fed.
 #[derive(Drop)]
 pub struct LineFeed {
-    // the pieces, without some of the popped lines
+    // The pieces, without some of the popped lines.
     bytes: Vec<u8>,
-    // where the first line begins that wasn't popped
+    // Where the first line begins that wasn't popped.
     start: usize,
-    // how many bytes from there on are known to end no line
+    // The number of bytes from there on that are known to end no line.
     scanned: usize,
     popped: u128,
     fed: u64,
@@ -48,7 +49,7 @@ impl LineFeed {
     ghost use Rattle.mcf_text.specs.Pop.{PopsLine};
     ghost use Rattle.mcf_text.specs.contracts.feed.LineFeed.{the_row};
 
-    /// The feed of the empty text, which takes no memory.
+    /// The feed of the empty text, which allocates nothing.
     pub fn new(alloc: Global) -> LineFeed
         ensures { result ≡ record { popped = 0; fed = 0; rest = []; has_ended = false } }
     {
@@ -62,12 +63,13 @@ impl LineFeed {
         }
     }
 
-    /// Takes the next piece, of any length. It isn't asked once the end was said.
+    /// Takes the next piece, of any length. After `end` it can't be called.
     ///
     /// # Errors
     ///
-    /// `TooLong` exactly where the bytes fed so far and the piece are more than 10^18; `NoMemory` where there
-    /// is no memory to keep the bytes of the piece. Nothing of the piece is then taken.
+    /// `TooLong` exactly if the bytes fed so far and the piece are more than 10^18 together;
+    /// `NoMemory` if the allocation for the bytes of the piece is refused. Then nothing of the
+    /// piece is taken.
     pub fn feed(&mut self, piece: &[u8]) -> Result<(), FeedFault>
         requires { IsFalse self.old.has_ended }
         ensures ok { OnOk result (self.new ≡ after_piece self.old piece.now) }
@@ -87,14 +89,14 @@ impl LineFeed {
         Ok(())
     }
 
-    /// Says that no piece follows, so that the bytes after the last byte 10 are a finished line, too.
+    /// Ends the text: the bytes after the last line feed are a finished line, too.
     pub fn end(&mut self)
         ensures { self.new ≡ record self.old { has_ended = true } }
     {
         self.has_ended = true;
     }
 
-    /// How many lines were popped.
+    /// The number of popped lines.
     pub fn popped(&self) -> u128
         ensures value { result ≡ self.now.popped }
         ensures few { result ≤ byte_limit }
@@ -102,8 +104,8 @@ impl LineFeed {
         self.popped
     }
 
-    /// Pops the first line that wasn't popped, where byte 10 ends it or the end was said; nothing where no
-    /// line is finished. Its number is one more than the lines popped before.
+    /// Pops the first line that wasn't popped, if a line feed ends it or `end` was called; `None`
+    /// if no line is finished. Its number is one more than the number of lines popped before.
     pub fn pop(&mut self) -> Option<Line<'_>>
         ensures* { sem 𝓛 (Rests the_row self.entry (PopsLine self.old result)) }
     {
@@ -129,7 +131,7 @@ impl LineFeed {
         &self.bytes[self.start..]
     }
 
-    /// Pops so many lines at once, which the first bytes of `rest`, as many as `len`, are.
+    /// Pops this many lines at once, whose text is the first `len` bytes of `rest`.
     pub fn pop_lines(&mut self, lines: usize, len: usize)
         requires { BeginsWithLines self.old.rest lines len }
         ensures { self.new ≡ after_lines self.old lines len }
@@ -148,7 +150,7 @@ impl LineFeed {
         *popped += lines as u128;
     }
 
-    // Gives up the bytes of popped lines, where they are as many as the others.
+    // Frees the bytes of popped lines, if they are at least half of all.
     fn give_up_popped(&mut self)
         ensures { self.new ≡ self.old }
     {
@@ -161,7 +163,7 @@ impl LineFeed {
         self.start = 0;
     }
 
-    // Where the first line ends and where the bytes after it begin, where it is finished.
+    // Where the first line ends and where the bytes after it begin, if it is finished.
     fn first_line(&self) -> Option<(usize, usize)>
         ensures { MatchOption result (HasNoLine self.now) (λ ends. FirstLineEnds self.now ends.0 ends.1) }
     {

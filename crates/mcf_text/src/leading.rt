@@ -5,20 +5,20 @@ ghost use Rattle.std.specs.List.{list_all};
 ghost use Rattle.mcf_text.specs.Leading.{digit_count, leading_limit};
 ghost use Rattle.mcf_text.specs.Whole.{digits_sum};
 
-// As many digits are read.
+// At most this many digits are read.
 const LEADING_LIMIT: usize = 18;
 
-/// What the digits at the front of some bytes say.
+/// The digits at the front of some bytes.
 #[derive(Clone, Copy, Debug)]
 pub struct LeadingDigits {
-    /// The number that they write.
+    /// The number that they spell.
     pub value: u64,
-    /// How many there are.
+    /// The number of digits.
     pub count: usize,
 }
 
-/// The digits at the front of some bytes, the first eighteen where there are more, and the number
-/// that these write: below 10^18, and 0 where there is no digit.
+/// The digits at the front of some bytes, at most the first eighteen, and the number that these
+/// spell: below 10^18, and 0 if there is no digit.
 #[inline(always)]
 pub fn leading_digits(bytes: &[u8]) -> LeadingDigits
     ensures count { result.count ≡ digit_count bytes.now }
@@ -33,7 +33,7 @@ pub fn leading_digits(bytes: &[u8]) -> LeadingDigits
     digits_among(bytes, LEADING_LIMIT)
 }
 
-// The same of fewer bytes than are read elsewhere.
+// The same for fewer bytes than `LEADING_LIMIT`.
 #[inline(never)]
 fn digits_of_few(bytes: &[u8]) -> LeadingDigits
     requires { length bytes.now < leading_limit }
@@ -46,8 +46,8 @@ fn digits_of_few(bytes: &[u8]) -> LeadingDigits
     digits_among(bytes, bytes.len())
 }
 
-// The same, where it is known how many bytes are looked at: where that number is a constant, the
-// compiler of programs makes a line of tests of the loop.
+// The same for a known number of bytes: if that is a constant, LLVM unrolls the loop into a line of
+// tests.
 #[inline(always)]
 fn digits_among(bytes: &[u8], most: usize) -> LeadingDigits
     requires { most ≡ min (length bytes.now) leading_limit }
@@ -70,7 +70,7 @@ fn digits_among(bytes: &[u8], most: usize) -> LeadingDigits
     LeadingDigits { value, count }
 }
 
-// What a byte says as a digit; more than 9 where it is none.
+// The value of a digit; more than 9 for any other byte.
 #[inline(always)]
 fn digit_of(byte: u8) -> u64
     ensures digit { result ≤ 9 → (is_ascii_digit byte ≡ true) × (byte ≡ result + 48) }

@@ -1,11 +1,12 @@
 #![tactic(auto)]
 
-//! The text layer: the lines of a text, at once or in pieces, the fields of a line, whole numbers, and
-//! numbers as text.
+//! The text layer: the lines of a text, at once or in pieces, the fields of a line, whole numbers,
+//! and numbers as text.
 //!
-//! A text is bytes, of no encoding. Byte 10 ends a line; spaces, tabs and carriage returns are blanks
-//! and part the fields of a line; no other byte does either. Nothing here but `put_number`,
-//! `copies` and `LineFeed::feed` takes memory, and all of it takes time linear in the bytes that it is given.
+//! A text is bytes, in no encoding. A line feed (a line feed) ends a line; spaces, tabs and
+//! carriage returns are blanks and separate the fields of a line; no other byte does either. Only
+//! `put_number`, `copies` and `LineFeed::feed` allocate, and each call takes time linear in the
+//! bytes that it gets.
 
 mod arc;
 mod decimal;

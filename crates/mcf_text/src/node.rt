@@ -1,9 +1,8 @@
 //! Numbers of nodes.
 use std::marker::Model;
 
-/// The number of a node. The nodes of an instance are numbered from 1 in its text; any `u32` can
-/// be held, and whether an instance has that node is the instance's to say. Numbers are ordered
-/// and compared as numbers.
+/// The number of a node. An instance numbers its nodes from 1. The type holds any `u32`; whether an
+/// instance has that node is for the instance to say. Numbers are ordered and compared as numbers.
 #[derive(Clone, Copy, Debug, PartialEq, Eq, PartialOrd, Ord, Hash)]
 pub struct NodeId {
     number: u32,
@@ -29,7 +28,7 @@ impl NodeId {
         NodeId { number }
     }
 
-    /// The number of the node, as its text has it.
+    /// The number of the node, as its text writes it.
     pub fn get(self) -> u32
         ensures { result ≡ self }
     {
@@ -44,7 +43,8 @@ impl NodeId {
         NodeId::new(place + 1)
     }
 
-    /// Where the node stands in a list of all nodes, counted from 0: its number, which isn't 0, less 1.
+    /// Where the node stands in a list of all nodes, counted from 0: its number, which isn't 0,
+    /// less 1.
     pub fn place(self) -> usize
         requires { 1 ≤ self }
         ensures { result ≡ self - 1 }

@@ -6,8 +6,8 @@ ghost use Rattle.mcf_text.specs.Lines.{AreTheLines, line_feed, lines_of, numbere
 use crate::parts::{Fields, Lines};
 use memchr::memchr;
 
-/// The lines of a text in order, numbered from 1. A line is the bytes up to the next byte 10,
-/// without it; bytes after the last byte 10 are a last line, and an empty text has no line.
+/// The lines of a text in order, numbered from 1. A line is the bytes before the next line feed;
+/// bytes after the last line feed are a last line, and the empty text has no line.
 pub fn lines(text: &[u8]) -> Lines<'_>
     ensures value { result ≡ numbered_lines 1 text.now }
     ensures exact { AreTheLines text.now (lines_of text.now) }
@@ -30,8 +30,8 @@ pub fn fields(line: &[u8]) -> Fields<'_>
     Fields { rest: line }
 }
 
-/// Whether a line is neither blank nor a comment. A blank line has no field, and the first field of
-/// a comment begins with `c`.
+/// Whether a line is significant (kept): neither blank nor a comment. A blank line has no field,
+/// and the first field of a comment begins with `c`.
 pub fn is_kept(line: &[u8]) -> bool
     ensures { result ≡ is_kept line.now }
 {
@@ -41,8 +41,7 @@ pub fn is_kept(line: &[u8]) -> bool
     }
 }
 
-/// The first line of a text and the bytes after the line feed that ends it, or nothing where the
-/// text is empty.
+/// The first line of a text and the bytes after its line feed, or `None` if the text is empty.
 pub fn split_line(text: &[u8]) -> Option<(&[u8], &[u8])>
     ensures value { MatchOption result (text.now ≡ [])
         (λ parts. lines_of text.now ≡ parts.0.now ∷ lines_of parts.1.now) }
@@ -60,8 +59,8 @@ pub fn split_line(text: &[u8]) -> Option<(&[u8], &[u8])>
     }
 }
 
-// The first field of a line and the bytes after the blank that ends it, or nothing where the line
-// has no field.
+// The first field of a line and the bytes after the blank that ends it, or `None` if the line has
+// no field.
 pub(crate) fn split_field(line: &[u8]) -> Option<(&[u8], &[u8])>
     ensures { MatchOption result (fields_of line.now ≡ [])
         (λ parts. fields_of line.now ≡ parts.0.now ∷ fields_of parts.1.now) }
@@ -74,7 +73,7 @@ pub(crate) fn split_field(line: &[u8]) -> Option<(&[u8], &[u8])>
     }
 }
 
-// The place of the first byte that is not blank.
+// The place of the first byte that isn't a blank.
 fn first_run_byte(bytes: &[u8]) -> Option<usize>
     ensures { result ≡ position (λ b. not (is_blank b)) bytes.now }
 {

@@ -9,7 +9,7 @@ use mcf_text::{ArcId, NoMemory, NodeId};
 use std::alloc::Global;
 use std::test::Fail;
 
-// What is written of the answer that a text spells, or nothing where it spells none.
+// What is written of the answer that a text spells, or nothing if it spells none.
 fn rewritten(alloc: Global, text: &[u8]) -> Result<Vec<u8>, NoMemory> {
     let mut out = Vec::new(alloc);
     if let Ok(answer) = parse(alloc, text)? {
@@ -18,7 +18,7 @@ fn rewritten(alloc: Global, text: &[u8]) -> Result<Vec<u8>, NoMemory> {
     Ok(out)
 }
 
-// The line at which a text is seen to be no answer, or 0 where it is one.
+// The line at which a text is seen to be no answer, or 0 if it is one.
 fn misfit(alloc: Global, text: &[u8]) -> Result<u128, NoMemory> {
     match parse(alloc, text)? {
         Ok(_) => Ok(0),
@@ -26,7 +26,8 @@ fn misfit(alloc: Global, text: &[u8]) -> Result<u128, NoMemory> {
     }
 }
 
-// Texts as they are written: of the first form the answers of worked instances, and then others, and of the second form.
+// Texts as they are written: of the full form the answers of worked instances, and then others, and
+// of the sparse form.
 static ANSWERS: [&[u8]; 29] = [
     b"s 14\nf 1 2 2\nf 1 3 2\nf 2 3 2\nf 2 4 0\nf 3 4 4\ny 1 0\ny 2 -2\ny 3 -3\ny 4 -4\n",
     b"s 0\n",
@@ -302,7 +303,8 @@ fn lists_keep_their_items(rt: HostRuntime) -> Result<(), Fail> {
     Ok(())
 }
 
-// Whether an answer is written after bytes that were there, which are left alone where memory is wanting.
+// Whether an answer is written after bytes that were there, which are left alone if memory runs
+// out.
 fn is_put(out: &mut Vec<u8>, answer: &Answer) -> bool {
     match write(answer, out) {
         Ok(()) => out.as_slice() == b"keeps 14\nf 1 2 2\nf 1 3 2\ny 1 0\ny 2 -2\n".as_slice(),

@@ -65,7 +65,8 @@ fn text_of(alloc: Global, problem: Problem, line: &[u8], end: &[u8]) -> Result<V
     Ok(text)
 }
 
-// Whether an arc line says this arc, be it ended by a line feed, by the end of the text, or as in a text of another system.
+// Whether an arc line says this arc, be it ended by a line feed, by the end of the text, or as in a
+// text of another system.
 fn says(alloc: Global, problem: Problem, line: &[u8], row: Row) -> Result<bool, NoMemory> {
     for end in [b"\n".as_slice(), b"".as_slice(), b"\r\n".as_slice()] {
         let text = text_of(alloc, problem, line, end)?;

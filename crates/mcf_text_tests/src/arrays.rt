@@ -30,7 +30,7 @@ fn flow_of(
     flow_problem(alloc, supplies, &raw)
 }
 
-// The assignment problem of so many rows and columns and of these pairs, or the first fault.
+// The assignment problem of this many rows and columns and of these pairs, or the first fault.
 fn assignment_of(
     alloc: Global,
     rows: u32,
@@ -158,7 +158,8 @@ fn faulty_assignment_problems_of_arrays(rt: HostRuntime) -> Result<(), Fail> {
 
 const GREATEST: Numbers = (1, 1, 0, 1_000_000_000_000_000_000, 1_000_000_000_000_000);
 
-// Whether a thousand arcs of the greatest weight are within the total, and one more unit is above it.
+// Whether a thousand arcs of the greatest weight are within the total, and one more unit is above
+// it.
 fn is_total_tested(alloc: Global) -> Result<bool, NoMemory> {
     let mut arcs = copies(alloc, 1000, GREATEST)?;
     let within = flow_of(alloc, &[0], &arcs)?.is_ok();

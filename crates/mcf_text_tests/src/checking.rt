@@ -238,7 +238,8 @@ fn sets_and_refusals(rt: HostRuntime) -> Result<(), Fail> {
     Ok(())
 }
 
-// Whether this is the verdict on the first bytes of the answer, however many from the one count to the other.
+// Whether this is the verdict on the first bytes of the answer, however many from the one count to
+// the other.
 fn are_judged(alloc: Global, from: usize, to: usize, want: Verdict) -> Result<bool, NoMemory> {
     for cut in from..=to {
         let Some(text) = LEAST.as_bytes().get(..cut) else {
@@ -328,10 +329,10 @@ fn file(alloc: Global, name: &str) -> Result<Vec<u8>, FileFault> {
     Vec::from_slice(alloc, text.as_bytes()).map_err(|_| FileFault::NoMemory)
 }
 
-// What is said where memory is wanting.
+// What is said if memory runs out.
 const OUT_OF_MEMORY: &str = "mcfcheck: out of memory\n";
 
-// Whether a run ended for want of memory.
+// Whether a run ended for lack of memory.
 fn is_without_memory(status: u8, said: &[u8]) -> bool {
     status == 3 && said == OUT_OF_MEMORY.as_bytes()
 }
@@ -488,7 +489,8 @@ enum Failing {
     Once,
 }
 
-// A writer with room for so many bytes, which counts what it took and the calls after the first that failed.
+// A writer with room for this many bytes, which counts what it took and the calls after the first
+// that failed.
 #[derive(Drop)]
 struct Narrow {
     failing: Failing,
@@ -548,8 +550,8 @@ impl Write for Narrow {
 
 const ACCEPTED: &[u8] = b"accepted flow 14\n";
 
-// Whether a run with so much room for its output writes a beginning of the line and no more, says that writing failed,
-// and asks the writer for nothing afterwards.
+// Whether a run with so much room for its output writes a beginning of the line and no more, says
+// that writing failed, and asks the writer for nothing afterwards.
 fn is_cut(alloc: Global, failing: Failing, room: usize) -> Result<bool, NoMemory> {
     let mut out = Narrow::new(alloc, failing, room)?;
     let mut err = Vec::with_capacity(alloc, 64)?;
@@ -600,8 +602,9 @@ fn what_is_said_is_cut_too(rt: HostRuntime) -> Result<(), Fail> {
     Ok(())
 }
 
-// How often a run asks for a file, and the name that it asks for last. Memory is wanting by intent where that is `large`:
-// where it is wanting for another file or for the verdict, the run isn't the one that the row means.
+// How often a run asks for a file, and the name that it asks for last. Memory is wanting by intent
+// where that is `large`: where it is wanting for another file or for the verdict, the run isn't the
+// one that the row means.
 fn asked(alloc: Global, words: &[&str]) -> Result<(usize, Vec<u8>), NoMemory> {
     let mut calls = 0usize;
     let mut last = Vec::with_capacity(alloc, 64)?;
@@ -648,7 +651,7 @@ fn files_that_are_asked_for(rt: HostRuntime) -> Result<(), Fail> {
     Ok(())
 }
 
-// A text with room for so many bytes, which takes whole pieces alone.
+// A text with room for this many bytes, which takes whole pieces alone.
 #[derive(Drop)]
 struct NarrowText {
     room: usize,
@@ -665,7 +668,8 @@ impl fmt::Write for NarrowText {
     }
 }
 
-// What is held of a verdict where there is room for so many bytes, or nothing where showing it failed.
+// What is held of a verdict where there is room for this many bytes, or nothing if showing it
+// failed.
 fn shown(alloc: Global, verdict: &Verdict, room: usize) -> Result<Option<Vec<u8>>, NoMemory> {
     let mut text = NarrowText {
         room,

@@ -28,7 +28,7 @@ static CUTS: [(usize, &[u8]); 20] = [
     (71, b"accepted flow 14"),
 ];
 
-// What is printed of so many bytes of the answer.
+// What is printed of this many bytes of the answer.
 fn printed_at(count: usize) -> &'static [u8] {
     let mut printed = b"".as_slice();
     for (from, text) in &CUTS {
@@ -53,8 +53,8 @@ fn an_answer_cut_at_each_byte(rt: HostRuntime) -> Result<(), Fail> {
     Ok(())
 }
 
-// A line of the answer by what stands before its last number and that number, and what is printed where that is one
-// more, and one less.
+// A line of the answer by what stands before its last number and that number, and what is printed
+// where that is one more, and one less.
 struct Line {
     start: &'static str,
     number: i128,

@@ -14,8 +14,8 @@ const ANSWER: &[u8] =
 // The bytes that are put in.
 const BYTES: &[u8] = b"0123456789 -+.\n\t\rpnacsfyixr\x00\x7f\x80\xc3\xff_";
 
-// Whether the verdict on the texts accepts exactly where the plain judge does. No such text has a blocking set for its
-// answer, and no refusal.
+// Whether the verdict on the texts accepts exactly if the plain judge does. No such text has a
+// blocking set for its answer, and no refusal.
 fn is_judged_right(alloc: Global, input: &[u8], text: &[u8]) -> Result<bool, NoMemory> {
     let verdict = check(alloc, input, text)?;
     let accepted = matches!(
@@ -25,7 +25,7 @@ fn is_judged_right(alloc: Global, input: &[u8], text: &[u8]) -> Result<bool, NoM
     Ok(accepted == is_right(alloc, input, text)?)
 }
 
-// The text with so many bytes at the place taken out, and these put in.
+// The text with this many bytes at the place taken out, and these put in.
 fn edited(
     alloc: Global,
     text: &[u8],
@@ -58,7 +58,8 @@ impl EditedText {
         }
     }
 
-    // Whether the two texts are judged right with so many bytes of this one taken out, and these put in.
+    // Whether the two texts are judged right with this many bytes of this one taken out, and these
+    // put in.
     fn is_right_with(
         self,
         alloc: Global,

@@ -1,4 +1,5 @@
-//! Texts that come in pieces, cut anywhere: their lines, and what the reader gives for them beside what `read` gives for the whole.
+//! Texts that come in pieces, cut anywhere: their lines, and what the reader gives for them beside
+//! what `read` gives for the whole.
 use crate::instances::FAULTY_TEXTS;
 use mcf_instance::{Instance, Reader, Refusal, read};
 use mcf_text::{ArcId, FeedFault, LineFeed, NodeId, copies};
@@ -7,7 +8,8 @@ use std::test::Fail;
 
 type Outcome = Result<Instance, Refusal>;
 
-// An instance of four nodes, the empty text, and one with carriage returns, tabs, signs, zeros in front and no last line end.
+// An instance of four nodes, the empty text, and one with carriage returns, tabs, signs, zeros in
+// front and no last line end.
 static TEXTS: [&[u8]; 3] = [
     b"p min 4 5\nn 1 4\nn 4 -4\na 1 2 0 4 2\na 1 3 0 2 2\na 2 3 0 2 1\na 2 4 0 3 3\na 3 4 0 5 1\n",
     b"",
@@ -205,7 +207,8 @@ fn lines_of_two_pieces(rt: HostRuntime) -> Result<(), Fail> {
     Ok(())
 }
 
-// Whether a reader and a feed of lines take a text in two pieces, by calls of which each allocation is refused in turn.
+// Whether a reader and a feed of lines take a text in two pieces, by calls of which each allocation
+// is refused in turn.
 fn is_fed(alloc: Global, text: &[u8]) -> Result<bool, Fail> {
     let Some((first, second)) = text.split_at_checked(text.len() / 2) else {
         return Ok(false);

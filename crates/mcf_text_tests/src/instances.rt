@@ -223,7 +223,8 @@ fn assignments_have_two_sides(rt: HostRuntime) -> Result<(), Fail> {
     Ok(())
 }
 
-// Texts of arcs with low 0 and cap 1 that one with other bounds ends, or none, and the arcs of each.
+// Texts of arcs with low 0 and cap 1 that one with other bounds ends, or none, and the arcs of
+// each.
 static UNIT_ARCS: [(&[u8], &[Row]); 4] = [
     (
         b"p min 2 3\na 1 2 0 1 9\na 2 1 0 1 -9\na 2 2 0 1 0\n",
@@ -326,8 +327,8 @@ fn numbers_past_the_former_limits(rt: HostRuntime) -> Result<(), Fail> {
     Ok(())
 }
 
-// An instance on two nodes, with as many arcs as its problem line names: a thousand of the greatest bound and cost, whose
-// total is 10^36, and then these lines.
+// An instance on two nodes, with as many arcs as its problem line names: a thousand of the greatest
+// bound and cost, whose total is 10^36, and then these lines.
 fn of_greatest_total(alloc: Global, heading: &[u8], lines: &[u8]) -> Result<Vec<u8>, NoMemory> {
     let mut text = heading.to_vec(alloc)?;
     for _ in 0..1_000 {
@@ -337,7 +338,8 @@ fn of_greatest_total(alloc: Global, heading: &[u8], lines: &[u8]) -> Result<Vec<
     Ok(text)
 }
 
-// What the problem line and the last lines are after a thousand arcs of the greatest weight, and the refusal of the whole.
+// What the problem line and the last lines are after a thousand arcs of the greatest weight, and
+// the refusal of the whole.
 static TOTALS: [(&[u8], &[u8], u128, &str); 5] = [
     (b"p min 2 1001\n", b"a 1 2 0 1 1\n", 1_002, "total"),
     (b"p min 2 1001\n", b"a 1 2 -1 0 -1\n", 1_002, "total"),
@@ -371,7 +373,7 @@ fn lists_of_one_value(rt: HostRuntime) -> Result<(), Fail> {
     Ok(())
 }
 
-// The costs of the arcs of a text, added up, where the instance shares them.
+// The costs of the arcs of a text, summed, where the instance shares them.
 fn shared_cost(alloc: Global, text: &[u8]) -> Result<Option<i64>, NoMemory> {
     let Some(instance) = instance_of(alloc, text)? else {
         return Ok(None);

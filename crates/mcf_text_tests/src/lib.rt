@@ -1,9 +1,10 @@
 #![tactic(auto)]
 
-//! The tests of texts, instances, answers and the checker: what no clause says, and each public call with ample memory.
+//! The tests of texts, instances, answers and the checker: what no clause says, and each public
+//! call with ample memory.
 //!
-//! They stand in a crate of their own, since a crate with tests is proved twice, and apart from those of the solver, so that their proofs
-//! wait for no engine. It has no other function.
+//! They stand in a crate of their own, since a crate with tests is proved twice, and apart from
+//! those of the solver, so that their proofs wait for no engine. It has no other function.
 
 #[cfg(test)]
 mod answers;

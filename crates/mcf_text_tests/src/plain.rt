@@ -1,4 +1,5 @@
-//! A plain judge of flow answers to texts of the problem `min`: it splits the texts and compares by itself.
+//! A plain judge of flow answers to texts of the problem `min`: it splits the texts and compares by
+//! itself.
 use mcf_text::NoMemory;
 use std::alloc::Global;
 
@@ -28,7 +29,7 @@ struct PlainAnswer {
     prices: Vec<i128>,
 }
 
-// The number at a place of a line, where it is one at most so far from 0.
+// The number at a place of a line, if it is one at most so far from 0.
 fn number_at(fields: &[&str], place: usize, size: i128) -> Option<i128> {
     let field = fields.get(place)?;
     let value = field.parse::<i128>().ok()?;
@@ -151,7 +152,7 @@ impl PlainInstance {
         }
     }
 
-    // How many nodes there are, where the lines are a whole instance.
+    // The number of nodes, where the lines are a whole instance.
     fn nodes(&self) -> Option<i128> {
         let (nodes, arcs) = self.sizes?;
         if self.arcs.len() as i128 != arcs {
@@ -252,7 +253,7 @@ impl PlainAnswer {
         }
     }
 
-    // The price of a node, 0 where there is none.
+    // The price of a node, 0 if there is none.
     fn price(&self, node: i128) -> i128 {
         let mut number = 1i128;
         for price in self.prices.as_slice() {
@@ -295,7 +296,8 @@ fn answer_of(alloc: Global, text: &str) -> Result<Option<PlainAnswer>, NoMemory>
     Ok(Some(answer))
 }
 
-// Whether a flow line names the ends of an arc, with a flow that it takes and that its reduced cost allows.
+// Whether a flow line names the ends of an arc, with a flow that it takes and that its reduced cost
+// allows.
 fn is_right_arc(answer: &PlainAnswer, arc: PlainArc, line: (i128, i128, i128)) -> bool {
     let (src, dst, flow) = line;
     if src != arc.src || dst != arc.dst || flow < arc.low || arc.cap < flow {
@@ -350,8 +352,8 @@ fn is_right_for(instance: &PlainInstance, answer: &PlainAnswer) -> bool {
     answer.cost == Some(cost) && are_right_nodes(instance, answer, nodes)
 }
 
-/// Whether the answer text is a right flow answer to the instance text; texts that aren't UTF-8 hold no
-/// right line outside comments.
+/// Whether the answer text is a right flow answer to the instance text; texts that aren't UTF-8
+/// hold no right line outside comments.
 pub fn is_right(alloc: Global, input: &[u8], text: &[u8]) -> Result<bool, NoMemory> {
     let Ok(input) = str::from_utf8(input) else {
         return Ok(false);

@@ -235,7 +235,8 @@ fn put_numbers(out: &mut Vec<u8>, numbers: &[i128]) -> Result<(), NoMemory> {
 const APPENDED: &[u8] =
     b"keep -120 0 170141183460469231731687303715884105727 -170141183460469231731687303715884105728 ";
 
-// Each allocation of this is refused in turn, by `scripts/refuse_memory.py`, as those of worked rows are.
+// Each allocation of this is refused in turn, by `scripts/refuse_memory.py`, as those of worked
+// rows are.
 #[test]
 fn six_rows_of_numbers_are_appended(rt: HostRuntime) -> Result<(), Fail> {
     let mut out = b"keep ".to_vec(rt.alloc())?;
@@ -298,7 +299,7 @@ fn numbers_of_nodes_and_arcs(rt: HostRuntime) {
     ids_are_ordered_by_number();
 }
 
-// Whether a number makes a text longer, or none, where memory is wanting and the text is as it was.
+// Whether a number makes a text longer, or none, if memory runs out and the text is as it was.
 fn is_put(out: &mut Vec<u8>, number: i128) -> Option<bool> {
     let before = out.len();
     match put_number(out, number) {

@@ -1,8 +1,10 @@
 #![tactic(auto)]
 
-//! The program `mcfcheck INSTANCE ANSWER`: it judges the answer in one file for the instance in another.
+//! The program `mcfcheck INSTANCE ANSWER`: it judges the answer in one file for the instance in
+//! another.
 //!
-//! All that matters stands in `mcf_checker`; here the words are gathered, the files read and the status given.
+//! `mcf_checker` does all that matters; here the words are collected, the files read and the status
+//! returned.
 
 use mcf_checker::{FileFault, judge};
 use std::io::{self, ErrorKind};
@@ -25,7 +27,7 @@ fn read_file(rt: &(impl Files + AllocGlobal), path: &str) -> Result<Vec<u8>, Fil
     }
 }
 
-// The words, or none where one of them is no text.
+// The words, or none if one of them isn't text.
 fn words_or_none(rt: &(impl Env + AllocGlobal)) -> Result<Vec<String>, FileFault> {
     match words(rt) {
         Ok(words) => Ok(words),

@@ -100,7 +100,7 @@ after (Refused r) line = None
 
 -- ---- all lines
 
--- the state after a line that says this, if it fits; else the number of the line
+-- the state after a line that says this, if it fits; otherwise the number of the line
 abbrev pub and_then : Option Draft → ℕ → (Draft → Result Draft ℕ) → Result Draft ℕ
 and_then None number next = Err number
 and_then (Some d) number next = next d

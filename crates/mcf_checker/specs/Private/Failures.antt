@@ -14,7 +14,7 @@ failure_line Answer = answer_line
 failure_line Write = write_line
 failure_line NoMemory = memory_line
 
--- what is said of a file that wasn't read: want of memory, or that this file can't be read
+-- what is said of a file that wasn't read: lack of memory, or that this file can't be read
 abbrev pub failure_of : FileFault → Failure → Failure
 failure_of NoRoom unreadable = NoMemory
 failure_of Unreadable unreadable = unreadable

@@ -1,5 +1,6 @@
--- A search for the greatest prices that show a state, from prices that nearly show it: the label of a node is the
--- least cost, at costs times the scale and with the slack for each arc, of a walk with room that begins there.
+-- A search for the greatest prices that show a state, from prices that nearly show it: the label of
+-- a node is the least cost, at costs times the scale and with the slack for each arc, of a walk
+-- with room that begins there.
 use Rattle.std.specs.Prelude.{◌≡◌, ℕ, ◌+◌, ◌*◌, ◌^◌, ◌≤◌, ◌++◌, ◌∷◌, false, List, [], length, ℤ, pos, neg_ℤ, ◌+ℤ◌, ◌*ℤ◌, ◌≤ℤ◌, ◌<ℤ◌, ◌⊎◌}
 use Rattle.std.specs.List.{All, Contains}
 use Rattle.mcf_flows.specs.Blocking.{in_table}
@@ -44,7 +45,8 @@ RespectsLabel p h r =
     HasRoom p.state.now r
     → label p.prices.now h (tail p.state.now.net r) ≤ℤ (label p.prices.now h (head p.state.now.net r) +ℤ step p r)
 
--- from a cost on, a residual arc whose head has the label base offers its tail no label below 0, even without the slack
+-- from a cost on, a residual arc whose head has the label base offers its tail no label below 0,
+-- even without the slack
 abbrev pub IsPassedFrom : ℕ → ℤ → ℤ → Type 0
 IsPassedFrom scale base passed = (cost : ℤ) → passed ≤ℤ cost → pos 0 ≤ℤ (base +ℤ cost *ℤ pos scale)
 
@@ -52,14 +54,15 @@ IsPassedFrom scale base passed = (cost : ℤ) → passed ≤ℤ cost → pos 0 �
 abbrev pub CostsAtLeast : Pseudoflow → ℤ → Rid → Type 0
 CostsAtLeast s least r = HasRoom s r → least ≤ℤ unit_cost s.net r
 
--- a list of residual arcs begins with some whose reverses, with room, cost so much or more, and goes on with the rest
+-- a list of residual arcs begins with some whose reverses, with room, cost so much or more, and
+-- goes on with the rest
 pub record ArePassed (s : Pseudoflow) (passed : ℤ) (list rest : List Rid) : Type 0 where
   pub first : List Rid
   pub costs : All (λ r. CostsAtLeast s passed (reverse r)) first
   pub whole : list ≡ first ++ rest
 
--- a number is the cost of so many arcs, at costs times the scale and with the slack for each; they are no more
--- than the nodes less those that wait
+-- a number is the cost of this many arcs, at costs times the scale and with the slack for each;
+-- they are no more than the nodes less those that wait
 pub record IsLength (scale slack waiting nodes : ℕ) (z : ℤ) : Type 0 where
   pub price : ℤ
   pub arcs : ℕ
@@ -68,8 +71,8 @@ pub record IsLength (scale slack waiting nodes : ℕ) (z : ℤ) : Type 0 where
   pub price_low : neg_ℤ (pos (cost_limit * arcs)) ≤ℤ price
   pub low : neg_ℤ (pos (label_limit * arcs)) ≤ℤ z
 
--- the labels and the settled nodes of a search: residual arcs that enter settled nodes are respected, but those
--- whose reverses are still to come in a list
+-- the labels and the settled nodes of a search: residual arcs that enter settled nodes are
+-- respected, but those whose reverses are still to come in a list
 pub record IsRaising (p : NearState) (h : Keyed) (rest : List Rid) : Type 0 where
   pub flow : IsPseudoflow p.state.now
   pub key_count : length h.keys ≡ node_count p.state.now.net
@@ -88,8 +91,8 @@ pub record IsLastSettled (nodes : ℕ) (h : Keyed) (w : ℕ) : Type 0 where
   pub is_settled : Settled h w
   pub last : (u : ℕ) → IsNode nodes u → Settled h u → at_node h.keys u ≤ℤ at_node h.keys w
 
--- node w was just settled: the search goes on with whatever list has the reverses of the residual arcs that enter it, but
--- for those that are respected
+-- node w was just settled: the search goes on with whatever list has the reverses of the residual
+-- arcs that enter it, but for those that are respected
 pub record IsPopped (p : NearState) (h : Keyed) (w : ℕ) : Type 0 where
   pub flow : IsPseudoflow p.state.now
   pub key_count : length h.keys ≡ node_count p.state.now.net
@@ -100,7 +103,8 @@ pub record IsPopped (p : NearState) (h : Keyed) (w : ℕ) : Type 0 where
       → ((r : Rid) → HasRoom p.state.now r → head p.state.now.net r ≡ w → RespectsLabel p h r ⊎ Contains rest (reverse r))
       → IsRaising p h rest
 
--- the reverse of a residual arc has room, and offers its tail, which waits, a key no greater than its own
+-- the reverse of a residual arc has room, and offers its tail, which waits, a key no greater than
+-- its own
 pub record IsOffer (p : NearState) (h : Keyed) (out : Rid) (from : ℕ) (key : ℤ) : Type 0 where
   pub from_is : from ≡ tail p.state.now.net (reverse out)
   pub waits : Waits h from

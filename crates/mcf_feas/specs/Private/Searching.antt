@@ -51,8 +51,8 @@ pub record IsPathSearch (s : Pseudoflow) (table : List Bool) (visits : List Visi
   pub marked : (i : ℕ) → i < length visits → in_table table (node_at visits i) ≡ true
   pub every : (v : ℕ) → IsNode (node_count s.net) v → in_table table v ≡ true → (i : ℕ) × (i < length visits) × (node_at visits i ≡ v)
 
--- so far no visited node takes anything, and the residual arcs with room that leave the first of them lead
--- to visited nodes
+-- so far no visited node takes anything, and the residual arcs with room that leave the first of
+-- them lead to visited nodes
 pub record IsScanned (s : Pseudoflow) (table : List Bool) (visits : List Visit) (scanned : ℕ) : Type 0 where
   pub search : IsPathSearch s table visits
   pub within : scanned ≤ length visits
@@ -65,11 +65,13 @@ pub record IsFound (s : Pseudoflow) (visits : List Visit) : Type 0 where
   pub some : 0 < length visits
   pub deficit : surplus_at s (node_at visits (length visits - 1)) <ℤ pos 0
 
--- x is all that a path from node u to node w takes: all that u has, all that w takes, or all the room of an arc
+-- x is all that a path from node u to node w takes: all that u has, all that w takes, or all the
+-- room of an arc
 abbrev pub TakesAll : Pseudoflow → ℕ → List Rid → ℕ → ℤ → Type 0
 TakesAll s u path w x = (x ≡ surplus_at s u) ⊎ ((x +ℤ surplus_at s w ≡ pos 0) ⊎ Any (λ r. x ≡ room_of s r) path)
 
--- a path to node w along which x can go and no more: as much as a node with a surplus has, and as w takes
+-- a path to node w along which x can go and no more: as much as a node with a surplus has, and as w
+-- takes
 pub record IsPath (s : Pseudoflow) (path : List Rid) (w : ℕ) (x : ℤ) : Type 0 where
   pub source : ℕ
   pub is_node : IsNode (node_count s.net) source
@@ -80,7 +82,8 @@ pub record IsPath (s : Pseudoflow) (path : List Rid) (w : ℕ) (x : ℤ) : Type 
   pub taken : (x +ℤ surplus_at s w) ≤ℤ pos 0
   pub most : TakesAll s source path w x
 
--- a part of the surplus of one node moved to one that takes it, as much as a path between them takes
+-- a part of the surplus of one node moved to one that takes it, as much as a path between them
+-- takes
 pub record IsAugmented (s s' : Pseudoflow) : Type 0 where
   pub net : s'.net ≡ s.net
   pub flow : IsPseudoflow s'

@@ -1,4 +1,5 @@
--- The arcs of an instance as they are stored: without bounds while all have low 0 and cap 1, or with them.
+-- The arcs of an instance as they are stored: without bounds while all have low 0 and cap 1, or
+-- with them.
 use Rattle.std.specs.Prelude.{List, map, pos}
 use Rattle.mcf_flows.specs.declared.arc.Link.{Link}
 use Rattle.mcf_flows.specs.declared.arc.PackedArc.{PackedArc}

@@ -120,7 +120,7 @@ amount_fault allowed low cap cost =
     else (if not (is_up_to allowed.cost cost) then Some Cost
     else None))
 
--- goes on where there is no fault
+-- goes on if there is no fault
 abbrev pub unless_fault : {X : Type 0} → Option Code → Result X Code → Result X Code
 unless_fault None r = r
 unless_fault (Some e) r = Err e
@@ -129,7 +129,7 @@ unless_fault (Some e) r = Err e
 abbrev pub passes_total : Limits → Format → ℕ → PackedArc → Bool
 passes_total allowed problem total a = is_min problem && passes allowed.total (total + weight (unpacked a))
 
--- the arc, where the count of arcs, its sides and the total allow it
+-- the arc, where the number of arcs, its sides and the total allow it
 abbrev pub fitting_arc : Limits → Header → ℕ → ℕ → List Bool → PackedArc → Result PackedArc Code
 fitting_arc allowed h arcs total listed a =
     if nat_le h.arcs arcs then Err Extra

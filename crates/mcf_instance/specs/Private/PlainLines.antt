@@ -1,4 +1,5 @@
--- Arc lines of the plain form at the front of a text: the fields of a line told by the places where they begin.
+-- Arc lines of the plain form at the front of a text: the fields of a line told by the places where
+-- they begin.
 use Rattle.std.specs.Prelude.{◌≡◌, ◌≢◌, ℕ, ◌+◌, ◌<◌, ◌≤◌, true, List, [], ◌∷◌, ◌++◌, length, get_or, take, drop, codes, slice_index_or, ℤ, Bool, Some}
 use Rattle.mcf_text.specs.Fields.{EndsRun, fields_of, is_blank, is_kept}
 use Rattle.mcf_text.specs.Lines.{line_feed, lines_of}
@@ -15,7 +16,8 @@ pub record BeginsArc (text : List ℕ) : Type 0 where
   pub letter : get_or text 0 0 ≡ 97
   pub blank : is_blank (get_or text 1 0) ≡ true
 
--- of the fields of a line from one place on the first is this number, and the others begin at the next place or later
+-- of the fields of a line from one place on the first is this number, and the others begin at the
+-- next place or later
 pub record HasNumber (line : List ℕ) (start next : ℕ) (value : ℤ) : Type 0 where
   pub first : List ℕ
   pub fields : fields_of (drop start line) ≡ first ∷ fields_of (drop next line)
@@ -31,7 +33,8 @@ pub record EndsField (line : List ℕ) (end next : ℕ) : Type 0 where
 abbrev pub IsClear : List ℕ → ℕ → ℕ → Type 0
 IsClear text from to = (i : ℕ) → from ≤ i → i < to → get_or text i 0 ≢ line_feed
 
--- digits, perhaps with a minus sign, stand between these places: in a line that ends later they are this number, where a field ends with them
+-- digits, perhaps with a minus sign, stand between these places: in a line that ends later they are
+-- this number, where a field ends with them
 pub record HasDigits (text : List ℕ) (start stop : ℕ) (value : ℤ) : Type 0 where
   pub moves : start ≤ stop
   pub inside : stop ≤ length text

@@ -15,12 +15,12 @@ use Rattle.mcf_instance.specs.ReadOn.{StateData}
 use Rattle.mcf_instance.specs.Private.ReaderState.{problem_or_min}
 use Rattle.mcf_flows.specs.WellFormed.{HasEnds, IsArcWithinLimits, IsUpTo, weight}
 
--- the count of nodes of a header, 0 without one
+-- the number of nodes of a header, 0 without one
 abbrev pub header_nodes : Option Header → ℕ
 header_nodes None = 0
 header_nodes (Some h) = h.nodes
 
--- the count of arcs of a header, 0 without one
+-- the number of arcs of a header, 0 without one
 abbrev pub header_arcs : Option Header → ℕ
 header_arcs None = 0
 header_arcs (Some h) = h.arcs

@@ -16,7 +16,7 @@ pub record BeginsWithArc (s : StateData) (text : List ℕ) (arc : PackedArc) (en
   pub kept : is_kept (take end text) ≡ true
   pub item : item_of limits s (fields_of (take end text)) ≡ Ok (Link arc)
 
--- the arc of a first line of so many bytes, with the one that ends it, was taken in
+-- the arc of a first line of this many bytes, with the one that ends it, was taken in
 pub record Took (old : StateData) (text : List ℕ) (len : ℕ) (new : StateData) : Type 0 where
   pub arc : PackedArc
   pub end : ℕ
@@ -33,7 +33,8 @@ TakesArc old text (Some len) new = Took old text len new
 abbrev pub WantsArc : StateData → List ℕ → Type 0
 WantsArc s text = (arc : PackedArc) × (end : ℕ) × BeginsWithArc s text arc end
 
--- whatever follows the text, the new state has read so many lines more than the old one, and the rest is still to be read
+-- whatever follows the text, the new state has read this many lines more than the old one, and the
+-- rest is still to be read
 abbrev pub ReadsLines : StateData → List ℕ → StateData → ℕ → List ℕ → Type 0
 ReadsLines old text new lines rest = (whole : List ℕ) (next : ℕ) (more : List ℕ) → HasRead limits whole old next (numbered_lines next (text ++ more))
     → HasRead limits whole new (next + lines) (numbered_lines (next + lines) (rest ++ more))

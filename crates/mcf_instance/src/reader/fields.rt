@@ -1,14 +1,14 @@
-//! The first fields of a line, without taking memory.
+//! The first fields of a line, without any allocation.
 ghost use Rattle.std.specs.Prelude.{◌≡◌, ◌≤◌, map, take};
 ghost use Rattle.mcf_instance.specs.Private.ReaderState.{field_limit};
 ghost use Rattle.mcf_text.specs.Fields.{fields_of};
 
 use mcf_text::fields;
 
-// How many fields of a line are looked at: no good line has as many.
+// The number of fields that are read of a line: no valid line has as many.
 const FIELD_LIMIT: usize = 7;
 
-/// The first fields of a line: as many of the places as `count` says.
+/// The first fields of a line: the first `count` of the places.
 #[derive(Clone, Copy)]
 pub(crate) struct FirstFields<'t> {
     pub(crate) fields: [&'t [u8]; FIELD_LIMIT],

@@ -1,4 +1,4 @@
-//! What one line says: the tests of its fields, in the order in which faults are looked for.
+//! The content of one line: the tests of its fields, in the order in which faults are looked for.
 ghost use Rattle.std.specs.Prelude.{◌≡◌, ◌≤ℤ◌, ◌<ℤ◌, map, length, bytes_eq, pos, ◌+◌, ◌<◌, ◌^◌, ◌≤◌, ◌&&◌, IfSome, IfOk};
 ghost use Rattle.mcf_flows.specs.Blocking.{in_table};
 ghost use Rattle.mcf_instance.specs.Fault.{is_up_to};
@@ -15,12 +15,12 @@ use mcf_flows::{
 };
 use mcf_text::{Whole, whole};
 
-// How far from 0 the numbers lie that are kept as they are, and what stands for the others.
+// Numbers up to this absolute value are kept as they are; the next one stands for all others.
 const KEPT_SIZE: i128 = 1_000_000_000_000_000_000;
 
 const PAST_EVERY_RANGE: i64 = 1_000_000_000_000_000_001;
 
-/// What a problem line says.
+/// The content of a problem line.
 #[derive(Clone, Copy)]
 pub(crate) struct Header {
     pub(crate) problem: Problem,
@@ -38,7 +38,7 @@ pub(crate) struct ArcNumbers {
     pub(crate) cost: i64,
 }
 
-/// What a good line says.
+/// The content of a valid line.
 #[derive(Clone, Copy)]
 pub(crate) enum Item {
     Problem(Header),
@@ -58,7 +58,7 @@ fn is_within(low: i64, high: i64, value: i64) -> bool
     low <= value && value <= high
 }
 
-// The number that a field says, or one past every range.
+// The number in a field, or one outside every range.
 #[tactic(auto, unfolding(crate::specs::Private::LineReader::number_at))]
 fn number_of(fields: &[&[u8]], k: usize) -> Result<i64, Code>
     requires { k < length fields.now }
@@ -71,7 +71,7 @@ fn number_of(fields: &[&[u8]], k: usize) -> Result<i64, Code>
     }
 }
 
-// Two numbers, one after the other.
+// The numbers in two consecutive fields.
 fn number_pair(fields: &[&[u8]], k: usize) -> Result<(i64, i64), Code>
     requires { k + 1 < length fields.now }
     ensures { result ≡ number_pair (map (λ f. f.now) fields.now) k }
@@ -94,7 +94,7 @@ fn problem_of(word: &[u8]) -> Result<Problem, Code>
     }
 }
 
-// Whether there may be so many nodes and arcs.
+// Whether the numbers of nodes and arcs are within the limits.
 fn sizes_fit(nodes: i64, arcs: i64) -> bool
     ensures { result ≡ is_within (pos 0) (pos node_limit) nodes && is_within (pos 0) (pos arc_limit) arcs }
 {
@@ -212,7 +212,7 @@ fn node_tests(
     Ok((node, supply))
 }
 
-/// What a node line says: its node and its supply.
+/// The content of a node line: its node and its supply.
 #[tactic(auto, unfolding(crate::specs::Private::LineReader::node_line))]
 pub(crate) fn node_line(
     header: Option<Header>,
@@ -307,7 +307,7 @@ fn amount_fault(low: i64, cap: i64, cost: i64) -> Option<Code>
     None
 }
 
-// Whether the total of the arcs so far is above the limit with one more.
+// Whether one more arc takes the total above the limit.
 fn passes_total(problem: Problem, total: u128, arc: PackedArc) -> bool
     requires { total ≤ total_limit }
     ensures { result ≡ passes_total limits problem total arc }
@@ -318,7 +318,7 @@ fn passes_total(problem: Problem, total: u128, arc: PackedArc) -> bool
     }
 }
 
-// The arc, where the count of arcs, its sides and the total allow it.
+// The arc, if the number of arcs, its sides and the total allow it.
 #[inline(always)]
 fn fitting_arc(
     header: Header,
@@ -344,7 +344,7 @@ fn fitting_arc(
     Ok(arc)
 }
 
-/// What the numbers of an arc line say, or their fault.
+/// The content of the numbers of an arc line, or their fault.
 #[tactic(auto, unfolding(crate::specs::Private::LineReader::arc_tests))]
 #[inline(always)]
 pub(crate) fn arc_tests(
@@ -385,7 +385,7 @@ pub(crate) fn arc_tests(
     )
 }
 
-/// What an arc line says.
+/// The content of an arc line.
 #[tactic(auto, using(crate::proofs::Signed::signed), unfolding(crate::specs::Private::LineReader::arc_line))]
 pub(crate) fn arc_line(
     header: Option<Header>,

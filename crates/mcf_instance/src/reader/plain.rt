@@ -1,6 +1,6 @@
-//! Arc lines of the plain form at the front of a text, read in one pass up to the byte that ends them: `a` and
-//! numbers of at most eighteen digits, each with one blank before it, and at most one at the end. Other lines,
-//! and lines with a fault, go another way, and are read as these are.
+//! Arc lines of the plain form at the front of a text, read in one pass up to the byte that ends
+//! them: `a` and numbers of at most eighteen digits, with one blank before each, and at most one at
+//! the end. Other lines, and lines with a fault, are read by their fields, with the same result.
 ghost use Rattle.std.specs.Prelude.{◌≡◌, ◌<◌, ◌≤◌, IfSome, IsTrue, length};
 ghost use Rattle.mcf_instance.specs.Private.PlainLines.{BeginsArc, BlankAt, EndsLine, HasDigits, HasField, HasLastField, SaysArc};
 ghost use Rattle.mcf_text.specs.Fields.{is_blank};
@@ -9,7 +9,7 @@ use crate::reader::line::ArcNumbers;
 use mcf_flows::Problem;
 use mcf_text::leading_digits;
 
-// A number, and a place behind it.
+// A number, and the place after it.
 #[derive(Clone, Copy)]
 struct PlainNumber {
     value: i64,
@@ -38,7 +38,7 @@ pub(crate) fn begins_arc(text: &[u8]) -> bool
     2 <= text.len() && text[0] == b'a' && is_blank(text[1])
 }
 
-// The minus sign and the digits that begin at this place, and the place behind them.
+// The minus sign and the digits that begin at this place, and the place after them.
 #[inline(never)]
 fn minus_digits(text: &[u8], start: usize) -> Option<PlainNumber>
     requires { start ≤ length text.now }
@@ -57,7 +57,7 @@ fn minus_digits(text: &[u8], start: usize) -> Option<PlainNumber>
     })
 }
 
-// The digits that begin at this place, with or without a minus sign before them, and the place behind them.
+// The digits that begin at this place, after a minus sign or none, and the place after them.
 #[inline(always)]
 fn digits_at(text: &[u8], start: usize) -> Option<PlainNumber>
     requires { start ≤ length text.now }
@@ -73,7 +73,7 @@ fn digits_at(text: &[u8], start: usize) -> Option<PlainNumber>
     })
 }
 
-// The place past the blank that stands here.
+// The place after the blank that is here.
 #[inline(always)]
 fn past_blank(text: &[u8], stop: usize) -> Option<usize>
     requires { stop ≤ length text.now }
@@ -97,7 +97,7 @@ fn past_any_blank(text: &[u8], stop: usize) -> Option<usize>
     None
 }
 
-// The number that begins at this place, and the place past the blank behind it.
+// The number that begins at this place, and the place after the blank that follows it.
 #[inline(always)]
 fn number_at(text: &[u8], start: usize) -> Option<PlainNumber>
     requires { start ≤ length text.now }
@@ -111,7 +111,7 @@ fn number_at(text: &[u8], start: usize) -> Option<PlainNumber>
     })
 }
 
-// The place of the byte that ends the line of which the last field ends here.
+// The place of the byte that ends the line whose last field ends here.
 #[inline(always)]
 fn line_end(text: &[u8], stop: usize) -> Option<usize>
     requires { stop ≤ length text.now }
@@ -123,7 +123,7 @@ fn line_end(text: &[u8], stop: usize) -> Option<usize>
     line_end_past_blank(text, stop)
 }
 
-// The same where a blank stands behind that field, as at the end of a line of another system.
+// The same if a blank follows that field, as in files from other systems.
 #[inline(never)]
 fn line_end_past_blank(text: &[u8], stop: usize) -> Option<usize>
     requires { stop ≤ length text.now }
@@ -136,7 +136,8 @@ fn line_end_past_blank(text: &[u8], stop: usize) -> Option<usize>
     None
 }
 
-// The number that begins at this place, and the place of the byte that ends the line right behind it.
+// The number that begins at this place, and the place of the byte right after it that ends the
+// line.
 #[inline(always)]
 fn last_number_at(text: &[u8], start: usize) -> Option<PlainNumber>
     requires { start ≤ length text.now }
@@ -150,7 +151,8 @@ fn last_number_at(text: &[u8], start: usize) -> Option<PlainNumber>
     })
 }
 
-/// The first line of a text, which begins as an arc line, where it is one of an assignment and plain.
+/// The first line of a text that begins like an arc line, if that line is a plain one of an
+/// assignment.
 #[inline(always)]
 pub(crate) fn plain_pair(text: &[u8]) -> Option<PlainArc>
     requires { BeginsArc text.now }
@@ -172,7 +174,7 @@ pub(crate) fn plain_pair(text: &[u8]) -> Option<PlainArc>
     })
 }
 
-/// The same of the flow problem.
+/// The same for the flow problem.
 #[inline(always)]
 pub(crate) fn plain_link(text: &[u8]) -> Option<PlainArc>
     requires { BeginsArc text.now }

@@ -1,5 +1,5 @@
--- The mates of a matching; the nodes that a search settled in their order, and the alternating paths of its predecessors from its
--- row to each of them.
+-- The mates of a matching; the nodes that a search settled in their order, and the alternating
+-- paths of its predecessors from its row to each of them.
 use Rattle.std.specs.Prelude.{◌≡◌, ◌≢◌, ℕ, ◌+◌, ◌-◌, ◌<◌, ◌≤◌, ◌==◌, List, [], ◌∷◌, length, ℤ, pos, ◌⊎◌, if◌then◌else◌, slice_index_or}
 use Rattle.std.specs.List.{All, AllPairs, Contains}
 use Rattle.mcf_flows.specs.Network.{IsArcNumber, IsNode, node_count}
@@ -19,7 +19,8 @@ mate k v = record { arc = k; node = v }
 abbrev pub mate_at : List Mate → ℕ → Mate
 mate_at mates v = slice_index_or mates (v - 1) (mate 0 0)
 
--- each arc of amount 1 stands at its row, with its column, and at its column, with its row, and an arc stands only where a node is matched
+-- each arc of amount 1 stands at its row, with its column, and at its column, with its row, and an
+-- arc stands only where a node is matched
 pub record AreMates (s : Pseudoflow) (mates : List Mate) : Type 0 where
   pub count : length mates ≡ node_count s.net
   pub at_row : (k : ℕ) → IsPair s k → mate_at mates (row_of s k) ≡ mate k (column_of s k)
@@ -31,8 +32,8 @@ abbrev pub place : List ℕ → ℕ → ℕ
 place [] v = 0
 place (x ∷ xs) v = if x == v then 0 else place xs v + 1
 
--- the list has the settled nodes, each once, the row first, and each with the node before it on an alternating
--- path earlier than it
+-- the list has the settled nodes, each once, the row first, and each with the node before it on an
+-- alternating path earlier than it
 pub record IsOrder (s : Pseudoflow) (q : Search) (source : ℕ) (order : List ℕ) : Type 0 where
   pub rest : List ℕ
   pub first : order ≡ source ∷ rest
@@ -76,8 +77,9 @@ abbrev pub IsChangedWithin : Pseudoflow → Pseudoflow → Search → ℕ → Ty
 IsChangedWithin old s q t =
     (i : ℕ) → IsArcNumber old.net i → (amount_at s i ≡ amount_at old i) ⊎ (Settled q (row_of old i) × (Settled q (column_of old i) ⊎ (column_of old i ≡ t)))
 
--- the path that ends with the target arc is turned from its end on as far as the column of arc k, which is free now: all rows are
--- matched that were, and the pairs of earlier rows, and that of the row of k, are as they were
+-- the path that ends with the target arc is turned from its end on as far as the column of arc k,
+-- which is free now: all rows are matched that were, and the pairs of earlier rows, and that of the
+-- row of k, are as they were
 pub record IsTurning (old s : Pseudoflow) (mates : List Mate) (q : Search) (order : List ℕ) (target k : ℕ) : Type 0 where
   pub net : s.net ≡ old.net
   pub matching : IsPartialMatching s

@@ -12,7 +12,8 @@ use Rattle.mcf_matching.specs.Matchings.{AreMatchingPrices, IsMatchedRow, IsPart
 use Rattle.mcf_matching.specs.Private.Reaches.{first_price, price_reach}
 use Rattle.mcf_matching.specs.Private.Searches.{HasEntries, HasForward, IsLast, IsOver, IsSearch, Search, Settled, search_of}
 
--- tables for a net: what is settled is listed, and there is room to list every node, and to queue an offer of every arc twice
+-- tables for a net: what is settled is listed, and there is room to list every node, and to queue
+-- an offer of every arc twice
 pub record IsIdle (g : Network) {W : Type 0} (tables : Tables W) : Type 0 where
   pub entries : HasEntries (node_count g) (search_of tables)
   pub room : node_count g ≤ vec_capacity tables.order
@@ -38,7 +39,7 @@ pub record IsEnded (s : Pseudoflow) (y : List ℤ) (q : Search) (source : ℕ) (
 abbrev pub AreNearZero : Pseudoflow → List ℤ → Type 0
 AreNearZero s y = (v : ℕ) → IsNode (node_count s.net) v → IsUpTo (price_reach s.net) (at_node y v)
 
--- the first prices of so many nodes: those of rows, and 0 for the others
+-- the first prices of this many nodes: those of rows, and 0 for the others
 pub record AreFirstPrices (g : Network) (y : List ℤ) (nodes : ℕ) : Type 0 where
   pub one_per_node : length y ≡ node_count g
   pub rows : (v : ℕ) → IsNode nodes v → pos 0 <ℤ at_node g.supplies v → at_node y v ≡ first_price g

@@ -1,4 +1,5 @@
--- What a search finds: distances with what gave them. Each is a struct of the code without the width of its numbers.
+-- What a search finds: distances with what gave them. Each is a struct of the code without the
+-- width of its numbers.
 use Rattle.std.specs.Prelude.{ℕ, ℤ}
 
 -- the last arc of a walk to a column that is not matched, and the length of the walk

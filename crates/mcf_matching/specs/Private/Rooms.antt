@@ -19,8 +19,8 @@ out_count g nodes = count_by (λ (r : Rid). list_any (λ v. (arc_at g r.arc).src
 abbrev pub HasRoom : {W : Type 0} → ℕ → Tables W → Type 0
 HasRoom more tables = length tables.offers.items + more ≤ tables.offers.room
 
--- what was settled stays, in its order and at its distance; there is as much room in all as before, and so many offers more wait
--- at most
+-- what was settled stays, in its order and at its distance; there is as much room in all as before,
+-- and so many offers more wait at most
 pub record KeepsSettled (more : ℕ) {W : Type 0} (old new : Tables W) : Type 0 where
   pub labels : KeepsLabels (search_of old) (search_of new)
   pub order : new.order ≡ old.order

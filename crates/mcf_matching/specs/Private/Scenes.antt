@@ -13,8 +13,8 @@ use Rattle.mcf_matching.specs.Private.Labels.{Row}
 use Rattle.mcf_matching.specs.Private.Reaches.{HasWidth, base_reach}
 use Rattle.mcf_matching.specs.Private.Keeping.{AreNearZero}
 
--- a partial matching with the arcs of its rows and the mates, and prices that show it and are near 0, all in numbers that may lie so
--- far from 0
+-- a partial matching with the arcs of its rows and the mates, and prices that show it and are near
+-- 0, all in numbers that may lie so far from 0
 pub record IsScene (room : ℕ) (s : Pseudoflow) (arcs : Rows) (y : List ℤ) (table : List Mate) : Type 0 where
   pub matching : IsPartialMatching s
   pub rows : AreRows s.net arcs
@@ -23,8 +23,9 @@ pub record IsScene (room : ℕ) (s : Pseudoflow) (arcs : Rows) (y : List ℤ) (t
   pub small : AreNearZero s y
   pub width : HasWidth room s.net
 
--- what holds while the arcs of a row are relaxed: it is settled, no settled node is farther, and its base is its distance less its
--- price, so that an arc offers its column that base, its cost and the price of the column together
+-- what holds while the arcs of a row are relaxed: it is settled, no settled node is farther, and
+-- its base is its distance less its price, so that an arc offers its column that base, its cost and
+-- the price of the column together
 pub record IsScannedRow (room : ℕ) (s : Pseudoflow) (arcs : Rows) (y : List ℤ) (table : List Mate) (q : Search) (row : Row) : Type 0 where
   pub scene : IsScene room s arcs y table
   pub entries : HasEntries (node_count s.net) q

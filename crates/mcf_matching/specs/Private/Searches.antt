@@ -1,5 +1,5 @@
--- A search for a shortest augmenting path from a row that is not matched (Ahuja, Magnanti and Orlin, Network Flows,
--- section 12.4): distances by reduced costs.
+-- A search for a shortest augmenting path from a row that is not matched (Ahuja, Magnanti and
+-- Orlin, Network Flows, section 12.4): distances by reduced costs.
 use Rattle.std.specs.Prelude.{◌≡◌, ℕ, ◌+◌, ◌-◌, ◌*◌, Bool, true, false, List, [], ◌∷◌, ◌++◌, length, Option, Some, None, ℤ, pos, ◌+ℤ◌, ◌-ℤ◌, ◌≤ℤ◌, ◌⊎◌, slice_index_or}
 use Rattle.std.specs.Prelude.{slice_set}
 use Rattle.std.specs.List.{Contains}
@@ -16,8 +16,9 @@ use Rattle.mcf_matching.specs.declared.search.Tables.{Tables}
 use Rattle.mcf_matching.specs.Matchings.{IsColumn, IsMatchedColumn, IsMatchedRow, IsPair, IsRow, column_of, reduced, row_of}
 use Rattle.mcf_matching.specs.Private.Reaches.{greatest_cost}
 
--- for each node its distance, the offers that wait, which nodes are settled, for each column the arc that gave it its
--- distance, the best column found that is not matched, and which of the searches of its tables it is
+-- for each node its distance, the offers that wait, which nodes are settled, for each column the
+-- arc that gave it its distance, the best column found that is not matched, and which of the
+-- searches of its tables it is
 pub record Search : Type 0 where
   pub dist : List ℤ
   pub queue : List Offer
@@ -118,17 +119,17 @@ HasEntries nodes q = HasLengths nodes q.dist q.settled q.predecessors
 abbrev pub forward : ℕ → Rid
 forward k = record { arc = k; back = false }
 
--- how far the distances of a search lie from the prices: each is the cost of a walk from the source, but for the
--- prices of its ends, and costs are small
+-- how far the distances of a search lie from the prices: each is the cost of a walk from the
+-- source, but for the prices of its ends, and costs are small
 abbrev pub IsNear : Pseudoflow → List ℤ → Search → ℕ → ℕ → Type 0
 IsNear s y q source b = (v : ℕ) → IsNode (node_count s.net) v → Settled q v → IsUpTo b (dist_at q v +ℤ at_node y source -ℤ at_node y v)
 
--- how far the distances may lie when so many nodes are settled
+-- how far the distances may lie when this many nodes are settled
 abbrev pub reach_of : Network → Search → ℕ
 reach_of g q = 2 * greatest_cost g * member_count q.settled
 
--- a search from a row: all arcs from settled rows were offered, but those of a list. An offer that waits for a column that
--- was settled since is of no account
+-- a search from a row: all arcs from settled rows were offered, but those of a list. An offer that
+-- waits for a column that was settled since is of no account
 pub record IsSearch (s : Pseudoflow) (y : List ℤ) (q : Search) (source : ℕ) (rest : List Rid) : Type 0 where
   pub entries : HasEntries (node_count s.net) q
   pub is_row : IsRow s source
@@ -148,7 +149,8 @@ pub record IsSearch (s : Pseudoflow) (y : List ℤ) (q : Search) (source : ℕ) 
 abbrev pub IsLast : Pseudoflow → Search → ℕ → Type 0
 IsLast s q r = (u : ℕ) → IsNode (node_count s.net) u → Settled q u → dist_at q u ≤ℤ dist_at q r
 
--- an offer that settles its column: no settled node is farther away, and neither an offer that waits nor the target is nearer
+-- an offer that settles its column: no settled node is farther away, and neither an offer that
+-- waits nor the target is nearer
 pub record IsDue (s : Pseudoflow) (y : List ℤ) (q : Search) (o : Offer) : Type 0 where
   pub matched : IsMatchedColumn s o.column
   pub fresh : ¬ Settled q o.column
@@ -157,7 +159,8 @@ pub record IsDue (s : Pseudoflow) (y : List ℤ) (q : Search) (o : Offer) : Type
   pub nearest : (p : Offer) → Waits q p → o.dist ≤ℤ p.dist
   pub before_best : (t : Target) → q.best ≡ Some t → o.dist ≤ℤ t.dist
 
--- the prices after a search to a column at distance x: those of settled nodes rise by what they are nearer
+-- the prices after a search to a column at distance x: those of settled nodes rise by what they are
+-- nearer
 pub record AreRaised (s : Pseudoflow) (q : Search) (x : ℤ) (y z : List ℤ) : Type 0 where
   pub count : length z ≡ length y
   pub settled : (v : ℕ) → IsNode (node_count s.net) v → Settled q v → at_node z v ≡ at_node y v +ℤ (x -ℤ dist_at q v)
@@ -167,7 +170,8 @@ pub record AreRaised (s : Pseudoflow) (q : Search) (x : ℤ) (y z : List ℤ) : 
 abbrev pub IsOver : Search → Type 0
 IsOver q = (o : Offer) → Waits q o → IsBestUpTo q.best o.dist
 
--- a search once the nearest offer of use was taken out: that offer settles its column; without one the search is over
+-- a search once the nearest offer of use was taken out: that offer settles its column; without one
+-- the search is over
 abbrev pub IsNearest : Pseudoflow → List ℤ → ℕ → Search → Option Offer → Type 0
 IsNearest s y source q None = IsSearch s y q source [] × IsOver q
 IsNearest s y source q (Some o) = IsSearch s y q source (forward o.arc ∷ []) × IsDue s y q o

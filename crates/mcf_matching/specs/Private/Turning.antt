@@ -7,8 +7,8 @@ use Rattle.mcf_network.specs.Walks.{CanPushAlong, IsWalk, pushed_along}
 use Rattle.mcf_matching.specs.Extending.{IsAugmented}
 use Rattle.mcf_matching.specs.Matchings.{IsMatchedColumn, IsMatchedRow, IsPair, IsPartialMatching, reduced, row_of}
 
--- one more went along the part of the path from column c on to column t, which wasn't matched: arcs with room, whose rows
--- have later places than the bound
+-- one more went along the part of the path from column c on to column t, which wasn't matched: arcs
+-- with room, whose rows have later places than the bound
 pub record IsPushedFrom (old s : Pseudoflow) (place : ℕ → ℕ) (bound c t : ℕ) : Type 0 where
   pub walk : List Rid
   pub leads : IsWalk old.net c walk t

@@ -9,7 +9,8 @@ use Rattle.mcf_matching.specs.Extending.{Assigned, IsMatched}
 use Rattle.mcf_matching.specs.Matchings.{AreMatchingPrices, IsMatchedRow, IsPair, IsRow, reduced}
 use Rattle.mcf_matching.specs.Private.Reaches.{price_reach}
 
--- a new price x fits a node: it is near 0 and no less than before, and that of a free node is as before
+-- a new price x fits a node: it is near 0 and no less than before, and that of a free node is as
+-- before
 pub record DoesNodeFit (s : Pseudoflow) (y : List ℤ) (v : ℕ) (x : ℤ) : Type 0 where
   pub near : IsUpTo (price_reach s.net) x
   pub above : at_node y v ≤ℤ x

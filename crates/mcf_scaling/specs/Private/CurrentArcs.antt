@@ -20,8 +20,8 @@ current_of current_arcs v = slice_index_or current_arcs (v - 1) 0
 abbrev pub rest_of : Star → List ℕ → ℕ → List Rid
 rest_of star current_arcs v = rest_from star v (current_of current_arcs v)
 
--- for each node the position of its current arc: from there on stand residual arcs that leave it, and no other that leaves it has room
--- and a negative reduced cost
+-- for each node the position of its current arc: from there on stand residual arcs that leave it,
+-- and no other that leaves it has room and a negative reduced cost
 pub record AreCurrentArcs (s : Pseudoflow) (prices : List ℤ) (star : Star) (current_arcs : List ℕ) : Type 0 where
   pub count : length current_arcs ≡ node_count s.net
   pub within : (v : ℕ) → IsNode (node_count s.net) v → current_of current_arcs v ≤ (span_of star v).end

@@ -18,7 +18,8 @@ abbrev pub StandsFor : ℤ → Option ℤ → Type 0
 StandsFor x None = pos nothing ≤ℤ x
 StandsFor x (Some y) = (x ≡ y) × (x <ℤ pos nothing)
 
--- the cost of a residual arc, times the count of nodes plus 1, plus the price of its head: its reduced cost with the price of its tail
+-- the cost of a residual arc, times the number of nodes plus 1, plus the price of its head: its
+-- reduced cost with the price of its tail
 abbrev pub landed : Network → List ℤ → Rid → ℤ
 landed g prices r = scaled_cost g r +ℤ at_node prices (head g r)
 

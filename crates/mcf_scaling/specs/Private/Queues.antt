@@ -21,7 +21,7 @@ pub record IsQueue (q : Waiting) : Type 0 where
   pub marked : (v : ℕ) → IsNode (length q.table) v → in_table q.table v ≡ true → Contains q.nodes v
   pub waits : All (λ v. in_table q.table v ≡ true) q.nodes
 
--- nobody of so many nodes waits
+-- nobody of this many nodes waits
 abbrev pub no_queue : ℕ → Waiting
 no_queue nodes = record { table = no_nodes nodes; nodes = [] }
 

@@ -1,4 +1,5 @@
--- The forward star: the residual arcs that leave each node, side by side, as a scan reads them; the position of each; and a mark for each that has capacity.
+-- The forward star: the residual arcs that leave each node, side by side, as a scan reads them; the
+-- position of each; and a mark for each that has capacity.
 use Rattle.std.specs.Prelude.{◌≡◌, ◌≢◌, ℕ, ◌+◌, ◌-◌, ◌*◌, ◌/◌, ◌%◌, ◌==◌, ◌<◌, ◌≤◌, Bool, false, List, length, map, drop, take, slice_index_or, pos}
 use Rattle.std.specs.Bool.{OnFalse, OnTrue}
 use Rattle.std.specs.List.{All}
@@ -11,7 +12,8 @@ use Rattle.mcf_network.specs.Walks.{HasRoom}
 use Rattle.mcf_scaling.specs.declared.star.ResidualArc.{ResidualArc}
 use Rattle.mcf_scaling.specs.declared.star.Span.{Span}
 
--- for each node the positions of the residual arcs that leave it; the residual arc at each position; and for each number of a residual arc its position
+-- for each node the positions of the residual arcs that leave it; the residual arc at each
+-- position; and for each number of a residual arc its position
 pub record Star : Type 0 where
   pub spans : List Span
   pub outs : List ResidualArc
@@ -51,7 +53,8 @@ residual_at p = residual_of p.link
 abbrev pub residuals : List ResidualArc → ℕ → ℕ → List Rid
 residuals outs i end = map residual_at (drop i (take end outs))
 
--- that of the first n nodes: at the positions of each stand the residual arcs that leave it, and each position is one of a node
+-- that of the first n nodes: at the positions of each stand the residual arcs that leave it, and
+-- each position is one of a node
 pub record IsStarUpTo (g : Network) (star : Star) (n : ℕ) : Type 0 where
   pub count : length star.spans ≡ n
   pub each : All (IsResidualArc g) star.outs
@@ -93,7 +96,8 @@ mark_of has_capacity i = slice_index_or has_capacity i false
 abbrev pub standing : Star → ℕ → Rid
 standing star i = residual_at (out_at star i)
 
--- a mark for each position of a residual arc of the first n arcs, and one for each of the others that says nothing
+-- a mark for each position of a residual arc of the first n arcs, and one for each of the others
+-- that says nothing
 pub record AreCapacityMarksUpTo (s : Pseudoflow) (star : Star) (has_capacity : List Bool) (n : ℕ) : Type 0 where
   pub count : length has_capacity ≡ length star.outs
   pub each : (i : ℕ) → i < length has_capacity → (standing star i).arc ≤ n → IsCapacityMark s (standing star i) (mark_of has_capacity i)

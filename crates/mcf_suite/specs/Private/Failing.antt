@@ -18,8 +18,8 @@ failure_text (Usage text) = string_bytes text
 failure_text Open = open_line
 failure_text (Run fault) = fault_line fault
 
--- what is so of a source before and after, and of the sink, where a run between them fails: the sink is as it was, or
--- writing on it failed
+-- what is so of a source before and after, and of the sink, where a run between them fails: the
+-- sink is as it was, or writing on it failed
 abbrev pub IsRunFailure : Option (List ℕ) → ℕ → ℕ → Type 0 → Type 0 → Failure → Type 0
 IsRunFailure given before after untouched failed (Usage text) = ⊥
 IsRunFailure given before after untouched failed Open = ⊥
@@ -41,7 +41,8 @@ IsFailure remaining failures input input' Opens words untouched failed (Run NoMe
 IsFailure remaining failures input input' Opens words untouched failed (Run TooLong) =
     untouched × AsksToSolve words (λ a. GivesTooMuch remaining input input' Opens a.file)
 
--- the sink took what is shown where the words ask for it, by the kind of their fault: some help, or the version
+-- the sink took what is shown where the words ask for it, by the kind of their fault: some help, or
+-- the version
 abbrev pub IsShown : ErrorKind → Option (List ℕ) → Option (List ℕ) → Type 0
 IsShown kind old new =
     ((kind ≡ DisplayHelp) × ((text : List ℕ) × Appends old new text)) ⊎ ((kind ≡ DisplayVersion) × Appends old new version_text)
