@@ -5,7 +5,7 @@ use Rattle.clap.specs.Words.{Text, fault_of, first_of, subcommand_of, takes}
 use Rattle.clap.specs.declared.error.kind.ErrorKind.TheVariants.{DisplayHelp, InvalidValue, MissingSubcommand, UnknownArgument, ValueValidation}
 use Rattle.clap.proofs.OnLiterals.{clap_on_literals}
 use Rattle.mcf_choice.specs.declared.choice.EngineChoice.{EngineChoice}
-use Rattle.mcf_choice.specs.declared.choice.EngineChoice.TheVariants.{Auto, Cancel, Scaling, Augment, Sap}
+use Rattle.mcf_choice.specs.declared.choice.EngineChoice.TheVariants.{Auto, Cancel, Scaling, Fast, Sap}
 use Rattle.mcf_choice.specs.declared.choice.PricingChoice.{PricingChoice}
 use Rattle.mcf_choice.specs.declared.choice.PricingChoice.TheVariants.{Best, Block}
 use Rattle.mcf_choice.specs.declared.choice.Form.{Form}
@@ -48,9 +48,9 @@ with_scaling : asked_by (codes "mcf" ∷ codes "solve" ∷ codes "--engine=scali
 unfolding clap_on_literals asked_by some_app
 with_scaling = refl
 
-with_augment : asked_by (codes "mcf" ∷ codes "solve" ∷ codes "--engine=augment" ∷ []) ≡ Some (codes "solve", Augment, None)
+with_fast : asked_by (codes "mcf" ∷ codes "solve" ∷ codes "--engine=fast" ∷ []) ≡ Some (codes "solve", Fast, None)
 unfolding clap_on_literals asked_by some_app
-with_augment = refl
+with_fast = refl
 
 with_sap : asked_by (codes "mcf" ∷ codes "solve" ∷ codes "--engine=sap" ∷ []) ≡ Some (codes "solve", Sap, None)
 unfolding clap_on_literals asked_by some_app
@@ -71,6 +71,10 @@ without_form = refl
 with_form : form_asked_by (codes "mcf" ∷ codes "solve" ∷ codes "--form" ∷ codes "2" ∷ codes "a.min" ∷ []) ≡ Some Two
 unfolding clap_on_literals form_asked_by some_app
 with_form = refl
+
+with_named_form : form_asked_by (codes "mcf" ∷ codes "solve" ∷ codes "--form=sparse" ∷ []) ≡ Some Two
+unfolding clap_on_literals form_asked_by some_app
+with_named_form = refl
 
 no_form : fault_of some_app (codes "mcf" ∷ codes "solve" ∷ codes "--form=3" ∷ []) ≡ InvalidValue ∷ []
 unfolding clap_on_literals some_app

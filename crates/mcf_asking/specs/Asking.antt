@@ -15,7 +15,7 @@ use Rattle.clap.specs.declared.error.Error.{Error}
 use Rattle.clap.specs.declared.error.kind.ErrorKind.TheVariants.{OutOfMemory}
 use Rattle.mcf_asking.specs.declared.asking.Asked.{Asked}
 use Rattle.mcf_choice.specs.declared.choice.EngineChoice.{EngineChoice}
-use Rattle.mcf_choice.specs.declared.choice.EngineChoice.TheVariants.{Auto, Cancel, Simplex, Scaling, Augment, Sap}
+use Rattle.mcf_choice.specs.declared.choice.EngineChoice.TheVariants.{Auto, Cancel, Simplex, Scaling, Fast, Sap}
 use Rattle.mcf_choice.specs.declared.choice.PricingChoice.{PricingChoice}
 use Rattle.mcf_choice.specs.declared.choice.PricingChoice.TheVariants.{First, Best, Block, Wide}
 use Rattle.mcf_choice.specs.declared.choice.Form.{Form}
@@ -25,7 +25,7 @@ use Rattle.mcf_choice.specs.BlockSizes.{block_limit, standard_block}
 -- the names of the engines, and what each asks for
 abbrev pub engine_words : List (Text × EngineChoice)
 engine_words =
-    (codes "auto", Auto) ∷ (codes "cancel", Cancel) ∷ (codes "simplex", Simplex) ∷ (codes "scaling", Scaling) ∷ (codes "augment", Augment)
+    (codes "auto", Auto) ∷ (codes "cancel", Cancel) ∷ (codes "simplex", Simplex) ∷ (codes "scaling", Scaling) ∷ (codes "fast", Fast)
     ∷ (codes "sap", Sap) ∷ []
 
 -- the names of the engines
@@ -42,7 +42,7 @@ pricing_names = map (λ (row : Text × PricingChoice). row.0) pricing_words
 
 -- the names of the forms of an answer, and what each asks for
 abbrev pub form_words : List (Text × Form)
-form_words = (codes "1", One) ∷ (codes "2", Two) ∷ []
+form_words = (codes "full", One) ∷ (codes "sparse", Two) ∷ (codes "1", One) ∷ (codes "2", Two) ∷ []
 
 -- the names of the forms
 abbrev pub form_names : List Text
@@ -65,9 +65,9 @@ engine_rule names = word_rule (codes "engine") names (codes "auto")
 abbrev pub pricing_rule : Bor (List (Bor Text)) → Rule
 pricing_rule names = word_rule (codes "pricing") names (codes "block")
 
--- `--form FORM`, one of these names, and `1` where it is left out
+-- `--form FORM`, one of these names, and `full` where it is left out
 abbrev pub form_rule : Bor (List (Bor Text)) → Rule
-form_rule names = word_rule (codes "form") names (codes "1")
+form_rule names = word_rule (codes "form") names (codes "full")
 
 -- what `--block` takes: the digits of a number from 1 to 1,000,000
 abbrev pub block_parser : ValueParser
@@ -165,8 +165,9 @@ pub record Asks (app : App) (words : List Text) (asked : Asked) : Type 0 where
   pub form : asked.choice.form ≡ form_by (first_of (codes "form") rows)
   pub file : option_map (λ (f : Bor Text). f.now) asked.file ≡ first_of (codes "file") rows
 
--- what is asked is what the matches hold; only memory may be wanting where the command takes the words; and
--- else the words have a fault, the first of which is told, help that is asked for among them
+-- what is asked is what the matches hold; only memory may be wanting where the command takes the
+-- words; and else the words have a fault, the first of which is told, help that is asked for among
+-- them
 pub record IsReading (words : List Text) (result : Result Asked Error) : Type 0 where
   pub app : App
   pub is_mcf : IsMcf app

@@ -14,50 +14,50 @@ use std::convert::AsStr;
 /// What the words of a command line ask.
 #[derive(Clone, Copy, Debug, PartialEq, Eq)]
 pub struct Asked<'a> {
-    /// How the instance is solved and answered.
+    /// How to solve and answer the instance.
     pub choice: Choice,
-    /// The file that has the instance; without one it is on standard input.
+    /// The file of the instance; if none is named, standard input.
     pub file: Option<&'a str>,
 }
 
 // The names of the engines.
-static ENGINES: [&str; 6] = ["auto", "cancel", "simplex", "scaling", "augment", "sap"];
+static ENGINES: [&str; 6] = ["auto", "cancel", "simplex", "scaling", "fast", "sap"];
 
 // The names of the pricing rules.
 static RULES: [&str; 4] = ["first", "best", "block", "wide"];
 
 // The names of the forms of an answer.
-static FORMS: [&str; 2] = ["1", "2"];
+static FORMS: [&str; 4] = ["full", "sparse", "1", "2"];
 
-// When to choose what.
+// When to choose what, for the help.
 static WHEN: &str = "\
 Engines:
-  auto     sap for an assignment, simplex for a flow problem: the default
-  cancel   cycle cancelling: slow and short, to compare with on small instances
-  simplex  the network simplex: for most flow problems
-  scaling  cost scaling: where the simplex takes too many pivots
-  augment  a fast search whose answer is judged, and else the simplex: for large sparse flow problems
-  sap      shortest augmenting paths: for assignments; for a flow problem it means auto
+  auto     sap for an assignment, simplex for a flow problem (the default)
+  cancel   cycle cancelling: a slow baseline for small instances
+  simplex  the network simplex, whose flow is a tree solution
+  scaling  cost scaling by push and relabel, for flow problems that need many pivots
+  fast     always for flow problems, unless you want a tree solution or one of the four methods
+  sap      shortest augmenting paths, for assignments; for a flow problem it means auto
 
 Pricing rules of the simplex:
-  first    the first eligible arc: cheap picks and many pivots, to compare with
-  best     the eligible arc of greatest violation: few pivots, all arcs looked at for each; for small instances
-  block    the same of one block of arcs, the blocks in turn: for large instances; the default
-  wide     the same of blocks that grow with the instance, from four stretches of the arcs: from some 16,000 nodes on
+  first    the first eligible arc: quick picks but many pivots; a baseline
+  best     the eligible arc of greatest violation: few pivots, but each scans all arcs
+  block    the same within one block of arcs, the blocks in turn (the default)
+  wide     the same with blocks that grow with the instance: from about 16,000 nodes on
 
 Forms of a flow:
-  1        a line for each arc, with its ends: the default
-  2        a line for each arc that doesn't carry its LOW, with its number: for instances of many arcs";
+  full     a line for each arc, with its ends (the default); 1 means the same
+  sparse   a line for each arc that doesn't carry its LOW, with its number; 2 means the same";
 
-/// Reads what the words of a command line ask:
-/// `mcf solve [--engine auto|cancel|simplex|scaling|augment|sap] [--pricing first|best|block|wide] [--block N] [--form 1|2] [FILE]`,
-/// where N is 1 to 1,000,000. What is left out is `auto`, `block`, 256 and 1.
+/// Parses the words of a command line: `mcf solve [--engine auto|cancel|simplex|scaling|fast|sap]
+/// [--pricing first|best|block|wide] [--block N] [--form full|sparse|1|2] [FILE]`, where N is 1 to
+/// 1,000,000. The defaults are `auto`, `block`, 256 and `full`.
 ///
 /// The words begin with the name of the program, which isn't read.
 ///
 /// # Errors
 ///
-/// The words ask for help, or they aren't a command of `mcf`, or memory is wanting.
+/// The words ask for help, or they aren't a command of `mcf`, or memory runs out.
 pub fn command<'a, W: AsStr>(alloc: Global, words: &'a [W]) -> Result<Asked<'a>, Error>
     ensures { IsReading (map W.text words.entry.now) result }
 {
@@ -104,7 +104,7 @@ fn solve<'a>(alloc: Global) -> Result<Command<'a>, AllocError>
         .arg(file_argument(alloc))
 }
 
-// An option of a name, whose value is one of some words, and this one where it is left out.
+// An option with this name, whose value is one of some words, with a default.
 fn word_option<'a>(
     alloc: Global,
     name: &'a str,
@@ -138,7 +138,7 @@ fn pricing_option<'a>(alloc: Global) -> Arg<'a>
     ensures local { result.global ≡ false }
 {
     word_option(alloc, "pricing", "RULE", RULES.as_slice(), "block").help(
-        "Which arc enters at a pivot of the simplex",
+        "The rule by which the simplex picks the entering arc",
     )
 }
 
@@ -147,8 +147,8 @@ fn form_option<'a>(alloc: Global) -> Arg<'a>
     ensures rule { Offers form_rule form_names (rule_of result) }
     ensures local { result.global ≡ false }
 {
-    word_option(alloc, "form", "FORM", FORMS.as_slice(), "1").help(
-        "In which form a flow is written",
+    word_option(alloc, "form", "FORM", FORMS.as_slice(), "full").help(
+        "The form in which a flow is written",
     )
 }
 
@@ -162,7 +162,7 @@ fn block_option<'a>(alloc: Global) -> Arg<'a>
         .value_name("N")
         .value_parser(ValueParser::unsigned(1, 1_000_000))
         .default_value("256")
-        .help("How many arcs a block has, for --pricing block: 1 to 1000000")
+        .help("The number of arcs in a block, for --pricing block: 1 to 1000000")
 }
 
 // The argument FILE.
@@ -171,11 +171,11 @@ fn file_argument<'a>(alloc: Global) -> Arg<'a>
     ensures local { result.global ≡ false }
 {
     Arg::new(alloc, "file").value_name("FILE").help(
-        "The file of the instance; without one it is read from standard input",
+        "The file of the instance; if none is named, standard input",
     )
 }
 
-// The engine that a name asks for.
+// The engine with a name.
 fn engine_of(name: Option<&str>) -> EngineChoice
     ensures { result ≡ engine_by (option_map (λ n. n.now) name.entry) }
 {
@@ -184,13 +184,13 @@ fn engine_of(name: Option<&str>) -> EngineChoice
         Some("cancel") => EngineChoice::Cancel,
         Some("simplex") => EngineChoice::Simplex,
         Some("scaling") => EngineChoice::Scaling,
-        Some("augment") => EngineChoice::Augment,
+        Some("fast") => EngineChoice::Fast,
         Some("sap") => EngineChoice::Sap,
         _ => EngineChoice::Auto,
     }
 }
 
-// The pricing rule that a name asks for.
+// The pricing rule with a name.
 fn pricing_of(name: Option<&str>) -> PricingChoice
     ensures { result ≡ pricing_by (option_map (λ n. n.now) name.entry) }
 {
@@ -203,18 +203,20 @@ fn pricing_of(name: Option<&str>) -> PricingChoice
     }
 }
 
-// The form of an answer that a name asks for.
+// The form of an answer with a name.
 fn form_of(name: Option<&str>) -> Form
     ensures { result ≡ form_by (option_map (λ n. n.now) name.entry) }
 {
     match name {
+        Some("full") => Form::One,
+        Some("sparse") => Form::Two,
         Some("1") => Form::One,
         Some("2") => Form::Two,
         _ => Form::One,
     }
 }
 
-// The size of blocks that a word asks for.
+// The size of blocks in a word, or the default.
 fn block_of(word: Option<&str>) -> BlockSize
     ensures { result ≡ block_by (option_map (λ n. n.now) word.entry) }
 {
@@ -225,7 +227,7 @@ fn block_of(word: Option<&str>) -> BlockSize
     size.unwrap_or(BlockSize::standard())
 }
 
-// The size of blocks that a word writes.
+// The size of blocks in a word.
 fn block_in(word: &str) -> Option<BlockSize>
     ensures { result ≡ block_in word.now }
 {

@@ -1,4 +1,5 @@
--- Runs of searches: which rows they match, and what is left to send or to take when all rows are matched.
+-- Runs of searches: which rows they match, and what is left to send or to take when all rows are
+-- matched.
 use Rattle.std.proofs.Common.{◌<◌, ◌≡◌, ℕ, zero, suc, ◌+◌, ◌-◌, ◌≤◌, Bool, true, false, cond, List, [], ◌∷◌, ◌++◌, length, ℤ, pos, ◌≤ℤ◌, refl, sym, ◌∙◌}
 use Rattle.std.proofs.Common.{ap, subst, arith, inl, inr}
 use Rattle.std.specs.List.{All, Contains, filter, range_with_len}
@@ -12,10 +13,9 @@ use Rattle.mcf_flows.specs.declared.problem.Side.TheVariants.{Send}
 use Rattle.mcf_flows.specs.Network.{Network, IsNode, at_node, node_count}
 use Rattle.mcf_flows.specs.Blocking.{Blocks, in_table}
 use Rattle.mcf_flows.specs.WellFormed.{IsUpTo}
-use Rattle.mcf_network.specs.States.{Pseudoflow, HasNoSurplus, surplus_at}
-use Rattle.mcf_feas.specs.Chosen.{IsChosenBlock, supply_total}
-use Rattle.mcf_feas.specs.Feasible.{IsFeasibleState}
-use Rattle.mcf_feas.proofs.Wholes.{settled}
+use Rattle.mcf_network.specs.States.{HasNoSurplus, IsFeasibleState, Pseudoflow, surplus_at}
+use Rattle.mcf_network.specs.Chosen.{IsChosenBlock, supply_total}
+use Rattle.mcf_network.proofs.Wholes.{settled}
 use Rattle.mcf_engine.specs.NearPrices.{AreNearPrices, near_limit}
 use Rattle.mcf_engine.specs.Outcomes.{AreStatePrices, IsLeastState}
 use Rattle.mcf_engine.proofs.StatePrices.{least_from_prices}

@@ -6,7 +6,7 @@ use Rattle.std.specs.Ordering.{int_eq}
 use Rattle.mcf_flows.specs.Network.{Network, at_node, node_count}
 use Rattle.mcf_network.specs.NodeSets.{no_nodes}
 use Rattle.mcf_network.specs.States.{Pseudoflow}
-use Rattle.mcf_feas.specs.Chosen.{supply_total}
+use Rattle.mcf_network.specs.Chosen.{supply_total}
 use Rattle.mcf_engine.specs.declared.engine.Outcome.{Outcome}
 use Rattle.mcf_engine.specs.declared.engine.Outcome.TheVariants.{Least, Blocked as NoFlow}
 use Rattle.mcf_matching.specs.declared.extended.Extended.TheVariants.{Matched, Blocked}
@@ -25,7 +25,8 @@ sources_to g n = filter (is_source g) (range_with_len 1 n)
 abbrev pub sources : Network → List ℕ
 sources g = sources_to g (node_count g)
 
--- the matching without pairs, before the first search: nothing was settled or reached, and its prices show it
+-- the matching without pairs, before the first search: nothing was settled or reached, and its
+-- prices show it
 pub record IsStart (g : Network) (m : Assigned) : Type 0 where
   pub flow : m.flow ≡ record { net = g; amounts = replicate (length g.arcs) (pos 0) }
   pub settled : m.settled ≡ []
@@ -33,14 +34,16 @@ pub record IsStart (g : Network) (m : Assigned) : Type 0 where
   pub searches : m.searches ≡ 0
   pub shown : IsShownMatching m
 
--- reached from the matching without pairs by one search from each row of a list, in that order, each of which matched
--- its row by a path from it, and after each of which prices show that no other amounts match the same rows for less
+-- reached from the matching without pairs by one search from each row of a list, in that order,
+-- each of which matched its row by a path from it, and after each of which prices show that no
+-- other amounts match the same rows for less
 pub data Run (g : Network) : List ℕ → Assigned → Type 0 where
   start : {m : Assigned} → IsStart g m → Run g [] m
   more : {rows : List ℕ} {row : ℕ} {m n : Assigned} → Run g rows m → IsRow m.flow row → ¬ IsMatchedRow m.flow row
       → IsExtension m row Matched n → IsShownMatching n → Run g (rows ++ row ∷ []) n
 
--- one search from each source node, ascending, matched its row, and the last left this state; there were so many searches
+-- one search from each source node, ascending, matched its row, and the last left this state; there
+-- were this many searches
 pub record IsMatchedByRows (g : Network) (s : Pseudoflow) (searches : ℕ) : Type 0 where
   pub last : Assigned
   pub run : Run g (sources g) last
@@ -48,8 +51,8 @@ pub record IsMatchedByRows (g : Network) (s : Pseudoflow) (searches : ℕ) : Typ
   pub counted : last.searches ≡ searches
   pub once : searches ≡ length (sources g)
 
--- one search from each source node before a row, ascending, matched its row; that from the row found no path, and
--- reached this set; there were so many searches
+-- one search from each source node before a row, ascending, matched its row; that from the row
+-- found no path, and reached this set; there were this many searches
 pub record IsBlockedAtRow (g : Network) (table : List Bool) (searches : ℕ) : Type 0 where
   pub before : List ℕ
   pub row : ℕ
@@ -65,7 +68,8 @@ pub record IsBlockedAtRow (g : Network) (table : List Bool) (searches : ℕ) : T
   pub counted : blocked.searches ≡ searches
   pub once : searches ≡ length before + 1
 
--- a blocked answer comes from supplies that don't add up to 0, without a search, or is what the last of so many searches reached
+-- a blocked answer comes from supplies that don't sum to 0, without a search, or is what the last
+-- of this many searches reached
 abbrev pub IsReachedSet : Network → ℕ → Outcome → Type 0
 IsReachedSet g searches (Least s prices) = Unit {0}
 IsReachedSet g searches (NoFlow table side) = ((supply_total g ≢ pos 0) × (searches ≡ 0)) ⊎ IsBlockedAtRow g table searches

@@ -1,6 +1,6 @@
 //! The engine.
 ghost use Rattle.std.specs.Prelude.{◌≡◌, ◌≤◌, IfOk, OnErr, pos};
-ghost use Rattle.mcf_feas.specs.Chosen.{supply_total};
+ghost use Rattle.mcf_network.specs.Chosen.{supply_total};
 ghost use Rattle.mcf_flows.specs.declared.problem.Problem.TheVariants.{Asn};
 ghost use Rattle.mcf_flows.specs.Network.{node_count};
 ghost use Rattle.mcf_engine.specs.Outcomes.{IsOutcome};
@@ -9,20 +9,19 @@ ghost use Rattle.mcf_assign.specs.Runs.{IsMatchedByRows, IsReachedSet, IsStart};
 
 use mcf_counts::Count;
 use mcf_engine::{Engine, Outcome, Pricer};
-use mcf_feas::unbalanced;
 use mcf_flows::{Problem, Side};
 use mcf_matching::{Extended, Matching};
-use mcf_network::{Net, State};
+use mcf_network::{Net, State, unbalanced};
 use mcf_text::{NoMemory, NodeId};
 use std::alloc::Global;
 use std::marker::Model;
 
-/// Successive shortest paths for assignments: one search from each row, ascending (Ahuja, Magnanti and Orlin, Network
-/// Flows, sections 9.7 and 12.4).
+/// Successive shortest paths for assignments: one search from each row, ascending (Ahuja, Magnanti
+/// and Orlin, Network Flows, sections 9.7 and 12.4).
 ///
-/// It takes the nets of assignments alone. How it made a state is a relation of its contract, `IsMatchedByRows`: one
-/// search from each source node, each of which matched it. That is as many searches as there are source nodes.
-/// A clause sees how many searches the last solve made that was answered.
+/// It takes only the nets of assignments. How it made a state is a relation of its contract,
+/// `IsMatchedByRows`: one search from each source node, each of which matched it. Clauses see the
+/// number of searches in the last solve that returned an answer.
 #[derive(Drop)]
 pub struct Sap {
     searches: Count,
@@ -65,13 +64,13 @@ impl Engine for Sap {
 
     /// A least state of the net, with its prices, or a node set that shows that there is none.
     ///
-    /// Where the supplies add up to 0, the set is what the last search reached. Where they don't, it is all nodes, and
-    /// nothing is searched.
+    /// If the supplies sum to 0, the set is the one that the last search reached. Otherwise it is
+    /// all nodes, and nothing is searched.
     ///
     /// # Errors
     ///
-    /// Want of memory, where a growth was refused; a net without nodes wants none. All growth comes before the first
-    /// search. The engine is as it was.
+    /// `NoMemory` if an allocation is refused; a net without nodes needs none. Everything is
+    /// allocated before the first search. The engine is then unchanged.
     fn solve<'n>(&mut self, alloc: Global, net: &'n Net) -> Result<Outcome<'n>, NoMemory>
         requires { net.now.problem ≡ Asn }
         ensures outcome { IfOk result (IsOutcome (λ s. IsMatchedByRows net.now s self.new) net.now) }
@@ -89,7 +88,8 @@ impl Engine for Sap {
     }
 }
 
-// The answer to a net whose supplies add up to 0, by a search from each row, and the count of the searches.
+// The answer to a net whose supplies sum to 0, by a search from each row, and the number of
+// searches.
 fn assign<'n>(alloc: Global, net: &'n Net) -> Result<(Outcome<'n>, Count), NoMemory>
     requires assignment { net.now.problem ≡ Asn }
     requires balanced { supply_total net.now ≡ pos 0 }

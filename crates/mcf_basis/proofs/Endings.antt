@@ -19,7 +19,7 @@ use Rattle.mcf_network.proofs.ArcLaws.{amount_count}
 use Rattle.mcf_network.proofs.Marks.{marked_new, unmarked}
 use Rattle.mcf_network.proofs.StateLaws.{rid}
 use Rattle.mcf_tree.specs.SpanningTree.{SpanningTree, depth_of, label_of, size_of}
-use Rattle.mcf_basis.specs.declared.offer.Offer.{Offer}
+use Rattle.mcf_basis.specs.declared.offer.ArcOffer.{ArcOffer}
 use Rattle.mcf_basis.specs.declared.residuals.Residuals.{Residuals}
 use Rattle.mcf_basis.specs.Bases.{IsBasis}
 use Rattle.mcf_basis.specs.Laws.{HasNoArtificial}
@@ -34,8 +34,9 @@ use Rattle.mcf_basis.proofs.StrongPivot.{labels_apart}
 use Rattle.mcf_basis.proofs.TreePrices.{price_small}
 use Rattle.mcf_basis.proofs.Views.{carried_in}
 
--- what an arc outside the tree carries, and what the arc of the net above node v does, by their places
-abbrev pub outside_by : Network → List Offer → ℕ → ℤ
+-- what an arc outside the tree carries, and what the arc of the net above node v does, by their
+-- places
+abbrev pub outside_by : Network → List ArcOffer → ℕ → ℤ
 outside_by g offers k = if eqb (get_or offers (k - 1) no_offer).from (arc_at g k).src then pos 0 else (arc_at g k).cap
 
 abbrev pub inside_by : Network → SpanningTree → List Residuals → ℕ → ℤ
@@ -226,7 +227,7 @@ pub record IsWritten (l : Layout) (first last : Pseudoflow) : Type 0 where
   pub others : (k : ℕ) → IsArcNumber l.net k
       → ((v : ℕ) → IsNode (node_count l.net) v → label_of l.tree v ≢ k) → amount_at last k ≡ amount_at first k
 
--- where none is found, none passes
+-- if none is found, none passes
 none_cond : (b : Bool) (x : ℕ) (rest : Option ℕ) → cond b (Some x) rest ≡ None → (b ≡ false) × (rest ≡ None)
 none_cond true x rest e = absurd (none-some x (sym e))
 none_cond false x rest e = (refl, e)

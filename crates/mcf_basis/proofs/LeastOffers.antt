@@ -3,7 +3,7 @@ use Rattle.std.proofs.Common.{◌≡◌, ℕ, ◌+◌, ◌<◌, ◌≤◌, inl, 
 use Rattle.std.proofs.lemmas.Int.{ints}
 use Rattle.std.proofs.lemmas.Bool.{cases_eq}
 use Rattle.mcf_flows.specs.WellFormed.{IsUpTo}
-use Rattle.mcf_basis.specs.declared.offer.Offer.{Offer}
+use Rattle.mcf_basis.specs.declared.offer.ArcOffer.{ArcOffer}
 use Rattle.mcf_basis.specs.Private.Layouts.{no_offer}
 use Rattle.mcf_basis.specs.Private.Offered.{CanCompare, HasPricedEnds}
 
@@ -13,7 +13,8 @@ pub data IsFirstMet (value : ℕ → ℤ) (begin i place : ℕ) (least : ℤ) : 
   met : begin ≤ place → place < i → value place ≡ least → least <ℤ pos 0
       → ((j : ℕ) → begin ≤ j → j < place → least <ℤ value j) → IsFirstMet value begin i place least
 
--- the least of the values from place begin up to but not including i and 0, and the first place that has it
+-- the least of the values from place begin up to but not including i and 0, and the first place
+-- that has it
 pub record IsLeastSoFar (value : ℕ → ℤ) (begin i place : ℕ) (least : ℤ) : Type 0 where
   pub each : (j : ℕ) → begin ≤ j → j < i → least ≤ℤ value j
   pub first : IsFirstMet value begin i place least
@@ -57,13 +58,13 @@ so_far-is value begin i place place' least least' e f so =
     subst (λ p. IsLeastSoFar value begin i p least') (sym e) (subst (λ x. IsLeastSoFar value begin i place x) (sym f) so)
 
 -- what is read of an offer, and its reduced cost
-pub record IsReadAt (prices : List ℤ) (limit : ℕ) (offers : List Offer) (i : ℕ) : Type 0 where
+pub record IsReadAt (prices : List ℤ) (limit : ℕ) (offers : List ArcOffer) (i : ℕ) : Type 0 where
   pub in_range : i < length offers
   pub ends : HasPricedEnds (length prices) (get_or offers i no_offer)
   pub from_small : IsUpTo limit (get_or prices (get_or offers i no_offer).from (pos 0))
   pub to_small : IsUpTo limit (get_or prices (get_or offers i no_offer).to (pos 0))
 
-pub read_at : (prices : List ℤ) (limit : ℕ) (offers : List Offer) (begin end i : ℕ) → CanCompare prices limit offers begin end
+pub read_at : (prices : List ℤ) (limit : ℕ) (offers : List ArcOffer) (begin end i : ℕ) → CanCompare prices limit offers begin end
     → begin ≤ i → i < end → IsReadAt prices limit offers i
 read_at prices limit offers begin end i can low high =
     let far = can.high in

@@ -10,7 +10,7 @@ use Rattle.mcf_flows.specs.WellFormed.{IsUpTo, HasEnds}
 use Rattle.mcf_network.specs.Nets.{IsNetArc}
 use Rattle.mcf_network.specs.Residual.{arc_at}
 use Rattle.mcf_network.proofs.ArcLaws.{ends_at, net_arc_at}
-use Rattle.mcf_basis.specs.declared.offer.Offer.{Offer}
+use Rattle.mcf_basis.specs.declared.offer.ArcOffer.{ArcOffer}
 use Rattle.mcf_basis.specs.Bases.{IsBasis}
 use Rattle.mcf_basis.specs.Private.Layouts.{Layout, IsLaidOut, basis_in, forward_offer, no_offer, offer_at, turned_offer}
 use Rattle.mcf_basis.specs.Private.Offered.{CanReduce, reduced_by}
@@ -28,7 +28,7 @@ pub own_reduced : (b : TreeStructure) (k : ℕ) → IsArcNumber b.net k
 own_reduced b k h = ap (λ a. a.cost -ℤ price_at b a.src +ℤ price_at b a.dst) (own_arc b.net k h)
 
 -- the reduced cost of a residual arc that is offered
-abbrev pub offered : TreeStructure → Offer → ℤ
+abbrev pub offered : TreeStructure → ArcOffer → ℤ
 offered b o = o.cost -ℤ price_at b o.from +ℤ price_at b o.to
 
 -- an arc of reduced cost other than 0 is outside the tree
@@ -36,7 +36,7 @@ pub not_in_tree : (b : TreeStructure) (k : ℕ) → IsBasis b → reduced_at b k
 not_in_tree b k ok ne t =
     ne (ap (reduced_at b) (sym t.labelled) ∙ ok.prices.balanced t.node t.is_node)
 
-pub record IsReadOffer (b : TreeStructure) (k : ℕ) (o : Offer) : Type 0 where
+pub record IsReadOffer (b : TreeStructure) (k : ℕ) (o : ArcOffer) : Type 0 where
   pub from : o.from ≤ node_count b.net
   pub to : o.to ≤ node_count b.net
   pub cost : IsUpTo limits.cost o.cost
@@ -65,7 +65,7 @@ module _ (l : Layout) (k : ℕ) (ok : IsLaidOut l) (h : IsArcNumber l.net k) whe
   unfolding basis_in
   reduced_is = own_reduced (basis_in l) k h
 
-  -- an arc outside the tree carries nothing where its offer goes forward
+  -- an arc outside the tree carries nothing if its offer goes forward
   empty : offer_at l k ≡ forward_offer l.net k → ¬ IsInTree (basis_in l) k → carried (basis_in l) k ≡ pos 0
   empty e out = carried_outside l k h out ∙ cond-true _ _ _ (eq-eqb _ _ (ap (λ o. o.from) e))
 
@@ -148,12 +148,12 @@ module _ (l : Layout) (k : ℕ) (ok : IsLaidOut l) (h : IsArcNumber l.net k) whe
       }
 
 -- the offer that the code reads, and its reduced cost
-pub record IsOfferRead (l : Layout) (b : TreeStructure) (k : ℕ) (o : Offer) : Type 0 where
+pub record IsOfferRead (l : Layout) (b : TreeStructure) (k : ℕ) (o : ArcOffer) : Type 0 where
   pub can : CanReduce l.table.prices o
   pub eligible : (reduced_by l.table.prices o <ℤ pos 0) ↔ IsEligible b k
   pub size : reduced_by l.table.prices o <ℤ pos 0 → reduced_by l.table.prices o ≡ neg_ℤ (pos (violation b k))
 
-pub offer_read : (l : Layout) (b : TreeStructure) (k i : ℕ) (o : Offer) → basis_in l ≡ b → IsLaidOut l → IsArcNumber b.net k → i ≡ k - 1
+pub offer_read : (l : Layout) (b : TreeStructure) (k i : ℕ) (o : ArcOffer) → basis_in l ≡ b → IsLaidOut l → IsArcNumber b.net k → i ≡ k - 1
     → o ≡ get_or l.offers i o → IsOfferRead l b k o
 unfolding basis_in
 offer_read l b k i o e ok h same read =

@@ -16,7 +16,7 @@ use Rattle.mcf_basis.specs.declared.climb.Climb.{Climb}
 use Rattle.mcf_basis.specs.declared.cycle.Cycle.{Cycle}
 use Rattle.mcf_basis.specs.declared.cycle.Leaving.{Leaving}
 use Rattle.mcf_basis.specs.declared.cycle.Leaving.TheVariants.{Entering}
-use Rattle.mcf_basis.specs.declared.offer.Offer.{Offer}
+use Rattle.mcf_basis.specs.declared.offer.ArcOffer.{ArcOffer}
 use Rattle.mcf_basis.specs.declared.residuals.Residuals.{Residuals}
 use Rattle.mcf_basis.specs.Bases.{IsBasis}
 use Rattle.mcf_basis.specs.Pivots.{IsEligible, IsPivot, PairFalls, entering}
@@ -89,7 +89,7 @@ module _ (l : Layout) (k : ℕ) (ok : IsLaidOut l) (el : IsEligible (basis_in l)
   keep_premises : (1 ≤ k) × (k ≤ length l.offers) × IsUpTo limits.cost (offer_at l k).cost
   keep_premises = (let n = number in let size = ok.offers_size in (n.0, omega (arith, n, size), read.cost))
 
-  found_climb : (o : Offer) (c : Climb) → o ≡ offer_at l k → IsClimb l.tree l.residuals o.from o.to c →
+  found_climb : (o : ArcOffer) (c : Climb) → o ≡ offer_at l k → IsClimb l.tree l.residuals o.from o.to c →
       IsClimb l.tree l.residuals (from_of (basis_in l) k) (to_of (basis_in l) k) c
   found_climb o c is h =
       let ends = offer_ends l k ok el in
@@ -110,7 +110,7 @@ module _ (l : Layout) (k : ℕ) (ok : IsLaidOut l) (el : IsEligible (basis_in l)
       out_left o.place o.short o.at refl o.full)
 
   -- the cycle of a climb from the ends of the offer
-  pub cycle_found : (o : Offer) (f : Cycle) (c : Climb) (residuals : List Residuals) (width : ℕ) → o ≡ offer_at l k → residuals ≡ l.residuals →
+  pub cycle_found : (o : ArcOffer) (f : Cycle) (c : Climb) (residuals : List Residuals) (width : ℕ) → o ≡ offer_at l k → residuals ≡ l.residuals →
       width ≡ unsigned_abs (arc_at l.net k).cap → IsClimb l.tree residuals o.from o.to c → f.arc ≡ k → f.from ≡ o.from → f.to ≡ o.to → f.apex ≡ c.apex →
       IsChosen c width f.amount f.leaving f.out → IsRoundOf l k f
   unfolding basis_in
@@ -136,7 +136,7 @@ module _ (l : Layout) (k : ℕ) (ok : IsLaidOut l) (el : IsEligible (basis_in l)
       }
 
   -- the offer, as it is read
-  pub offer_read : (o : Offer) (i : ℕ) → i ≡ k - 1 → o ≡ get_or l.offers i o → o ≡ offer_at l k
+  pub offer_read : (o : ArcOffer) (i : ℕ) → i ≡ k - 1 → o ≡ get_or l.offers i o → o ≡ offer_at l k
   offer_read o i at is =
       let n = number in
       let size = ok.offers_size in
@@ -147,7 +147,7 @@ module _ (l : Layout) (k : ℕ) (ok : IsLaidOut l) (el : IsEligible (basis_in l)
   residuals_sized = (let n = nodes in ok.residuals_size ∙ sym n)
 
   -- the offer that is read
-  module _ (o : Offer) (is : o ≡ offer_at l k) where
+  module _ (o : ArcOffer) (is : o ≡ offer_at l k) where
     pub from_in_tree : o.from < size_of l.tree
     unfolding basis_in
     from_in_tree = (let n = nodes in let h : (offer_at l k).from ≤ node_count l.net = read.from in rw is (omega (arith, n, h)))
@@ -182,7 +182,7 @@ module _ (l : Layout) (k : ℕ) (ok : IsLaidOut l) (el : IsEligible (basis_in l)
     went = went_round (basis_in l) k f.apex (pos f.amount) is_basis el round.is_around (omega (arith, ints))
 
     -- what the parts leave
-    replaced : (t' : SpanningTree) (offers : List Offer) (residuals residuals' : List Residuals) (artificial : List ℤ) (table' : Prices) →
+    replaced : (t' : SpanningTree) (offers : List ArcOffer) (residuals residuals' : List Residuals) (artificial : List ℤ) (table' : Prices) →
         f.reduced ≡ offered (basis_in l) (offer_at l k) →
         IsPushedRound l.net l.tree l.residuals residuals l.artificial artificial f.from f.to f.apex f.amount →
         IsReplaced l.net l.tree t' l.offers offers residuals residuals' l.table table' f →
@@ -235,7 +235,7 @@ module _ (l : Layout) (k : ℕ) (ok : IsLaidOut l) (el : IsEligible (basis_in l)
           falls = pivots_lower_the_pair_lem (basis_in l) (basis_in l') k (pos f.amount) is_basis pivot;
         }
 
-    pub turned : (t' : SpanningTree) (offers : List Offer) (residuals residuals' : List Residuals) (artificial : List ℤ) (table' : Prices) (pivots : ℕ) →
+    pub turned : (t' : SpanningTree) (offers : List ArcOffer) (residuals residuals' : List Residuals) (artificial : List ℤ) (table' : Prices) (pivots : ℕ) →
         pivots ≡ l.pivots + 1 → f.reduced ≡ offered (basis_in l) (offer_at l k) →
         IsPushedRound l.net l.tree l.residuals residuals l.artificial artificial f.from f.to f.apex f.amount →
         IsReplaced l.net l.tree t' l.offers offers residuals residuals' l.table table' f →
@@ -245,7 +245,7 @@ module _ (l : Layout) (k : ℕ) (ok : IsLaidOut l) (el : IsEligible (basis_in l)
         (pivoted (next_layout l t' offers residuals' artificial table') (replaced t' offers residuals residuals' artificial table' is pushed done))
 
 -- the same of lists and numbers that are equal
-pub same_turned : (b b' : TreeStructure) (g : Network) (t : SpanningTree) (offers offers' : List Offer) (residuals residuals' : List Residuals)
+pub same_turned : (b b' : TreeStructure) (g : Network) (t : SpanningTree) (offers offers' : List ArcOffer) (residuals residuals' : List Residuals)
     (artificial artificial' : List ℤ) (table : Prices) (pivots k : ℕ) (x x' : ℤ) → b ≡ b' → offers' ≡ offers → residuals' ≡ residuals →
     artificial' ≡ artificial → x' ≡ x → IsTurnedTo b (laid g t offers residuals artificial table pivots) k x →
     IsTurnedTo b' (laid g t offers' residuals' artificial' table pivots) k x'

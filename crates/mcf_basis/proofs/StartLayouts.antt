@@ -17,7 +17,7 @@ use Rattle.mcf_network.specs.Nets.{IsNet, IsNetArc, width_limit}
 use Rattle.mcf_network.specs.Residual.{arc_at}
 use Rattle.mcf_network.proofs.ArcLaws.{net_arc_at}
 use Rattle.mcf_tree.specs.SpanningTree.{IsSpanning, IsStar, label_of}
-use Rattle.mcf_basis.specs.declared.offer.Offer.{Offer}
+use Rattle.mcf_basis.specs.declared.offer.ArcOffer.{ArcOffer}
 use Rattle.mcf_basis.specs.declared.residuals.Residuals.{Residuals}
 use Rattle.mcf_basis.specs.Artificial.{is_sender}
 use Rattle.mcf_basis.specs.Bases.{IsBasis}
@@ -96,7 +96,7 @@ greatest_next (a ∷ arcs) (suc i) d h =
 
 -- ---- the star, as it is stored
 
-abbrev pub star_offer : Network → ℕ → Offer
+abbrev pub star_offer : Network → ℕ → ArcOffer
 star_offer g k = if int_lt (pos 0) (arc_at g k).cap then forward_offer g k else no_offer
 
 abbrev pub star_residuals : Network → ℕ → Residuals

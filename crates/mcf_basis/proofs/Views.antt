@@ -17,6 +17,10 @@ pub view_net : (l : Layout) (b : TreeStructure) → basis_in l ≡ b → l.net �
 unfolding basis_in
 view_net l b e = ap (λ x. x.net) e
 
+pub view_tree : (l : Layout) (b : TreeStructure) → basis_in l ≡ b → l.tree ≡ b.tree
+unfolding basis_in
+view_tree l b e = ap (λ x. x.tree) e
+
 pub view_pivots : (l : Layout) (b : TreeStructure) → basis_in l ≡ b → l.pivots ≡ b.pivots
 unfolding basis_in
 view_pivots l b e = ap (λ x. x.pivots) e

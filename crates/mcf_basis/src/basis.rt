@@ -7,7 +7,7 @@ ghost use Rattle.mcf_basis.specs.Pivots.{IsEligible};
 ghost use Rattle.mcf_basis.specs.Structures.{price_at, reduced_at, price_limit, reduced_limit};
 ghost use Rattle.mcf_basis.specs.Violations.{IsMostViolatedPick, violation};
 
-use crate::offer::Offer;
+use crate::offer::ArcOffer;
 use crate::price_table::PriceTable;
 use crate::residuals::Residuals;
 use mcf_counts::Count;
@@ -16,21 +16,24 @@ use mcf_text::{ArcId, NodeId};
 use mcf_tree::Tree;
 use std::marker::Model;
 
-/// A basis of a net: a spanning tree over a root and the nodes, with an artificial arc for each node, an amount for each arc and a
-/// price for each node.
+/// A basis of a net: a spanning tree over a root and the nodes, with an artificial arc for each
+/// node, an amount for each arc and a price for each node.
 ///
-/// Each amount is within its bounds, and no node has a surplus; an arc outside the tree carries nothing or all that it can, and the
-/// arcs of the tree have reduced cost 0. From each node one more can go along the tree to the root: the tree is strongly feasible
-/// (Cunningham; Ahuja, Magnanti and Orlin, Network Flows, sections 11.2 and 11.6).
+/// Each amount is within its bounds, and no node has a surplus; an arc outside the tree carries
+/// nothing or all that it can, and the arcs of the tree have reduced cost 0. From each node one
+/// more unit can go along the tree to the root: the tree is strongly feasible (Cunningham; Ahuja,
+/// Magnanti and Orlin, Network Flows, sections 11.2 and 11.6).
 #[derive(Drop)]
 pub struct Basis<'n> {
     pub(crate) net: &'n Net,
     pub(crate) tree: Tree,
-    pub(crate) offers: Vec<Offer>,
+    pub(crate) offers: Vec<ArcOffer>,
     pub(crate) residuals: Vec<Residuals>,
     pub(crate) artificial: Vec<i128>,
     pub(crate) table: PriceTable,
     pub(crate) pivots: Count,
+    // The number of tree arcs in the last cycle.
+    pub(crate) climbed: u32,
 }
 
 impl<'n> Model for Basis<'n> {
@@ -69,6 +72,27 @@ impl<'n> Basis<'n> {
         self.net
     }
 
+    /// The number of nodes that the last exchange of arcs moved: 0 before the first. A pivot whose
+    /// entering arc leaves again exchanges none.
+    pub fn moved_count(&self) -> usize
+        ensures value { result ≡ length self.now.tree.moved }
+        ensures basis { IsBasis self.now }
+    {
+        // Called only for its clause: this is a basis.
+        let _net = self.net();
+        self.tree.moved().len()
+    }
+
+    /// The number of tree arcs in the cycle of the last pivot: a hint for whoever watches a run; no
+    /// clause states it.
+    pub fn climbed(&self) -> u32
+        ensures { IsBasis self.now }
+    {
+        // Called only for its clause: this is a basis.
+        let _net = self.net();
+        self.climbed
+    }
+
     /// The price of a node, at most 3 * 10^36 from 0; that of the root is 0.
     pub fn price(&self, v: NodeId) -> i128
         requires { IsNode (node_count self.now.net) v }
@@ -79,8 +103,8 @@ impl<'n> Basis<'n> {
         self.table.get(v.get())
     }
 
-    /// The reduced cost of an arc, at most 7 * 10^36 from 0: its cost less the price of the node that it leaves, plus
-    /// that of the node that it enters.
+    /// The reduced cost of an arc, at most 7 * 10^36 from 0: its cost, less the price of the node
+    /// that it leaves, plus that of the node that it enters.
     pub fn reduced(&self, k: ArcId) -> i128
         requires { IsArcNumber self.now.net k }
         ensures value { result ≡ reduced_at self.now k }
@@ -102,8 +126,8 @@ impl<'n> Basis<'n> {
         self.table.reduced(self.offers[k.place()])
     }
 
-    /// Whether an arc can enter: it is outside the tree, it can carry something, and it gains by carrying more where it carries
-    /// nothing, or by carrying less where it is full. Artificial arcs never enter.
+    /// Whether an arc can enter: it is outside the tree, has capacity, and the cost falls if it
+    /// carries more (if it is empty) or less (if it is full). Artificial arcs never enter.
     pub fn eligible(&self, k: ArcId) -> bool
         requires { IsArcNumber self.now.net k }
         ensures value { IsTrue result ↔ IsEligible self.now k }
@@ -112,8 +136,9 @@ impl<'n> Basis<'n> {
         self.offered(k) < 0
     }
 
-    /// Of the arcs from number `first` up to but not including `end` the eligible one of greatest violation, that is of greatest size of
-    /// the reduced cost, and of several such the one of least number.
+    /// Of the arcs from number `first` up to but not including `end`, the eligible one of greatest
+    /// violation (absolute value of the reduced cost); among several, the one with the least
+    /// number.
     pub fn most_violated(&self, first: u32, end: u32) -> Option<ArcId>
         requires low { 1 ≤ first }
         requires order { first ≤ end }
@@ -121,7 +146,7 @@ impl<'n> Basis<'n> {
         ensures value { IsMostViolatedPick self.now first end result }
         ensures basis { IsBasis self.now }
     {
-        // Called for its clause alone: this is a basis.
+        // Called only for its clause: this is a basis.
         let _net = self.net();
         let begin = first as usize - 1;
         let place = self

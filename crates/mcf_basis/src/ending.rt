@@ -1,4 +1,5 @@
-//! What a basis answers at the end: its flow, its prices, and the cut that blocks where there is no feasible flow.
+//! The results of a basis at the end: its flow, its prices, and the cut that blocks if there is no
+//! feasible flow.
 ghost use Rattle.std.specs.Prelude.{◌≡◌, ◌≢◌, ℕ, ◌+◌, ◌-◌, ◌*◌, ◌^◌, ◌<◌, ◌≤◌, ◌==◌, ◌↔◌, Bool, IsTrue, drop, if◌then◌else◌, int_lt, length, pos};
 ghost use Rattle.std.specs.Prelude.{slice_index_or, slice_set, true, ◌≤ℤ◌};
 ghost use Rattle.std.specs.List.{All};
@@ -17,7 +18,7 @@ ghost use Rattle.mcf_basis.specs.Structures.{price_at, state_of, price_limit};
 ghost use Rattle.mcf_basis.specs.Violations.{HasNoEligible};
 
 use crate::basis::Basis;
-use crate::offer::Offer;
+use crate::offer::ArcOffer;
 use crate::residuals::Residuals;
 use mcf_counts::Count;
 use mcf_network::{Net, NodeSet, Rid, State};
@@ -25,21 +26,22 @@ use mcf_text::{ArcId, NodeId};
 use mcf_tree::Tree;
 
 impl<'n> Basis<'n> {
-    /// How many pivots led here.
+    /// The number of pivots that led here.
     pub fn into_pivots(self) -> Count
         ensures { result.number ≡ self.entry.pivots }
     {
         self.pivots
     }
 
-    /// Writes the amounts of the arcs of the net into a state of this net, in time linear in the arcs and the nodes.
+    /// Writes the amounts of the arcs of the net into a state of this net, in time linear in the
+    /// arcs and the nodes.
     pub fn write_flow(&self, state: &mut State<'_>)
         requires { state.old.net ≡ self.now.net }
         ensures value { state.new ≡ state_of self.now }
         ensures valid { IsPseudoflow state.new }
         ensures basis { IsBasis self.now }
     {
-        // Called for its clause alone: this is a basis.
+        // Called only for its clause: this is a basis.
         let _net = self.net();
         write_outside(self.net, &self.offers, state);
         write_tree(self.net, &self.tree, &self.residuals, state);
@@ -50,9 +52,19 @@ impl<'n> Basis<'n> {
         ensures value { IsTrue result ↔ HasNoArtificial self.now }
         ensures basis { IsBasis self.now }
     {
-        // Called for its clause alone: this is a basis.
+        // Called only for its clause: this is a basis.
         let _net = self.net();
         all_zero(&self.artificial)
+    }
+
+    /// The number of artificial arcs that carry something: a hint for whoever watches a run; no
+    /// clause states it.
+    pub fn loaded_count(&self) -> usize
+        ensures { IsBasis self.now }
+    {
+        // Called only for its clause: this is a basis.
+        let _net = self.net();
+        loaded(&self.artificial)
     }
 
     /// Writes the prices of the nodes, without that of the root; each is at most 3 * 10^36 from 0.
@@ -63,13 +75,14 @@ impl<'n> Basis<'n> {
         ensures small { All (IsUpTo price_limit) prices.new }
         ensures basis { IsBasis self.now }
     {
-        // Called for its clause alone: this is a basis.
+        // Called only for its clause: this is a basis.
         let _net = self.net();
         self.table.write_nodes(prices);
     }
 
-    /// Marks the nodes of price above 0: where no arc is eligible and the supplies add up to 0, but an artificial arc still carries
-    /// something, they must send more than they can (Ahuja, Magnanti and Orlin, Network Flows, chapter 6).
+    /// Marks the nodes of price above 0: if no arc is eligible and the supplies sum to 0, but an
+    /// artificial arc still carries something, these nodes must send more than they can (Ahuja,
+    /// Magnanti and Orlin, Network Flows, chapter 6).
     pub fn mark_cut(&self, set: &mut NodeSet)
         requires room { length set.old ≡ node_count self.now.net }
         requires last { HasNoEligible self.now }
@@ -88,7 +101,7 @@ impl<'n> Basis<'n> {
     }
 }
 
-// Puts a node into a set, if it is wanted there.
+// Puts a node into a set, if requested.
 fn mark(set: &mut NodeSet, v: NodeId, wanted: bool)
     requires { IsNode (length set.old) v }
     ensures { set.new ≡ (if wanted then with_node set.old v else set.old) }
@@ -98,7 +111,7 @@ fn mark(set: &mut NodeSet, v: NodeId, wanted: bool)
     }
 }
 
-// Whether all numbers but the first are 0.
+// Whether all numbers except the first are 0.
 fn all_zero(numbers: &[i128]) -> bool
     ensures { IsTrue result ↔ ((v : ℕ) → 1 ≤ v → v < length numbers.now → slice_index_or numbers.now v (pos 0) ≡ pos 0) }
 {
@@ -110,8 +123,20 @@ fn all_zero(numbers: &[i128]) -> bool
     true
 }
 
-// Writes what each arc carries that is outside the tree: all that it can where its offer leaves its head, else nothing.
-fn write_outside(net: &Net, offers: &[Offer], state: &mut State<'_>)
+// The number of numbers that aren't 0, without the first.
+fn loaded(numbers: &[i128]) -> usize {
+    let mut count = 0usize;
+    for v in 1..numbers.len() {
+        if numbers[v] != 0 {
+            count = count.wrapping_add(1);
+        }
+    }
+    count
+}
+
+// Writes the amount of each arc outside the tree: its width if its offer leaves its head, otherwise
+// 0.
+fn write_outside(net: &Net, offers: &[ArcOffer], state: &mut State<'_>)
     requires net { state.old.net ≡ net.now }
     requires offers { length offers.now ≡ length net.now.arcs }
     ensures net { state.new.net ≡ net.now }
@@ -124,8 +149,8 @@ fn write_outside(net: &Net, offers: &[Offer], state: &mut State<'_>)
     }
 }
 
-// What an arc with this offer carries outside the tree.
-fn amount_outside(net: &Net, offer: Offer, k: ArcId) -> i128
+// The amount of an arc outside the tree with this offer.
+fn amount_outside(net: &Net, offer: ArcOffer, k: ArcId) -> i128
     requires { IsArcNumber net.now k }
     ensures value { result ≡ (if offer.from == (arc_at net.now k).src then pos 0 else (arc_at net.now k).cap) }
     ensures low { pos 0 ≤ℤ result }
@@ -136,7 +161,7 @@ fn amount_outside(net: &Net, offer: Offer, k: ArcId) -> i128
     if offer.from == src.get() { 0 } else { width }
 }
 
-// Writes what each arc of the net carries that is in the tree.
+// Writes the amount of each arc of the net that is in the tree.
 fn write_tree(net: &Net, tree: &Tree, residuals: &[Residuals], state: &mut State<'_>)
     requires net { state.old.net ≡ net.now }
     requires size { size_of tree.now ≡ node_count net.now + 1 }
@@ -153,7 +178,7 @@ fn write_tree(net: &Net, tree: &Tree, residuals: &[Residuals], state: &mut State
     ensures outside { (k : ℕ) → IsArcNumber net.now k → ((v : ℕ) → IsNode (node_count net.now) v → label_of tree.now v ≢ k)
         → amount_at state.new k ≡ amount_at state.old k }
 {
-    // Called for its clause alone: each amount is from 0 to the width of its arc.
+    // Called only for its clause: each amount lies between 0 and the width of its arc.
     let _net = state.net();
     for i in 0..net.node_count() {
         let v = NodeId::at(i);
@@ -167,7 +192,8 @@ fn write_tree(net: &Net, tree: &Tree, residuals: &[Residuals], state: &mut State
     }
 }
 
-// Writes what an arc of the tree carries, if it is an arc of the net: what can go back from its head, where `v` is the node below it.
+// Writes the amount of a tree arc, if it is an arc of the net: the residual capacity from its head,
+// where `v` is the node below it.
 fn write_inside(net: &Net, k: ArcId, v: NodeId, room: Residuals, state: &mut State<'_>)
     requires net { state.old.net ≡ net.now }
     requires low { 1 ≤ k }
@@ -190,7 +216,7 @@ fn write_inside(net: &Net, k: ArcId, v: NodeId, room: Residuals, state: &mut Sta
     set_amount(state, k, i128::from(amount));
 }
 
-// Makes an arc carry an amount.
+// Sets the amount of an arc.
 fn set_amount(state: &mut State<'_>, k: ArcId, amount: i128)
     requires arc { IsArcNumber state.old.net k }
     requires low { pos 0 ≤ℤ amount }

@@ -1,12 +1,13 @@
-//! Which of some offers violates optimality most: the loop in which the simplex looks at arcs.
+//! The most violated of some offers: the loop in which the simplex scans arcs.
 ghost use Rattle.mcf_basis.specs.Private.Offered.{CanCompare, IsLeastOffer};
 
-use crate::offer::Offer;
+use crate::offer::ArcOffer;
 use crate::price::Price;
 
-/// Of the offers from place `begin` up to but not including `end` the first of least reduced cost, if that is below 0.
+/// Of the offers from place `begin` up to but not including `end`, the first one of least reduced
+/// cost, if that is below 0.
 pub(crate) fn least_offer<P: Price>(
-    offers: &[Offer],
+    offers: &[ArcOffer],
     prices: &[P],
     begin: usize,
     end: usize,

@@ -3,7 +3,7 @@ ghost use Rattle.std.specs.Prelude.{◌≡◌, ℕ, ◌-◌, ◌<◌, ◌≤◌,
 ghost use Rattle.mcf_flows.specs.Network.{IsArcNumber};
 ghost use Rattle.mcf_network.specs.Residual.{arc_at};
 ghost use Rattle.mcf_tree.specs.SpanningTree.{size_of};
-ghost use Rattle.mcf_basis.specs.declared.pivot.Step.TheVariants.{Moved, Still};
+ghost use Rattle.mcf_basis.specs.declared.pivot.PivotStep.TheVariants.{Moved, Still};
 ghost use Rattle.mcf_basis.specs.Bases.{IsBasis};
 ghost use Rattle.mcf_basis.specs.Pivots.{IsEligible, IsPivot, PairFalls};
 ghost use Rattle.mcf_basis.specs.Private.Climbs.{CanReplace, IsReplaced};
@@ -13,7 +13,7 @@ use crate::basis::Basis;
 use crate::climb::Climb;
 use crate::cycle::{Cycle, Leaving};
 use crate::exchange::{exchange, keep};
-use crate::offer::Offer;
+use crate::offer::ArcOffer;
 use crate::price_table::PriceTable;
 use crate::push::push;
 use crate::residuals::Residuals;
@@ -23,21 +23,23 @@ use mcf_tree::Tree;
 
 /// What one pivot moved.
 #[derive(Clone, Copy, Debug, PartialEq, Eq)]
-pub enum Step {
-    /// This amount, above 0, went round the cycle.
+pub enum PivotStep {
+    /// This amount, above 0, was pushed around the cycle.
     Moved(i128),
-    /// Nothing moved: the tree alone changed.
+    /// Nothing was pushed: only the tree changed (a degenerate pivot).
     Still,
 }
 
 impl<'n> Basis<'n> {
-    /// Lets an eligible arc enter: the least room round the cycle that it closes with the tree moves round this cycle, and the last
-    /// arc that blocks leaves, from the apex on in the direction in which the arc gains.
+    /// Lets an eligible arc enter: the least residual capacity of the cycle that it closes with the
+    /// tree is pushed around this cycle, and the last blocking arc leaves, counted from the apex in
+    /// the direction in which the cost falls.
     ///
-    /// So the tree stays strongly feasible, and the pair of the cost and the sum of the prices falls (Cunningham; Ahuja, Magnanti and
-    /// Orlin, Network Flows, sections 11.5 and 11.6). Time goes with the cycle and with the part of the tree that is moved: as many
-    /// depths are written as prices, each once.
-    pub fn pivot(&mut self, k: ArcId) -> Step
+    /// So the tree stays strongly feasible, and the pair of the cost and the sum of the prices
+    /// falls (Cunningham; Ahuja, Magnanti and Orlin, Network Flows, sections 11.5 and 11.6). The
+    /// time is proportional to the cycle and to the part of the tree that moves: as many depths are
+    /// written as prices, each once.
+    pub fn pivot(&mut self, k: ArcId) -> PivotStep
         requires { IsEligible self.old k }
         ensures step { IsPivot self.old k (moved_by result) self.new }
         ensures above { (x : ℤ) → result ≡ Moved x → pos 0 <ℤ x }
@@ -48,6 +50,7 @@ impl<'n> Basis<'n> {
         let offer = self.offers[k.place()];
         let reduced = self.table.reduced(offer);
         let climb = Climb::of(&self.tree, &self.residuals, offer.from, offer.to);
+        self.climbed = climb.steps;
         let cycle = climb.cycle(k, self.net.width(k) as u64, reduced, offer);
         push(
             self.net,
@@ -68,23 +71,23 @@ impl<'n> Basis<'n> {
     }
 }
 
-// What is said of a pivot that moved an amount.
-fn step_of(amount: u64) -> Step
+// The result of a pivot that moved this amount.
+fn step_of(amount: u64) -> PivotStep
     ensures value { moved_by result ≡ pos amount }
     ensures above { (x : ℤ) → result ≡ Moved x → pos 0 <ℤ x }
 {
     if amount > 0 {
-        Step::Moved(i128::from(amount))
+        PivotStep::Moved(i128::from(amount))
     } else {
-        Step::Still
+        PivotStep::Still
     }
 }
 
-// The entering arc takes the place of the one that leaves.
+// The entering arc replaces the leaving one.
 fn replace(
     net: &Net,
     tree: &mut Tree,
-    offers: &mut [Offer],
+    offers: &mut [ArcOffer],
     residuals: &mut [Residuals],
     table: &mut PriceTable,
     cycle: &Cycle,

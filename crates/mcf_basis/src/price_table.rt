@@ -1,4 +1,5 @@
-//! A price for each node, in 64 bits where every price of every basis of the net fits them, else in 128.
+//! A price for each node, in 64 bits if every price of every basis of the net fits, otherwise in
+//! 128.
 
 ghost use Rattle.std.specs.Prelude.{◌≡◌, ℕ, ◌+◌, ◌^◌, ◌<◌, ◌≤◌, List, drop, length, get_or, pos};
 ghost use Rattle.mcf_flows.specs.WellFormed.{IsUpTo};
@@ -9,16 +10,17 @@ ghost use Rattle.mcf_basis.specs.Private.Turned.{AreRaised, CanRaise};
 ghost use Rattle.mcf_basis.specs.Structures.{price_limit, reduced_limit};
 
 use crate::least_offer::least_offer;
-use crate::offer::Offer;
+use crate::offer::ArcOffer;
 use crate::price::Price;
 use crate::reprice::reprice;
 use mcf_counts::Column;
 use mcf_text::NodeId;
 use std::marker::Model;
 
-/// The prices, and how often one was written.
+/// The prices, and the number of writes.
 ///
-/// A loop over them asks once in which form they are kept, and then runs over numbers of one size.
+/// A loop over them tests once in which size they are stored, and then runs over numbers of one
+/// size.
 #[derive(Drop)]
 pub struct PriceTable {
     column: PriceColumn,
@@ -42,7 +44,7 @@ impl Model for PriceTable {
 }
 
 impl PriceTable {
-    /// A table of prices that have room in 64 bits, of which none counts as written.
+    /// A table of prices that fit 64 bits; none counts as written.
     pub fn narrow(prices: Vec<i64>) -> PriceTable
         ensures { result ≡ record { prices = prices.items; priced = 0; limit = narrow_limit } }
     {
@@ -73,7 +75,7 @@ impl PriceTable {
 
     /// The reduced cost of an offer.
     #[inline(always)]
-    pub fn reduced(&self, offer: Offer) -> i128
+    pub fn reduced(&self, offer: ArcOffer) -> i128
         requires { CanReduce self.now.prices offer }
         ensures value { result ≡ reduced_by self.now.prices offer }
         ensures small { IsUpTo reduced_limit result }
@@ -81,8 +83,9 @@ impl PriceTable {
         i128::from(offer.cost) - self.get(offer.from) + self.get(offer.to)
     }
 
-    /// Of the offers from place `begin` up to but not including `end` the first of least reduced cost, if that is below 0.
-    pub fn least_offer(&self, offers: &[Offer], begin: usize, end: usize) -> Option<usize>
+    /// Of the offers from place `begin` up to but not including `end`, the first one of least
+    /// reduced cost, if that is below 0.
+    pub fn least_offer(&self, offers: &[ArcOffer], begin: usize, end: usize) -> Option<usize>
         requires { CanCompare self.now.prices self.now.limit offers.now begin end }
         ensures { IsLeastOffer self.now.prices offers.now begin end result }
     {
@@ -92,7 +95,7 @@ impl PriceTable {
         }
     }
 
-    /// Writes the prices of the nodes but the root.
+    /// Writes the prices of the nodes without the root.
     pub fn write_nodes(&self, prices: &mut [i128])
         requires { length self.now.prices ≡ length prices.old + 1 }
         ensures { prices.new ≡ drop 1 self.now.prices }
@@ -103,7 +106,7 @@ impl PriceTable {
         }
     }
 
-    /// Adds a change to the prices of listed nodes, none of which is listed twice.
+    /// Adds a change to the prices of listed nodes, each listed once.
     pub fn reprice(&mut self, part: &[NodeId], change: i128)
         requires { CanRaise part.now change self.old.limit self.old.prices }
         ensures prices { AreRaised part.now change self.old.prices self.new.prices }

@@ -1,4 +1,4 @@
-//! The basis with which the simplex begins.
+//! The initial basis of the simplex.
 ghost use Rattle.std.specs.Prelude.{◌≡◌, ◌∷◌, ◌≤ℤ◌, IfOk, if◌then◌else◌, int_le, int_lt, length, map, max, min, neg_ℤ, pos, unsigned_abs};
 ghost use Rattle.std.specs.List.{range_with_len};
 ghost use Rattle.mcf_flows.specs.Network.{IsArcNumber, IsNode, at_node, node_count};
@@ -11,7 +11,7 @@ ghost use Rattle.mcf_basis.specs.Ranks.{greatest_cost, price_reach};
 ghost use Rattle.mcf_basis.specs.Starts.{IsStart, start_prices};
 
 use crate::basis::Basis;
-use crate::offer::Offer;
+use crate::offer::ArcOffer;
 use crate::price::Price;
 use crate::price_table::PriceTable;
 use crate::residuals::{Residuals, artificial_residuals};
@@ -21,18 +21,19 @@ use mcf_text::{ArcId, NoMemory, NodeId};
 use mcf_tree::Tree;
 use std::alloc::Global;
 
-// The greatest size of a price for which there is room in 64 bits, beside a reduced cost.
+// The greatest absolute value of a price for which 64 bits hold a reduced cost, too.
 const NARROW_LIMIT: u128 = 3_000_000_000_000_000_000;
 
 impl<'n> Basis<'n> {
-    /// The basis with which the simplex begins: each node hangs on the root by its artificial arc, which carries what the node sends or
-    /// takes, and no arc of the net carries anything (Ahuja, Magnanti and Orlin, Network Flows, section 11.5).
+    /// The initial basis of the simplex: each node is a child of the root by its artificial arc,
+    /// which carries what the node sends or takes, and no arc of the net carries anything (Ahuja,
+    /// Magnanti and Orlin, Network Flows, section 11.5).
     ///
-    /// Of all calls of a basis it alone takes memory.
+    /// Of all calls of a basis, only this one allocates.
     ///
     /// # Errors
     ///
-    /// Want of memory.
+    /// `NoMemory` if an allocation is refused.
     pub fn start(alloc: Global, net: &'n Net) -> Result<Basis<'n>, NoMemory>
         ensures { IfOk result (IsStart net.now) }
     {
@@ -48,12 +49,13 @@ impl<'n> Basis<'n> {
             artificial,
             table,
             pivots: Count::zero(),
+            climbed: 0,
         })
     }
 }
 
-// The offers where no arc carries anything: all that have a width go forward.
-fn star_offers(alloc: Global, net: &Net) -> Result<Vec<Offer>, NoMemory>
+// The offers if no arc carries anything: all arcs of width above 0 point forward.
+fn star_offers(alloc: Global, net: &Net) -> Result<Vec<ArcOffer>, NoMemory>
     ensures { IfOk result (λ made. made.items
         ≡ map (λ k. if int_lt (pos 0) (arc_at net.now k).cap then forward_offer net.now k else no_offer) (range_with_len 1 (length net.now.arcs))) }
 {
@@ -66,19 +68,19 @@ fn star_offers(alloc: Global, net: &Net) -> Result<Vec<Offer>, NoMemory>
 }
 
 // The offer of an arc that carries nothing.
-fn star_offer(net: &Net, k: ArcId) -> Offer
+fn star_offer(net: &Net, k: ArcId) -> ArcOffer
     requires { IsArcNumber net.now k }
     ensures { result ≡ (if int_lt (pos 0) (arc_at net.now k).cap then forward_offer net.now k else no_offer) }
 {
     if 0 < net.width(k) {
         let (src, dst) = net.ends(k);
-        Offer {
+        ArcOffer {
             from: src.get(),
             to: dst.get(),
             cost: net.cost(k) as i64,
         }
     } else {
-        Offer {
+        ArcOffer {
             from: 0,
             to: 0,
             cost: 0,
@@ -86,7 +88,8 @@ fn star_offer(net: &Net, k: ArcId) -> Offer
     }
 }
 
-// The residuals of the artificial arcs and what they carry, which is what each node sends or takes, behind entries for the root.
+// The residual capacities and the amounts of the artificial arcs, which carry what each node sends
+// or takes, after entries for the root.
 fn star_columns(alloc: Global, net: &Net) -> Result<(Vec<Residuals>, Vec<i128>), NoMemory>
     ensures residuals { IfOk result (λ made. made.0.items ≡ no_residuals
         ∷ map (λ v. artificial_residuals (is_sender net.now v) (unsigned_abs (at_node net.now.supplies v))) (range_with_len 1 (node_count net.now))) }
@@ -105,7 +108,7 @@ fn star_columns(alloc: Global, net: &Net) -> Result<(Vec<Residuals>, Vec<i128>),
     Ok((residuals, amounts))
 }
 
-// What a node sends or takes.
+// The absolute value of a node's supply.
 fn star_amount(net: &Net, v: NodeId) -> i128
     requires { IsNode (node_count net.now) v }
     ensures { result ≡ pos (unsigned_abs (at_node net.now.supplies v)) }
@@ -113,8 +116,8 @@ fn star_amount(net: &Net, v: NodeId) -> i128
     net.supply(v).unsigned_abs() as i128
 }
 
-// The prices of the tree of the artificial arcs, which have this cost: in 64 bits where each price of each basis of the net has room
-// there.
+// The prices of the tree of artificial arcs, which have this cost: in 64 bits if each price of each
+// basis of the net fits.
 fn star_table(alloc: Global, net: &Net, cost: i128) -> Result<PriceTable, NoMemory>
     requires { cost ≡ pos (artificial_cost net.now) }
     ensures { IfOk result (IsStarTable net.now) }
@@ -128,7 +131,7 @@ fn star_table(alloc: Global, net: &Net, cost: i128) -> Result<PriceTable, NoMemo
     Ok(PriceTable::wide(prices))
 }
 
-// The prices of that tree, which have room.
+// The prices of that tree, which fit.
 fn star_prices<P: Price>(alloc: Global, net: &Net, cost: i128) -> Result<Vec<P>, NoMemory>
     requires cost { cost ≡ pos (artificial_cost net.now) }
     requires room { cost ≤ℤ pos P.limit }
@@ -154,7 +157,8 @@ fn star_price(supply: i128, cost: i128) -> i128
     if 0 <= supply { cost } else { -cost }
 }
 
-// How far from 0 a price of a basis of the net can lie, where its artificial arcs have this cost.
+// The greatest absolute value of a price of a basis of the net, if its artificial arcs have this
+// cost.
 fn price_reach(net: &Net, cost: i128) -> u128
     requires { cost ≡ pos (artificial_cost net.now) }
     ensures value { result ≡ price_reach net.now }
@@ -163,7 +167,7 @@ fn price_reach(net: &Net, cost: i128) -> u128
     cost.unsigned_abs() + u128::from(net.node_count()) * greatest_cost(net)
 }
 
-// The greatest size of a cost, 0 without arcs.
+// The greatest absolute value of a cost, 0 without arcs.
 fn greatest_cost(net: &Net) -> u128
     ensures { result ≡ greatest_cost net.now.arcs }
 {

@@ -1,7 +1,7 @@
 #![tactic(auto)]
 
-//! Runs one part of the suite on a file and prints what it found and how long it took.
-//! `bench/run.py` compares each part with a peer.
+//! Runs one part of the suite on a file, and prints a summary and the time. `bench/run.py` compares
+//! each part with a peer.
 
 ghost use Rattle.std.specs.Prelude.{◌<◌};
 
@@ -18,7 +18,7 @@ mod solving;
 mod text;
 mod trees;
 
-use crate::recovering::Step;
+use crate::recovering::Work;
 use mcf_text::{Whole, whole};
 use std::process::ExitCode;
 use std::time::{Duration, Instant};
@@ -70,25 +70,25 @@ fn run(rt: &HostRuntime, words: &[String]) -> io::Result<ExitCode> {
     };
     match part.as_str() {
         "check" => judging::run(rt, path.as_str(), answer.as_str())?,
-        "recover" => run_on_files(rt, Step::Recover, path, answer, words.get(4))?,
-        "raise" => run_on_files(rt, Step::Raise, path, answer, words.get(4))?,
+        "recover" => run_on_files(rt, Work::Recover, path, answer, words.get(4))?,
+        "raise" => run_on_files(rt, Work::Raise, path, answer, words.get(4))?,
         "tree" => trees::run(rt, number_of(path.as_str()), number_of(answer.as_str()))?,
         _ => return refuse(rt),
     }
     Ok(ExitCode::SUCCESS)
 }
 
-// Does a step with the state of an answer to an instance.
+// Does the work on the state of an answer to an instance.
 fn run_on_files(
     rt: &HostRuntime,
-    step: Step,
+    work: Work,
     instance: &String,
     answer: &String,
     times: Option<&String>,
 ) -> io::Result<()> {
     recovering::run(
         rt,
-        step,
+        work,
         instance.as_str(),
         answer.as_str(),
         times_of(times),
@@ -101,7 +101,7 @@ fn refuse(rt: &HostRuntime) -> io::Result<ExitCode> {
     Ok(ExitCode::FAILURE)
 }
 
-// The part of this name that needs one file.
+// The part with this name that needs one file.
 fn part_of(word: &str) -> Option<Part> {
     match word {
         "answer" => Some(Part::Answer),
@@ -116,7 +116,7 @@ fn part_of(word: &str) -> Option<Part> {
     }
 }
 
-// Reads a file whole, and runs a part on its text.
+// Reads a file and runs a part on its text.
 fn run_on_file(rt: &HostRuntime, part: Part, path: &str, times: u32) -> io::Result<()> {
     let start = Instant::now(rt)?;
     let text = fs::read(rt, path)?;
@@ -133,7 +133,7 @@ fn run_on_file(rt: &HostRuntime, part: Part, path: &str, times: u32) -> io::Resu
     }
 }
 
-// How often a step is done: the number from 1 to 1,000 that a word says, or once.
+// How often the work is repeated: the number from 1 to 1,000 in a word, or once.
 fn times_of(word: Option<&String>) -> u32 {
     let Some(word) = word else {
         return 1;
@@ -144,7 +144,7 @@ fn times_of(word: Option<&String>) -> u32 {
     }
 }
 
-// The number from 1 to 10,000,000 that a word says, or 1.
+// The number from 1 to 10,000,000 in a word, or 1.
 fn number_of(word: &str) -> u32
     ensures { 0 < result }
 {

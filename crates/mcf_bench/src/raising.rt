@@ -5,13 +5,13 @@ ghost use Rattle.mcf_flows.specs.Network.{node_count};
 
 use crate::recovering::total;
 use crate::tell_time;
+use mcf_cancel::{Pricer, Recovered, greatest_prices_are_small, recover, shown_prices_are_near};
 use mcf_network::State;
-use mcf_prices::{Pricer, Recovered, greatest_prices_are_small, recover, shown_prices_are_near};
 use std::io;
 use std::time::Instant;
 
-/// Recovers prices of a state, raises them so many times, which leaves them as they are, and prints what they hold and the seconds of
-/// all but the first step.
+/// Recovers prices of a state, raises them this many times, which doesn't change them, and prints a
+/// summary and the seconds of all but the first step.
 pub fn run_from(rt: &HostRuntime, state: &State<'_>, times: u32) -> io::Result<()> {
     match recover(rt.alloc(), state) {
         Ok(Recovered::Prices(mut prices)) => raise_from(rt, state, &mut prices, times),

@@ -5,41 +5,40 @@ ghost use Rattle.mcf_flows.specs.Network.{IsArcNumber};
 use crate::reading::net_of;
 use crate::{raising, tell_time};
 use mcf_answer::{Answer, FlowAnswer, Sent, parse};
+use mcf_cancel::{Recovered, recover};
 use mcf_network::{Net, Rid, State};
-use mcf_prices::{Recovered, recover};
 use mcf_text::{ArcId, NoMemory};
 use std::alloc::Global;
 use std::time::Instant;
 use std::{fs, io};
 
-/// What is done with a state.
+/// What to do with a state.
 #[derive(Clone, Copy)]
-pub enum Step {
-    /// Its prices are recovered.
+pub enum Work {
+    /// Recover its prices.
     Recover,
-    /// Its prices, recovered once, are raised to the greatest.
+    /// Recover its prices once, and raise them to the greatest.
     Raise,
 }
 
-/// Reads the instance of a file and the answer of another, does a step so many times with the state in
-/// which each arc has what the answer sends on it, and prints what the last result holds and the seconds of
-/// all.
+/// Reads the instance of one file and the answer of another, repeats this work so many times on the
+/// state of that answer, and prints a summary of the last result and the seconds of all.
 pub fn run(
     rt: &HostRuntime,
-    step: Step,
+    work: Work,
     instance: &str,
     answer: &str,
     times: u32,
 ) -> io::Result<()> {
     let instance = fs::read(rt, instance)?;
     let answer = fs::read(rt, answer)?;
-    run_on(rt, step, &instance, &answer, times)
+    run_on(rt, work, &instance, &answer, times)
 }
 
-// Does a step with the answer of a text for the instance of another.
+// Does the work on the answer in one text for the instance in another.
 fn run_on(
     rt: &HostRuntime,
-    step: Step,
+    work: Work,
     instance: &[u8],
     answer: &[u8],
     times: u32,
@@ -51,9 +50,9 @@ fn run_on(
         return println!(rt; "no flow");
     };
     match state_of(rt.alloc(), &net, flow.sent.as_slice()) {
-        Ok(state) => match step {
-            Step::Recover => run_from(rt, &state, times),
-            Step::Raise => raising::run_from(rt, &state, times),
+        Ok(state) => match work {
+            Work::Recover => run_from(rt, &state, times),
+            Work::Raise => raising::run_from(rt, &state, times),
         },
         Err(_) => println!(rt; "out of memory"),
     }
@@ -76,7 +75,7 @@ fn run_from(rt: &HostRuntime, state: &State<'_>, times: u32) -> io::Result<()> {
     tell_time(rt, "seconds", time)
 }
 
-// Prints what a result holds.
+// Prints a summary of a result.
 fn tell(rt: &HostRuntime, outcome: Result<Recovered, NoMemory>) -> io::Result<()> {
     match outcome {
         Ok(Recovered::Prices(prices)) => println!(rt;
@@ -89,7 +88,7 @@ fn tell(rt: &HostRuntime, outcome: Result<Recovered, NoMemory>) -> io::Result<()
     }
 }
 
-// The state in which each arc has what is sent on it, if it has room for that.
+// The state in which each arc carries its flow, if it has room for that.
 fn state_of<'n>(alloc: Global, net: &'n Net, sent: &[Sent]) -> Result<State<'n>, NoMemory> {
     let mut state = State::zero(alloc, net)?;
     for place in 0..net.arc_count() {
@@ -111,7 +110,7 @@ fn push_within(state: &mut State<'_>, arc: ArcId, amount: i128)
     }
 }
 
-// The last of so many results, one at least.
+// The last of this many results, at least one.
 fn repeat(alloc: Global, state: &State<'_>, times: u32) -> Result<Recovered, NoMemory> {
     let mut last = recover(alloc, state)?;
     for _ in 1..times {

@@ -1,15 +1,15 @@
 //! Solves an instance, timed without its engine.
 use crate::reading::net_of;
 use crate::tell_time;
+use mcf_cancel::Cancel;
 use mcf_engine::Engine;
 use mcf_network::Net;
-use mcf_prices::Cancel;
 use mcf_solver::{Choice, Kind, solve_text};
 use std::io;
 use std::time::{Duration, Instant};
 
-/// Solves a text, and prints how long the answer is and the seconds of that, less those that the engine takes
-/// for the same net.
+/// Solves a text, and prints the length of the answer and the seconds, less those that the engine
+/// takes for the same net.
 pub fn run(rt: &HostRuntime, text: &[u8]) -> io::Result<()> {
     let (kind, bytes, time) = solve_time(rt, text)?;
     let engine = match net_of(rt.alloc(), text) {

@@ -2,52 +2,55 @@
 
 use crate::block_size::BlockSize;
 
-/// Which engine solves.
+/// The engine that solves.
 #[derive(Clone, Copy, Debug, PartialEq, Eq)]
 pub enum EngineChoice {
-    /// The one that suits the problem: shortest augmenting paths for an assignment, the network simplex for a flow
-    /// problem.
+    /// The default of a problem: shortest augmenting paths for an assignment, the network simplex
+    /// for a flow problem.
     Auto,
-    /// Cycle cancelling: slow, and short.
+    /// Cycle cancelling: a slow and short baseline.
     Cancel,
     /// The network simplex.
     Simplex,
     /// Cost scaling.
     Scaling,
-    /// A fast search whose answer is judged, for large instances; where it finds none, the network simplex.
-    Augment,
+    /// The network simplex, watched, and for bad cases a fast search whose answer is judged: for
+    /// every flow problem.
+    Fast,
     /// Shortest augmenting paths, for an assignment; for a flow problem it means `Auto`.
     Sap,
 }
 
-/// Which arc enters at a pivot of the network simplex.
+/// The rule by which the network simplex picks the entering arc.
 #[derive(Clone, Copy, Debug, PartialEq, Eq)]
 pub enum PricingChoice {
     /// The eligible arc of least number.
     First,
     /// The eligible arc of greatest violation.
     Best,
-    /// The eligible arc of greatest violation of the first block that has one, of the blocks in turn.
+    /// The eligible arc of greatest violation in the first block that has one, the blocks in turn.
     Block,
-    /// The same with blocks that suit the net, taken in turn from four stretches of the arcs.
+    /// The same with blocks that grow with the net, taken in turn from four segments of the arcs.
     Wide,
 }
 
-/// In which form a flow is written. Blocked and refused answers have one form.
+/// The form in which a flow is written. Blocked and refused answers have one form.
 #[derive(Clone, Copy, Debug, PartialEq, Eq)]
 pub enum Form {
-    /// Each arc by its ends, with what it carries.
+    /// The full form: each arc with its ends and its flow.
     One,
-    /// The arcs that don't carry their low alone, each by its number, with what it carries.
+    /// The sparse form: only the arcs that don't carry their lower bound, each with its number and
+    /// its flow.
     Two,
 }
 
-/// How an instance is solved and answered. The pricing rule and the size of its blocks matter to the network simplex alone.
+/// How to solve and answer an instance. Only the network simplex uses the pricing rule and the size
+/// of its blocks.
 #[derive(Clone, Copy, Debug, PartialEq, Eq)]
 pub struct Choice {
     pub engine: EngineChoice,
     pub pricing: PricingChoice,
-    /// How many arcs a block of `Block` has.
+    /// The number of arcs in a block of `Block`.
     pub block: BlockSize,
     pub form: Form,
 }
@@ -58,7 +61,7 @@ impl Default for Choice {
 
     ghost is_default = { λ choice. choice ≡ standard_choice };
 
-    /// `Auto`, `Block` with blocks of 256 arcs, and the first form.
+    /// `Auto`, `Block` with blocks of 256 arcs, and the full form.
     fn default() -> Choice {
         Choice {
             engine: EngineChoice::Auto,

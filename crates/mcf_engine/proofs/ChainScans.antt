@@ -9,7 +9,7 @@ use Rattle.mcf_network.specs.Residual.{tail, head, unit_cost}
 use Rattle.mcf_network.specs.Stars.{ListsLeaving}
 use Rattle.mcf_network.proofs.ArcLaws.{tail_is_node}
 use Rattle.mcf_network.proofs.Lists.{Contains-first, Contains-later}
-use Rattle.mcf_engine.specs.declared.shortlist.Entry.{Entry}
+use Rattle.mcf_engine.specs.declared.shortlist.ChainEntry.{ChainEntry}
 use Rattle.mcf_engine.specs.declared.near_state.NearState.{NearState}
 use Rattle.mcf_engine.specs.Heaps.{Keyed}
 use Rattle.mcf_engine.specs.Private.Raisings.{IsLastSettled, IsPassedFrom, IsPopped, IsRaising, label}
@@ -20,13 +20,13 @@ use Rattle.mcf_engine.proofs.Shortlists.{StandsAt, stands, stands_at}
 
 -- ---- the chain of a node
 
-pub chain_start : (g : Network) (heads : List ℕ) (entries : List Entry) (w c : ℕ) → AreChains g heads entries → IsNode (node_count g) w
+pub chain_start : (g : Network) (heads : List ℕ) (entries : List ChainEntry) (w c : ℕ) → AreChains g heads entries → IsNode (node_count g) w
     → c ≡ get_or heads (w - 1) 0 → IsChain g entries w c
 chain_start g heads entries w c ok node is =
     let link : IsLastEntry g entries w c (length entries) = subst (λ k. IsLastEntry g entries w k (length entries)) (sym is) (ok.first w node) in
     record { low = link.low; leaves = link.leaves; arcs = ok.arcs; next = ok.next }
 
-module _ (g : Network) (entries : List Entry) (w c : ℕ) (chain : IsChain g entries w c) (some : 1 ≤ c) where
+module _ (g : Network) (entries : List ChainEntry) (w c : ℕ) (chain : IsChain g entries w c) (some : 1 ≤ c) where
   here : IsLastEntry g entries (tail g (out_of (entry_at entries (c - 1)))) (entry_at entries (c - 1)).next (c - 1)
   here = let low = chain.low in chain.next (c - 1) (omega (arith, low, some))
 
@@ -52,13 +52,14 @@ module _ (g : Network) (entries : List Entry) (w c : ℕ) (chain : IsChain g ent
       ]
 
 -- the chain has ended
-pub chain_end : (g : Network) (entries : List Entry) (w c : ℕ) (rest : List Rid) → c ≡ 0 → HasChain g entries w c rest
+pub chain_end : (g : Network) (entries : List ChainEntry) (w c : ℕ) (rest : List Rid) → c ≡ 0 → HasChain g entries w c rest
 chain_end g entries w c rest none i l leaves = absurd (omega (arith, l, none))
 
 -- ---- the scan
 
--- the next entry of a chain is a residual arc that leaves the node that was settled last, and those before it are still to come
-pub record IsNext (p : NearState) (h : Keyed) (entries : List Entry) (w next : ℕ) (base : ℤ) (out : Rid) : Type 0 where
+-- the next entry of a chain is a residual arc that leaves the node that was settled last, and those
+-- before it are still to come
+pub record IsNext (p : NearState) (h : Keyed) (entries : List ChainEntry) (w next : ℕ) (base : ℤ) (out : Rid) : Type 0 where
   pub arc : IsArcNumber p.state.now.net out.arc
   pub last : IsLastSettled (node_count p.state.now.net) h (tail p.state.now.net out)
   pub base_is : base ≡ label p.prices.now h (tail p.state.now.net out)
@@ -73,7 +74,7 @@ module _ (p : NearState) where
       popped.search list (λ r room is. inr (lists.every (reverse r) (record { arc = room.arc; from = tail_reversed p.state.now.net r.arc r.back ∙ is })))
 
   -- so is the chain of the node, where no other residual arc offers a label below 0
-  pub chain_search : (h : Keyed) (passed : List ℤ) (heads : List ℕ) (entries : List Entry) (w c : ℕ) (base least : ℤ)
+  pub chain_search : (h : Keyed) (passed : List ℤ) (heads : List ℕ) (entries : List ChainEntry) (w c : ℕ) (base least : ℤ)
       → IsWhole p.state.now passed heads entries → IsPopped p h w → c ≡ get_or heads (w - 1) 0 → base ≡ label p.prices.now h w → IsPassedFrom p.scale base least
       → least ≤ℤ at_node passed w → (rest : List Rid) → HasChain p.state.now.net entries w c rest → IsRaising p h rest
   chain_search h passed heads entries w c base least whole popped is base_is from low rest has =
@@ -98,7 +99,7 @@ module _ (p : NearState) where
             | inr behind ↦ absurd (link.last at.place behind at.inside leaves)
           ]
 
-  pub next_entry : (h : Keyed) (entries : List Entry) (w c : ℕ) (base : ℤ) (entry : Entry) (arc : ℕ) → IsChain p.state.now.net entries w c → 1 ≤ c
+  pub next_entry : (h : Keyed) (entries : List ChainEntry) (w c : ℕ) (base : ℤ) (entry : ChainEntry) (arc : ℕ) → IsChain p.state.now.net entries w c → 1 ≤ c
       → ((rest : List Rid) → HasChain p.state.now.net entries w c rest → IsRaising p h rest) → IsLastSettled (node_count p.state.now.net) h w
       → base ≡ label p.prices.now h w → entry ≡ entry_at entries (c - 1) → arc ≡ entry.arc
       → IsNext p h entries w entry.next base (record { arc = arc; back = entry.back })
@@ -116,4 +117,4 @@ module _ (p : NearState) where
         search = λ rest has. search (out_of (entry_at entries (c - 1)) ∷ rest) (chain_rest p.state.now.net entries w c chain some rest has);
       } in
       subst (λ k. IsNext p h entries w entry.next base (record { arc = k; back = entry.back })) (sym arc_is)
-      (subst (λ (e : Entry). IsNext p h entries w e.next base (out_of e)) (sym is) made)
+      (subst (λ (e : ChainEntry). IsNext p h entries w e.next base (out_of e)) (sym is) made)

@@ -26,7 +26,7 @@ use Rattle.mcf_network.specs.NodeSets.{no_nodes}
 use Rattle.mcf_network.proofs.Lists.{Contains-cons, Contains-first, Contains-later}
 use Rattle.mcf_engine.specs.Heaps.{ComesFirst, IsFirst, Keyed, NoneWaits, Waits}
 use Rattle.mcf_engine.specs.Private.Queues.{AreOrdered, AreQueued, IsCurrent, IsEntryOf, IsOfNode, IsQueue, Precedes, by_key}
-use Rattle.mcf_engine.specs.declared.heap.Entry.{Entry}
+use Rattle.mcf_engine.specs.declared.heap.KeyEntry.{KeyEntry}
 use Rattle.mcf_network.proofs.Marks.{read_set}
 
 -- an entry that isn't less than another comes first
@@ -38,7 +38,7 @@ comes_last : (x y : ℤ) (i j : ℕ) → is_lt (ordering_then (int_cmp y x) (nat
 comes_last x y i j h = grind (arith, ints, nat_tests)
 
 -- one after the other
-precedes_join : (e f g : Reverse Entry) → Precedes e f → Precedes f g → Precedes e g
+precedes_join : (e f g : Reverse KeyEntry) → Precedes e f → Precedes f g → Precedes e g
 precedes_join e f g (inl a) (inl b) = inl (omega (arith, ints, a, b))
 precedes_join e f g (inl a) (inr b) = (let same = b.0 in inl (omega (arith, ints, a, same)))
 precedes_join e f g (inr a) (inl b) = (let same = a.0 in inl (omega (arith, ints, b, same)))
@@ -46,16 +46,16 @@ precedes_join e f g (inr a) (inr b) =
     (let same = a.0 in let same' = b.0 in let i = a.1 in let j = b.1 in inr (omega (arith, ints, same, same'), omega (arith, i, j)))
 
 -- the first of a heap precedes all of it
-first_of_heap : (e : Reverse Entry) (list : List (Reverse Entry)) → IsUpperBound by_key e list → All (Precedes e) list
+first_of_heap : (e : Reverse KeyEntry) (list : List (Reverse KeyEntry)) → IsUpperBound by_key e list → All (Precedes e) list
 first_of_heap e list bound =
     All-weaker (λ f. is_lt (by_key e f) ≡ false) (Precedes e) (λ f. comes_first e.0.key f.0.key e.0.item f.0.item) list
     (All-from_recursion (λ f. is_lt (by_key e f) ≡ false) list bound)
 
 by_key_total : IsTotalOrder by_key
-by_key_total = back_total (on_total (λ (e : Reverse Entry). e.0) (then_total (on_total (λ (e : Entry). e.key) int_cmp_total) (on_total (λ (e : Entry). e.item) nat_cmp_total)))
+by_key_total = back_total (on_total (λ (e : Reverse KeyEntry). e.0) (then_total (on_total (λ (e : KeyEntry). e.key) int_cmp_total) (on_total (λ (e : KeyEntry). e.item) nat_cmp_total)))
 
 -- the last of a sorted list precedes all of it
-last_of_order : (order : List (Reverse Entry)) → IsSorted by_key order → (e d : Reverse Entry) → e ≡ get_or order (length order - 1) d → All (Precedes e) order
+last_of_order : (order : List (Reverse KeyEntry)) → IsSorted by_key order → (e d : Reverse KeyEntry) → e ≡ get_or order (length order - 1) d → All (Precedes e) order
 last_of_order order sorted e d is k d' l =
     let far = sorted_far (λ x y. is_lt (by_key x y)) (ranks_by by_key_total (λ x. x)) order sorted k (length order - 1) d' (omega (arith, l)) (omega (arith, l)) in
     let at : get_or order (length order - 1) d' ≡ e = get_or_default order (length order - 1) d' d (omega (arith, l)) ∙ sym is in
@@ -80,8 +80,8 @@ pub seen_as : (P : Keyed → Type 0) (keys keys' : List ℤ) (marks marks' : Lis
 seen_as P keys keys' marks marks' same same' holds =
     subst (λ k. P (record { keys = k; waiting = marks' })) same (subst (λ w. P (record { keys = keys; waiting = w })) same' holds)
 
--- where there is no entry, no node waits
-pub none_waits : (h : Keyed) (order list : List (Reverse Entry)) (room more : ℕ) → IsQueue h order list room more → order ++ list ≡ [] → NoneWaits h
+-- if there is no entry, no node waits
+pub none_waits : (h : Keyed) (order list : List (Reverse KeyEntry)) (room more : ℕ) → IsQueue h order list room more → order ++ list ≡ [] → NoneWaits h
 none_waits h order list room more queue none = none_marked h.waiting (λ i l. elim (cases_Bool (slice_index_or h.waiting i false)) [
   | inl e ↦ (
       let at : i + 1 - 1 ≡ i = omega arith in
@@ -90,7 +90,7 @@ none_waits h order list room more queue none = none_marked h.waiting (λ i l. el
   | inr e ↦ e
 ])
 
-module _ (h : Keyed) (order list order' list' : List (Reverse Entry)) (e : Reverse Entry) (p : IsPermutation (order ++ list) (e ∷ (order' ++ list')))
+module _ (h : Keyed) (order list order' list' : List (Reverse KeyEntry)) (e : Reverse KeyEntry) (p : IsPermutation (order ++ list) (e ∷ (order' ++ list')))
     (room more : ℕ) (queue : IsQueue h order list room more) (ordered : AreOrdered order' list') where
   left : All (IsOfNode (length h.waiting)) (e ∷ (order' ++ list'))
   left = All-permutation (IsOfNode (length h.waiting)) (order ++ list) (e ∷ (order' ++ list')) p queue.items
@@ -101,14 +101,14 @@ module _ (h : Keyed) (order list order' list' : List (Reverse Entry)) (e : Rever
   taken_node : IsNode (length h.waiting) (e.0.item + 1)
   taken_node = omega (arith, own_item)
 
-  here_or_left : (f : Reverse Entry) → Contains (order ++ list) f → (e ≡ f) ⊎ Contains (order' ++ list') f
+  here_or_left : (f : Reverse KeyEntry) → Contains (order ++ list) f → (e ≡ f) ⊎ Contains (order' ++ list') f
   here_or_left f has = Contains-cons e (order' ++ list') f (Contains-permutation (order ++ list) (e ∷ (order' ++ list')) f p has)
 
   -- an entry of the same node with its key
-  current : (v : ℕ) → Waits h v → (f : Reverse Entry) → IsEntryOf h v f → e ≡ f → IsCurrent h e.0
+  current : (v : ℕ) → Waits h v → (f : Reverse KeyEntry) → IsEntryOf h v f → e ≡ f → IsCurrent h e.0
   current v waits f of is =
-      let node : e.0.item + 1 ≡ v = ap (λ (x : Reverse Entry). x.0.item + 1) is ∙ of.1 in
-      (subst (λ u. Waits h u) (sym node) waits, ap (λ (x : Reverse Entry). x.0.key) is ∙ of.0 ∙ ap (λ u. at_node h.keys u) (sym node))
+      let node : e.0.item + 1 ≡ v = ap (λ (x : Reverse KeyEntry). x.0.item + 1) is ∙ of.1 in
+      (subst (λ u. Waits h u) (sym node) waits, ap (λ (x : Reverse KeyEntry). x.0.key) is ∙ of.0 ∙ ap (λ u. at_node h.keys u) (sym node))
 
   -- an entry of another key than its node's, or of a node that doesn't wait, is of no account
   pub without_stale : ¬ IsCurrent h e.0 → IsQueue h order' list' room more
@@ -144,7 +144,7 @@ module _ (h : Keyed) (order list order' list' : List (Reverse Entry)) (e : Rever
           | inr other ↦ (
               let found = queue.queued v (omega (arith, n, count)) (omega (arith, n, count)) (sym other.1 ∙ waits) in
               elim (here_or_left found.0 found.1) [
-                | inl is ↦ absurd (other.0 (sym (ap (λ (x : Reverse Entry). x.0.item + 1) is ∙ found.2.1)))
+                | inl is ↦ absurd (other.0 (sym (ap (λ (x : Reverse KeyEntry). x.0.item + 1) is ∙ found.2.1)))
                 | inr has ↦ (found.0, has, found.2)
               ])
         ];
@@ -177,7 +177,7 @@ read_key keys i v key l low = elim (read_set keys i (v - 1) key (pos 0) l) [
 ]
 
 -- one entry more in the heap, for a node that waits with its key from now on
-pub queue_more : (h : Keyed) (order list list' : List (Reverse Entry)) (e : Reverse Entry) (room more more' : ℕ) → IsQueue h order list room more
+pub queue_more : (h : Keyed) (order list list' : List (Reverse KeyEntry)) (e : Reverse KeyEntry) (room more more' : ℕ) → IsQueue h order list room more
     → e.0.item < length h.waiting → IsPermutation (e ∷ list) list' → IsHeap by_key list' → more ≤ more'
     → IsQueue (record { keys = set h.keys e.0.item e.0.key; waiting = set h.waiting e.0.item true }) order list' room more'
 queue_more h order list list' e room more more' queue own one heap le =
@@ -207,7 +207,7 @@ queue_more h order list list' e room more more' queue own one heap le =
     }
 
 -- entries that are sorted, with none in the heap
-pub queue_sorted : (h : Keyed) (list order none : List (Reverse Entry)) (room more : ℕ) → length h.keys ≡ length h.waiting → length h.waiting ≤ node_limit
+pub queue_sorted : (h : Keyed) (list order none : List (Reverse KeyEntry)) (room more : ℕ) → length h.keys ≡ length h.waiting → length h.waiting ≤ node_limit
     → length h.waiting ≤ room → length h.waiting ≤ more → All (IsOfNode (length h.waiting)) list → AreQueued h (length h.waiting) list
     → IsPermutation list order → IsSorted by_key order → none ≡ [] → IsHeap by_key none → IsQueue h order none room more
 queue_sorted h list order none room more keys few in_order in_heap items queued moved sorted is heap =
@@ -225,13 +225,13 @@ queue_sorted h list order none room more keys few in_order in_heap items queued 
     }
 
 -- an entry was taken off the end of the list
-pub taken_order : (order order' list : List (Reverse Entry)) (r : Option (Reverse Entry)) → order ≡ order' ++ option_to_list r
+pub taken_order : (order order' list : List (Reverse KeyEntry)) (r : Option (Reverse KeyEntry)) → order ≡ order' ++ option_to_list r
     → IfSome r (λ e. IsPermutation (order ++ list) (e ∷ (order' ++ list)))
 taken_order order order' list None is = tt
 taken_order order order' list (Some e) is = rw (is, append_assoc) (IsPermutation-middle order' e list)
 
 -- or out of the heap
-pub taken_heap : (order list list' : List (Reverse Entry)) (r : Option (Reverse Entry)) → IfSome r (λ e. IsPermutation list (e ∷ list'))
+pub taken_heap : (order list list' : List (Reverse KeyEntry)) (r : Option (Reverse KeyEntry)) → IfSome r (λ e. IsPermutation list (e ∷ list'))
     → IfSome r (λ e. IsPermutation (order ++ list) (e ∷ (order ++ list')))
 taken_heap order list list' None taken = tt
 taken_heap order list list' (Some e) taken =
@@ -239,12 +239,12 @@ taken_heap order list list' (Some e) taken =
     (IsPermutation-middle order e list')
 
 -- whether one entry that is lent, if there is one, is less than another
-abbrev pub is_less : Option (Bor (Reverse Entry)) → Option (Bor (Reverse Entry)) → Bool
-is_less = partial_lt (option_partial_cmp (λ (a b : Bor (Reverse Entry)).
+abbrev pub is_less : Option (Bor (Reverse KeyEntry)) → Option (Bor (Reverse KeyEntry)) → Bool
+is_less = partial_lt (option_partial_cmp (λ (a b : Bor (Reverse KeyEntry)).
     partial_ordering_then (Some (int_cmp b.now.0.key a.now.0.key)) (Some (nat_cmp b.now.0.item a.now.0.item))))
 
 -- where the last of a sorted list is less than the top of a heap, the top precedes the rest
-pub top_first : (order list list' : List (Reverse Entry)) (last top : Option (Bor (Reverse Entry))) (r : Option (Reverse Entry)) → IsSorted by_key order
+pub top_first : (order list list' : List (Reverse KeyEntry)) (last top : Option (Bor (Reverse KeyEntry))) (r : Option (Reverse KeyEntry)) → IsSorted by_key order
     → IsGetResult order 0 (length order - 1) last → IsItemAt list 0 top → is_less last top ≡ true
     → IfSome r (λ e. e ≡ get_or list 0 e) → IfSome r (λ e. IsUpperBound by_key e list') → IfSome r (λ e. All (Precedes e) (order ++ list'))
 top_first order list list' last top None sorted at_last at_top less is bound = tt
@@ -259,7 +259,7 @@ top_first order list list' (Some a) (Some b) (Some e) sorted at_last at_top less
     (first_of_heap e list' bound)
 
 -- where it isn't, the last precedes the rest
-pub last_first : (order order' list : List (Reverse Entry)) (last top : Option (Bor (Reverse Entry))) (r : Option (Reverse Entry)) → IsSorted by_key order
+pub last_first : (order order' list : List (Reverse KeyEntry)) (last top : Option (Bor (Reverse KeyEntry))) (r : Option (Reverse KeyEntry)) → IsSorted by_key order
     → IsGetResult order 0 (length order - 1) last → IsItemAt list 0 top → is_less last top ≡ false
     → IfSome top (λ b. IsUpperBound by_key b.now list) → order ≡ order' ++ option_to_list r → IfSome r (λ e. All (Precedes e) (order' ++ list))
 last_first order order' list last top None sorted at_last at_top less bound is = tt
@@ -271,7 +271,7 @@ last_first order order' list (Some a) top (Some e) sorted at_last at_top less bo
     let same : a.now ≡ e = at_last.3.1 e ∙ sym at in
     All-append (Precedes e) order' list (All-pop (Precedes e) order order' (Some e) is (last_of_order order sorted e e at)).0 (behind top at_top less bound same)
   where
-    behind : (t : Option (Bor (Reverse Entry))) → IsItemAt list 0 t → is_less (Some a) t ≡ false
+    behind : (t : Option (Bor (Reverse KeyEntry))) → IsItemAt list 0 t → is_less (Some a) t ≡ false
         → IfSome t (λ b. IsUpperBound by_key b.now list) → a.now ≡ e → All (Precedes e) list
     behind None at_top less bound same = λ k d l. let none = at_top.3 in absurd (omega (arith, none, l))
     behind (Some b) at_top less bound same =

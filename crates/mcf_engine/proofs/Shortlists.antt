@@ -11,23 +11,23 @@ use Rattle.mcf_flows.specs.Network.{Network, IsArcNumber, IsNode, at_node, node_
 use Rattle.mcf_network.specs.declared.rid.Rid.{Rid}
 use Rattle.mcf_network.specs.Residual.{tail, head}
 use Rattle.mcf_network.specs.States.{Pseudoflow}
-use Rattle.mcf_engine.specs.declared.shortlist.Entry.{Entry}
+use Rattle.mcf_engine.specs.declared.shortlist.ChainEntry.{ChainEntry}
 use Rattle.mcf_engine.specs.Private.Raisings.{CostsAtLeast}
 use Rattle.mcf_engine.specs.Private.Shortlists.{AreChains, IsLastEntry, IsListed, IsPut, IsWhole, entry_at, no_entry, out_of}
 
 -- ---- what stands in the list
 
 -- the residual arc of each entry does
-pub stands : (entries : List Entry) (i : ℕ) → i < length entries → Contains (map out_of entries) (out_of (entry_at entries i))
+pub stands : (entries : List ChainEntry) (i : ℕ) → i < length entries → Contains (map out_of entries) (out_of (entry_at entries i))
 stands entries i l = (i, (let n = length-map entries out_of in omega (arith, l, n)), get_or-map out_of entries i no_entry (out_of (entry_at entries i)) l)
 
 -- and only such
-pub record StandsAt (entries : List Entry) (out : Rid) : Type 0 where
+pub record StandsAt (entries : List ChainEntry) (out : Rid) : Type 0 where
   pub place : ℕ
   pub inside : place < length entries
   pub is : out_of (entry_at entries place) ≡ out
 
-pub stands_at : (entries : List Entry) (out : Rid) → Contains (map out_of entries) out → StandsAt entries out
+pub stands_at : (entries : List ChainEntry) (out : Rid) → Contains (map out_of entries) out → StandsAt entries out
 stands_at entries out (i, l, e) =
     let n = length-map entries out_of in
     let inside : i < length entries = omega (arith, l, n) in
@@ -35,41 +35,41 @@ stands_at entries out (i, l, e) =
 
 -- ---- an entry more
 
-old_entry : (entries : List Entry) (e : Entry) (i : ℕ) → i < length entries → entry_at (entries ++ e ∷ []) i ≡ entry_at entries i
+old_entry : (entries : List ChainEntry) (e : ChainEntry) (i : ℕ) → i < length entries → entry_at (entries ++ e ∷ []) i ≡ entry_at entries i
 old_entry entries e i l = get_or_append_left entries (e ∷ []) no_entry i l
 
-new_entry : (entries : List Entry) (e : Entry) (i : ℕ) → i ≡ length entries → entry_at (entries ++ e ∷ []) i ≡ e
+new_entry : (entries : List ChainEntry) (e : ChainEntry) (i : ℕ) → i ≡ length entries → entry_at (entries ++ e ∷ []) i ≡ e
 new_entry entries e i is =
     get_or-append_right entries (e ∷ []) (length entries) i no_entry refl (omega (arith, is))
     ∙ ap (λ k. get_or (e ∷ []) k no_entry) (let z : i - length entries ≡ 0 = omega (arith, is) in z)
 
-pub one_more : (entries : List Entry) (e : Entry) → length (entries ++ e ∷ []) ≡ length entries + 1
+pub one_more : (entries : List ChainEntry) (e : ChainEntry) → length (entries ++ e ∷ []) ≡ length entries + 1
 one_more entries e = length-append entries (e ∷ [])
 
-link_kept : (g : Network) (entries : List Entry) (e : Entry) (w c count : ℕ) → count ≤ length entries → IsLastEntry g entries w c count
+link_kept : (g : Network) (entries : List ChainEntry) (e : ChainEntry) (w c count : ℕ) → count ≤ length entries → IsLastEntry g entries w c count
     → IsLastEntry g (entries ++ e ∷ []) w c count
 link_kept g entries e w c count few link =
     let low = link.low in
     record {
       low = low;
-      leaves = λ some. ap (λ (x : Entry). tail g (out_of x)) (old_entry entries e (c - 1) (omega (arith, some, low, few))) ∙ link.leaves some;
+      leaves = λ some. ap (λ (x : ChainEntry). tail g (out_of x)) (old_entry entries e (c - 1) (omega (arith, some, low, few))) ∙ link.leaves some;
       last = λ j from to is. link.last j from to
-          (sym (ap (λ (x : Entry). tail g (out_of x)) (old_entry entries e j (omega (arith, to, few)))) ∙ is);
+          (sym (ap (λ (x : ChainEntry). tail g (out_of x)) (old_entry entries e j (omega (arith, to, few)))) ∙ is);
     }
 
 -- the node of the new entry links to it
-link_here : (g : Network) (entries : List Entry) (e : Entry) (w c : ℕ) → tail g (out_of e) ≡ w → c ≡ length entries + 1
+link_here : (g : Network) (entries : List ChainEntry) (e : ChainEntry) (w c : ℕ) → tail g (out_of e) ≡ w → c ≡ length entries + 1
     → IsLastEntry g (entries ++ e ∷ []) w c (length (entries ++ e ∷ []))
 link_here g entries e w c leaves is =
     let n = one_more entries e in
     record {
       low = omega (arith, n, is);
-      leaves = λ some. ap (λ (x : Entry). tail g (out_of x)) (new_entry entries e (c - 1) (omega (arith, is))) ∙ leaves;
+      leaves = λ some. ap (λ (x : ChainEntry). tail g (out_of x)) (new_entry entries e (c - 1) (omega (arith, is))) ∙ leaves;
       last = λ j from to. absurd (omega (arith, from, to, n, is));
     }
 
 -- another node links as before
-link_other : (g : Network) (entries : List Entry) (e : Entry) (w c : ℕ) → tail g (out_of e) ≢ w → IsLastEntry g entries w c (length entries)
+link_other : (g : Network) (entries : List ChainEntry) (e : ChainEntry) (w c : ℕ) → tail g (out_of e) ≢ w → IsLastEntry g entries w c (length entries)
     → IsLastEntry g (entries ++ e ∷ []) w c (length (entries ++ e ∷ []))
 link_other g entries e w c other link =
     let n = one_more entries e in
@@ -79,12 +79,12 @@ link_other g entries e w c other link =
       low = omega (arith, n, low);
       leaves = before.leaves;
       last = λ j from to. elim (cases_eq j (length entries)) [
-        | inl is ↦ λ there. other (sym (ap (λ (x : Entry). tail g (out_of x)) (new_entry entries e j is)) ∙ there)
+        | inl is ↦ λ there. other (sym (ap (λ (x : ChainEntry). tail g (out_of x)) (new_entry entries e j is)) ∙ there)
         | inr not_last ↦ before.last j from (omega (arith, to, n, not_last))
       ];
     }
 
-pub chains_more : (g : Network) (heads : List ℕ) (entries : List Entry) (e : Entry) (w : ℕ) → AreChains g heads entries → IsNode (node_count g) w
+pub chains_more : (g : Network) (heads : List ℕ) (entries : List ChainEntry) (e : ChainEntry) (w : ℕ) → AreChains g heads entries → IsNode (node_count g) w
     → tail g (out_of e) ≡ w → IsArcNumber g e.arc → e.next ≡ get_or heads (w - 1) 0
     → AreChains g (set heads (w - 1) (length entries + 1)) (entries ++ e ∷ [])
 chains_more g heads entries e w ok node leaves arc next =
@@ -93,10 +93,10 @@ chains_more g heads entries e w ok node leaves arc next =
     record {
       head_count = length-set heads (w - 1) (length entries + 1) ∙ count;
       arcs = λ i l. elim (cases_eq i (length entries)) [
-        | inl is ↦ subst (λ (x : Entry). IsArcNumber g x.arc) (sym (new_entry entries e i is)) arc
+        | inl is ↦ subst (λ (x : ChainEntry). IsArcNumber g x.arc) (sym (new_entry entries e i is)) arc
         | inr other ↦ (
             let inside : i < length entries = omega (arith, l, n, other) in
-            subst (λ (x : Entry). IsArcNumber g x.arc) (sym (old_entry entries e i inside)) (ok.arcs i inside))
+            subst (λ (x : ChainEntry). IsArcNumber g x.arc) (sym (old_entry entries e i inside)) (ok.arcs i inside))
       ];
       first = λ v m. elim (cases_eq v w) [
         | inl is ↦ link_here g entries e v _ (leaves ∙ sym is)
@@ -112,17 +112,17 @@ chains_more g heads entries e w ok node leaves arc next =
             let there : IsLastEntry g (entries ++ e ∷ []) (tail g (out_of e)) e.next (length entries) = subst
             (λ c. IsLastEntry g (entries ++ e ∷ []) (tail g (out_of e)) c (length entries)) (sym next)
             (subst (λ v. IsLastEntry g (entries ++ e ∷ []) v (get_or heads (w - 1) 0) (length entries)) (sym leaves) here) in
-            subst (λ (x : Entry). IsLastEntry g (entries ++ e ∷ []) (tail g (out_of x)) x.next i) (sym (new_entry entries e i is))
+            subst (λ (x : ChainEntry). IsLastEntry g (entries ++ e ∷ []) (tail g (out_of x)) x.next i) (sym (new_entry entries e i is))
             (subst (λ k. IsLastEntry g (entries ++ e ∷ []) (tail g (out_of e)) e.next k) (sym is) there))
         | inr other ↦ (
             let inside : i < length entries = omega (arith, l, n, other) in
-            subst (λ (x : Entry). IsLastEntry g (entries ++ e ∷ []) (tail g (out_of x)) x.next i) (sym (old_entry entries e i inside))
+            subst (λ (x : ChainEntry). IsLastEntry g (entries ++ e ∷ []) (tail g (out_of x)) x.next i) (sym (old_entry entries e i inside))
             (link_kept g entries e _ _ i (omega (arith, inside)) (ok.next i inside)))
       ];
     }
 
 -- a residual arc is in the list where its reverse was appended, and what was in it still is
-pub stands_more : (entries : List Entry) (e : Entry) (out : Rid) → Contains (map out_of entries) out → Contains (map out_of (entries ++ e ∷ [])) out
+pub stands_more : (entries : List ChainEntry) (e : ChainEntry) (out : Rid) → Contains (map out_of entries) out → Contains (map out_of (entries ++ e ∷ [])) out
 stands_more entries e out has =
     let at = stands_at entries out has in
     let n = one_more entries e in
@@ -130,7 +130,7 @@ stands_more entries e out has =
     subst (λ x. Contains (map out_of (entries ++ e ∷ [])) x) (ap out_of (old_entry entries e at.place at.inside) ∙ at.is)
     (stands (entries ++ e ∷ []) at.place (omega (arith, inside, n)))
 
-pub stands_new : (entries : List Entry) (e : Entry) → Contains (map out_of (entries ++ e ∷ [])) (out_of e)
+pub stands_new : (entries : List ChainEntry) (e : ChainEntry) → Contains (map out_of (entries ++ e ∷ [])) (out_of e)
 stands_new entries e =
     let n = one_more entries e in
     subst (λ x. Contains (map out_of (entries ++ e ∷ [])) x) (ap out_of (new_entry entries e (length entries) refl))
@@ -139,7 +139,7 @@ stands_new entries e =
 -- ---- one residual arc
 
 -- it needn't be listed
-pub put_none : (s : Pseudoflow) (passed : List ℤ) (heads : List ℕ) (entries : List Entry) (r : Rid) → AreChains s.net heads entries
+pub put_none : (s : Pseudoflow) (passed : List ℤ) (heads : List ℕ) (entries : List ChainEntry) (r : Rid) → AreChains s.net heads entries
     → CostsAtLeast s (at_node passed (head s.net r)) r → IsPut s passed heads entries entries r
 put_none s passed heads entries r ok costs =
     record {
@@ -149,7 +149,7 @@ put_none s passed heads entries r ok costs =
     }
 
 -- it was appended
-pub put_one : (s : Pseudoflow) (passed : List ℤ) (heads heads' : List ℕ) (before entries : List Entry) (e : Entry) (r : Rid) (w place : ℕ)
+pub put_one : (s : Pseudoflow) (passed : List ℤ) (heads heads' : List ℕ) (before entries : List ChainEntry) (e : ChainEntry) (r : Rid) (w place : ℕ)
     → AreChains s.net heads before → IsNode (node_count s.net) w → tail s.net (out_of e) ≡ w → IsArcNumber s.net e.arc
     → out_of e ≡ record { arc = r.arc; back = not r.back } → place ≡ w - 1 → e.next ≡ get_or heads place 0 → heads' ≡ set heads place (length before + 1)
     → entries ≡ before ++ e ∷ [] → IsPut s passed heads' before entries r
@@ -165,16 +165,16 @@ put_one s passed heads heads' before entries e r w place ok node leaves arc is a
 -- ---- all residual arcs, one after another
 
 -- those of the first arcs are listed
-pub record AreListed (s : Pseudoflow) (passed : List ℤ) (heads : List ℕ) (entries : List Entry) (count : ℕ) : Type 0 where
+pub record AreListed (s : Pseudoflow) (passed : List ℤ) (heads : List ℕ) (entries : List ChainEntry) (count : ℕ) : Type 0 where
   pub chains : AreChains s.net heads entries
   pub each : (r : Rid) → r.arc ≤ count → IsListed s passed entries r
 
-pub listed_none : (s : Pseudoflow) (passed : List ℤ) (heads : List ℕ) (entries : List Entry) → AreChains s.net heads entries
+pub listed_none : (s : Pseudoflow) (passed : List ℤ) (heads : List ℕ) (entries : List ChainEntry) → AreChains s.net heads entries
     → AreListed s passed heads entries 0
 listed_none s passed heads entries ok =
     record { chains = ok; each = λ r few room less. absurd (let arc = room.arc in omega (arith, few, arc)) }
 
-pub listed_next : (s : Pseudoflow) (passed : List ℤ) (h0 h1 h2 : List ℕ) (e0 e1 e2 : List Entry) (count arc : ℕ) → AreListed s passed h0 e0 count
+pub listed_next : (s : Pseudoflow) (passed : List ℤ) (h0 h1 h2 : List ℕ) (e0 e1 e2 : List ChainEntry) (count arc : ℕ) → AreListed s passed h0 e0 count
     → arc ≡ count + 1 → IsPut s passed h1 e0 e1 (record { arc = arc; back = false }) → IsPut s passed h2 e1 e2 (record { arc = arc; back = true })
     → AreListed s passed h2 e2 (count + 1)
 listed_next s passed h0 h1 h2 e0 e1 e2 count arc before is one two =
@@ -190,16 +190,16 @@ listed_next s passed h0 h1 h2 e0 e1 e2 count arc before is one two =
     this false room less = two.kept _ (one.here room less)
     this true room less = two.here room less
 
-pub listed_all : (s : Pseudoflow) (passed : List ℤ) (heads : List ℕ) (entries : List Entry) (count : ℕ) → AreListed s passed heads entries count
+pub listed_all : (s : Pseudoflow) (passed : List ℤ) (heads : List ℕ) (entries : List ChainEntry) (count : ℕ) → AreListed s passed heads entries count
     → length s.net.arcs ≤ count → IsWhole s passed heads entries
 listed_all s passed heads entries count so past =
     record { chains = so.chains; every = λ r room. (let arc = room.arc in so.each r (omega (arith, arc, past)) room) }
 
 -- no entry at all
-pub no_chains : (g : Network) (heads : List ℕ) (entries : List Entry) → length heads ≡ node_count g
+pub no_chains : (g : Network) (heads : List ℕ) (entries : List ChainEntry) → length heads ≡ node_count g
     → ((i : ℕ) → i < length heads → get_or heads i 0 ≡ 0) → entries ≡ [] → AreChains g heads entries
 no_chains g heads entries count zero none =
-    let empty : length entries ≡ 0 = ap (λ (xs : List Entry). length xs) none in
+    let empty : length entries ≡ 0 = ap (λ (xs : List ChainEntry). length xs) none in
     record {
       head_count = count;
       arcs = λ i l. absurd (omega (arith, l, empty));

@@ -3,9 +3,8 @@ use Rattle.std.proofs.Common.{List, ℤ, subst}
 use Rattle.mcf_flows.specs.Flow.{AreGreatestPrices, IsLeast}
 use Rattle.mcf_flows.specs.Network.{Network}
 use Rattle.mcf_flows.proofs.Duality.{shown_flows_are_least_lem}
-use Rattle.mcf_network.specs.States.{Pseudoflow}
+use Rattle.mcf_network.specs.States.{IsFeasibleState, Pseudoflow}
 use Rattle.mcf_network.proofs.StuckLaws.{feasible_of_state}
-use Rattle.mcf_feas.specs.Feasible.{IsFeasibleState}
 use Rattle.mcf_engine.specs.Outcomes.{AreStatePrices, IsLeastState}
 use Rattle.mcf_engine.specs.SmallPrices.{AreSmallPrices}
 use Rattle.mcf_engine.proofs.PriceFloors.{greatest_are_small}

@@ -19,27 +19,30 @@ use std::cmp::Reverse;
 use std::collections::BinaryHeap;
 use std::marker::Model;
 
-/// A key with which a node was let wait; nodes are counted from 0 here.
+/// A key with which a node was queued; nodes are counted from 0 here.
 #[derive(Clone, Copy, PartialEq, Eq, PartialOrd, Ord)]
-pub(crate) struct Entry {
+pub(crate) struct KeyEntry {
     key: i128,
     item: u32,
 }
 
-/// A priority queue of nodes, each of which has a key and may wait: the one with the least key comes first, and
-/// of equal keys the least number (Cormen, Leiserson, Rivest and Stein, Introduction to Algorithms, sections 6.5 and 24.3).
+/// A priority queue of nodes, each of which has a key and may be queued: the one with the least key
+/// comes first, and of equal keys the one with the least number (Cormen, Leiserson, Rivest and
+/// Stein, Introduction to Algorithms, sections 6.5 and 24.3).
 ///
-/// Each key with which a node was let wait has an entry, in a sorted list or in a binary heap; first comes the last of the list or
-/// the top of the heap. The list is for nodes that are let wait all at once: to sort their entries and to take them off its end
-/// takes less time than as many pushes and pops. Each later key goes into the heap. An entry whose node waits no more, or with
-/// another key, is passed over when its turn comes; where the heap has no room for one more, the list is made anew, of the nodes
-/// that wait, and the heap is empty. Only `new` takes memory. A clause sees the keys of all nodes, and the table of those that wait.
+/// Each key with which a node was queued has an entry, in a sorted list or in a binary heap; first
+/// comes the last of the list or the top of the heap. The list is for nodes that are queued all at
+/// once: to sort their entries and to take them off its end takes less time than as many pushes and
+/// pops. Each later key goes into the heap. An entry is skipped if its node is no longer queued, or
+/// has another key. If the heap has no place for another entry, the list is made anew from the
+/// queued nodes, and the heap is emptied. Only `new` allocates. Clauses see the keys of all nodes,
+/// and the table of those that are queued.
 #[derive(Drop)]
 pub struct Heap {
     keys: Vec<i128>,
     waiting: Vec<bool>,
-    order: Vec<Reverse<Entry>>,
-    entries: BinaryHeap<Reverse<Entry>>,
+    order: Vec<Reverse<KeyEntry>>,
+    entries: BinaryHeap<Reverse<KeyEntry>>,
 }
 
 impl Model for Heap {
@@ -58,11 +61,11 @@ impl Model for Heap {
 }
 
 impl Heap {
-    /// The heap in which no node of a net waits, and each has key 0.
+    /// The heap in which no node of a net is queued, and each has key 0.
     ///
     /// # Errors
     ///
-    /// Want of memory; a net without nodes wants none.
+    /// `NoMemory` if an allocation is refused; a net without nodes needs none.
     pub fn new(alloc: Global, net: &Net) -> Result<Heap, NoMemory>
         ensures value { IfOk result (λ h. h ≡ no_keys (node_count net.now)) }
         ensures wants { OnErr result (1 ≤ node_count net.now) }
@@ -81,7 +84,7 @@ impl Heap {
         })
     }
 
-    /// The key of a node: the one with which it waits, or the one that it was given last.
+    /// The key of a node: the one with which it is queued, or its last one.
     pub fn key(&self, v: NodeId) -> i128
         requires { IsNode (length self.now.keys) v }
         ensures { result ≡ at_node self.now.keys v }
@@ -89,7 +92,7 @@ impl Heap {
         self.keys[v.place()]
     }
 
-    /// Whether a node waits.
+    /// Whether a node is queued.
     pub fn waits(&self, v: NodeId) -> bool
         requires { IsNode (length self.now.waiting) v }
         ensures { IsTrue result ↔ Waits self.now v }
@@ -97,7 +100,7 @@ impl Heap {
         self.waiting[v.place()]
     }
 
-    /// Lets each node wait with the opposite of its price.
+    /// Queues each node with the negative of its price.
     pub(crate) fn wait_all(&mut self, prices: &[i128])
         requires count { length self.old.waiting ≡ length prices.now }
         requires small { All (IsUpTo near_limit) prices.now }
@@ -113,8 +116,8 @@ impl Heap {
         );
     }
 
-    /// Lets a node wait with a key, unless it waits with one that is no greater, and says whether it waits with this one from
-    /// now on.
+    /// Queues a node with a key, unless it is queued with one that is no greater, and returns
+    /// whether it is now queued with this one.
     pub fn offer(&mut self, v: NodeId, key: i128) -> bool
         requires node { IsNode (length self.old.waiting) v }
         ensures lowered { result ≡ true → self.new ≡ waiting_with self.old v key }
@@ -133,13 +136,13 @@ impl Heap {
             self.waiting.as_slice(),
         );
         let item = i as u32;
-        let _ = self.entries.push(Reverse(Entry { key, item }));
+        let _ = self.entries.push(Reverse(KeyEntry { key, item }));
         self.keys[i] = key;
         self.waiting[i] = true;
         true
     }
 
-    /// Takes out the node that comes first, or none if none waits. It keeps its key.
+    /// Takes the node that comes first, if any is queued. It keeps its key.
     pub fn pop(&mut self) -> Option<NodeId>
         ensures first { IfSome result (IsFirst self.old) }
         ensures taken { IfSome result (λ v. self.new ≡ without self.old v) }
@@ -155,7 +158,7 @@ impl Heap {
         }
     }
 
-    /// Gives a node that waits a key, with which it waits no more: it is taken out wherever it stands.
+    /// Gives a queued node its final key: it is removed from the queue, wherever it is.
     pub fn settle(&mut self, v: NodeId, key: i128)
         requires node { IsNode (length self.old.waiting) v }
         requires waits { Waits self.old v }
@@ -167,8 +170,8 @@ impl Heap {
     }
 }
 
-// Whether the node of an entry waits with the key of the entry.
-fn is_current(keys: &[i128], waiting: &[bool], entry: Entry) -> bool
+// Whether the node of an entry is queued with the key of the entry.
+fn is_current(keys: &[i128], waiting: &[bool], entry: KeyEntry) -> bool
     requires key { entry.item < length keys.now }
     requires mark { entry.item < length waiting.now }
     ensures { MatchBool result (IsCurrent (record { keys = keys.now; waiting = waiting.now }) entry) (¬ IsCurrent (record { keys = keys.now; waiting = waiting.now }) entry) }
@@ -177,11 +180,11 @@ fn is_current(keys: &[i128], waiting: &[bool], entry: Entry) -> bool
     waiting[i] && keys[i] == entry.key
 }
 
-// Takes out the entry that comes first, the last of the list or the top of the heap, if there is one.
+// Takes the entry that comes first, the last of the list or the top of the heap, if there is one.
 fn take(
-    order: &mut Vec<Reverse<Entry>>,
-    entries: &mut BinaryHeap<Reverse<Entry>>,
-) -> Option<Reverse<Entry>>
+    order: &mut Vec<Reverse<KeyEntry>>,
+    entries: &mut BinaryHeap<Reverse<KeyEntry>>,
+) -> Option<Reverse<KeyEntry>>
     requires ordered { AreOrdered order.old.items (heap_items entries.old) }
     ensures ordered { AreOrdered order.new.items (heap_items entries.new) }
     ensures taken { IfSome result (λ e. IsPermutation (order.old.items ++ heap_items entries.old) (e ∷ (order.new.items ++ heap_items entries.new))) }
@@ -198,10 +201,10 @@ fn take(
     }
 }
 
-// Makes room for one entry more in the heap.
+// Makes a place for one more entry in the heap.
 fn make_room(
-    order: &mut Vec<Reverse<Entry>>,
-    entries: &mut BinaryHeap<Reverse<Entry>>,
+    order: &mut Vec<Reverse<KeyEntry>>,
+    entries: &mut BinaryHeap<Reverse<KeyEntry>>,
     keys: &[i128],
     waiting: &[bool],
 )
@@ -215,10 +218,11 @@ fn make_room(
     }
 }
 
-// Lists one entry for each node that waits, in order, in place of all that were there, and empties the heap.
+// Lists one entry for each queued node, in order, instead of all earlier entries, and empties the
+// heap.
 fn queue_anew(
-    order: &mut Vec<Reverse<Entry>>,
-    entries: &mut BinaryHeap<Reverse<Entry>>,
+    order: &mut Vec<Reverse<KeyEntry>>,
+    entries: &mut BinaryHeap<Reverse<KeyEntry>>,
     keys: &[i128],
     waiting: &[bool],
 )
@@ -234,13 +238,13 @@ fn queue_anew(
     'items: for i in 0..waiting.len() {
         if waiting[i] {
             let (key, item) = (keys[i], i as u32);
-            order.push_reserved(Reverse(Entry { key, item }));
+            order.push_reserved(Reverse(KeyEntry { key, item }));
         }
     }
     order.as_mut_slice().sort_unstable();
 }
 
-// Writes the opposites of prices over keys.
+// Writes the negatives of prices over keys.
 fn put_opposites(keys: &mut [i128], prices: &[i128])
     requires count { length keys.old ≡ length prices.now }
     requires small { All (IsUpTo near_limit) prices.now }

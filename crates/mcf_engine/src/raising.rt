@@ -18,19 +18,19 @@ ghost use Rattle.mcf_engine.specs.Private.Shortlists.{HasChain, IsChain, IsFille
 use crate::heap::Heap;
 use crate::near_state::NearState;
 use crate::pricer::{label_of, passing_cost, price_of};
-use crate::shortlist::{Entry, Shortlist, entry_before};
+use crate::shortlist::{ChainEntry, Shortlist, entry_before};
 use mcf_network::{Leaving, Rid, State};
 use mcf_text::{ArcId, NodeId};
 
 // A key that a residual arc offers its tail.
 #[derive(Drop)]
-struct Offer {
+struct KeyOffer {
     tail: NodeId,
     key: i128,
 }
 
 impl<'s, 'n> NearState<'s, 'n> {
-    /// Settles the nodes, one after another in the order of their keys.
+    /// Settles the nodes (labels them permanently), one after another in the order of their keys.
     pub(crate) fn settle_all(&self, heap: &mut Heap, short: &Shortlist)
         requires list { IsFilled self.now short.now }
         requires ready { IsRaising self.now heap.old [] }
@@ -42,7 +42,7 @@ impl<'s, 'n> NearState<'s, 'n> {
         }
     }
 
-    // Scans the node that was settled last, and each that is settled at once after it.
+    // Scans the node that was settled last, and each that is settled immediately after it.
     fn settle_ties(&self, heap: &mut Heap, short: &Shortlist, w: NodeId)
         requires list { IsFilled self.now short.now }
         requires popped { IsPopped self.now heap.old w }
@@ -55,8 +55,9 @@ impl<'s, 'n> NearState<'s, 'n> {
         }
     }
 
-    // Relaxes the residual arcs that enter the node that was settled last: those of its list, where that is complete at its label,
-    // or else those of its star. It answers the node that was settled at once, if one was.
+    // Relaxes the residual arcs that enter the node that was settled last: those of its list, if
+    // that is complete at its label, otherwise those of its star. Returns the node that was settled
+    // immediately, if any.
     fn scan(&self, heap: &mut Heap, short: &Shortlist, w: NodeId) -> Option<NodeId>
         requires list { IsFilled self.now short.now }
         requires popped { IsPopped self.now heap.old w }
@@ -72,12 +73,12 @@ impl<'s, 'n> NearState<'s, 'n> {
         self.scan_star(heap, w, base, passed)
     }
 
-    // Relaxes the reverses of the entries of a chain, whose last entry stands before a place. They enter the node that was
-    // settled last, and `base` is its label.
+    // Relaxes the reverses of the entries of a chain whose last entry is before a place. They enter
+    // the node that was settled last, and `base` is its label.
     fn scan_chain(
         &self,
         heap: &mut Heap,
-        entries: &[Entry],
+        entries: &[ChainEntry],
         w: NodeId,
         base: i128,
         start: u32,
@@ -103,7 +104,8 @@ impl<'s, 'n> NearState<'s, 'n> {
         None
     }
 
-    // Relaxes the residual arcs that enter the node that was settled last and cost less than `passed`. `base` is its label.
+    // Relaxes the residual arcs that enter the node that was settled last and cost less than
+    // `passed`. `base` is its label.
     fn scan_star(&self, heap: &mut Heap, w: NodeId, base: i128, passed: i128) -> Option<NodeId>
         requires base { base ≡ label self.now.prices.now heap.old w }
         requires passed { IsPassedFrom self.now.scale base passed }
@@ -122,8 +124,8 @@ impl<'s, 'n> NearState<'s, 'n> {
         self.relax_last(heap, base, last)
     }
 
-    // Lowers the key of the tail of the reverse of a residual arc, if that offers less. The head was settled last, and
-    // `base` is its label.
+    // Lowers the key of the tail of the reverse of a residual arc, if that offers less. The head
+    // was settled last, and `base` is its label.
     #[inline(always)]
     fn relax(&self, heap: &mut Heap, base: i128, out: Rid)
         requires arc { IsArcNumber self.now.state.now.net out.arc }
@@ -137,9 +139,9 @@ impl<'s, 'n> NearState<'s, 'n> {
         }
     }
 
-    // Relaxes the reverse of the last residual arc that is to come, as `relax` does. If it offers its tail no more than the key
-    // of its head, which was settled last, the tail is settled at once wherever it stands in the heap, since no key that
-    // waits is less.
+    // Relaxes the reverse of the last remaining residual arc, as `relax` does. If it offers its
+    // tail no more than the key of its head, which was settled last, the tail is settled
+    // immediately, wherever it is in the heap, since no queued key is less.
     fn relax_last(&self, heap: &mut Heap, base: i128, out: Rid) -> Option<NodeId>
         requires arc { IsArcNumber self.now.state.now.net out.arc }
         requires last { IsLastSettled (node_count self.now.state.now.net) heap.old (tail self.now.state.now.net out) }
@@ -161,10 +163,10 @@ impl<'s, 'n> NearState<'s, 'n> {
         None
     }
 
-    // The key that the reverse of a residual arc offers its tail, if the tail waits, with no less, and there is room. The head was
-    // settled last, and `base` is its label.
+    // The key that the reverse of a residual arc offers its tail, if the tail is queued with no
+    // smaller key and the arc has room. The head was settled last, and `base` is its label.
     #[inline(always)]
-    fn offer_of(&self, heap: &Heap, base: i128, out: Rid) -> Option<Offer>
+    fn offer_of(&self, heap: &Heap, base: i128, out: Rid) -> Option<KeyOffer>
         requires arc { IsArcNumber self.now.state.now.net out.arc }
         requires last { IsLastSettled (node_count self.now.state.now.net) heap.now (tail self.now.state.now.net out) }
         requires base { base ≡ label self.now.prices.now heap.now (tail self.now.state.now.net out) }
@@ -185,7 +187,7 @@ impl<'s, 'n> NearState<'s, 'n> {
         if self.state.room(Rid { arc, back }) <= 0 {
             return None;
         }
-        Some(Offer { tail, key })
+        Some(KeyOffer { tail, key })
     }
 
     // What a residual arc adds to the label of its head.
@@ -198,7 +200,8 @@ impl<'s, 'n> NearState<'s, 'n> {
     }
 }
 
-// The key that a residual arc of a length offers to its tail, of a price, if its head has the label `base`.
+// The key that a residual arc of this length offers its tail, which has this price, if its head has
+// the label `base`.
 fn offered(base: i128, length: i128, price: i128) -> i128
     requires base { IsUpTo label_reach base }
     requires length { IsUpTo label_reach length }
@@ -218,8 +221,8 @@ fn scaled(cost: i128, scale: u32) -> i128
     cost * i128::from(scale)
 }
 
-// The next residual arc whose reverse may have room and cost less than `passed`. Those before it are passed over: they
-// offer no label below 0, and no label is above 0, so that they lower none.
+// The next residual arc whose reverse may have room and cost less than `passed`. Those before it
+// are skipped: they offer no label below 0, and no label is above 0, so they lower none.
 fn next_offer(leaving: &mut Leaving<'_>, state: &State<'_>, passed: i128) -> Option<Rid>
     requires { All (λ r. IsArcNumber state.now.net r.arc) leaving.old }
     ensures some { IfSome result (λ out. ArePassed state.now passed leaving.old (out ∷ leaving.new)) }
@@ -234,8 +237,8 @@ fn next_offer(leaving: &mut Leaving<'_>, state: &State<'_>, passed: i128) -> Opt
     None
 }
 
-// Whether a residual arc may have room and cost less than `passed`. Backward its cost isn't read: along an arc that
-// carries nothing there is no room, and most carry nothing.
+// Whether a residual arc may have room and cost less than `passed`. Backward its cost isn't read:
+// if its arc carries nothing, it has no room, and most carry nothing.
 #[inline(always)]
 fn may_offer(state: &State<'_>, passed: i128, arc: ArcId, back: bool) -> bool
     requires { IsArcNumber state.now.net arc }

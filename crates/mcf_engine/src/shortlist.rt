@@ -6,7 +6,7 @@ ghost use Rattle.mcf_flows.specs.Network.{IsArcNumber, IsNode, at_node, node_cou
 ghost use Rattle.mcf_network.specs.declared.rid.Rid.{Rid};
 ghost use Rattle.mcf_network.specs.Residual.{head};
 ghost use Rattle.mcf_network.specs.States.{IsPseudoflow, room_of};
-ghost use Rattle.mcf_engine.specs.declared.shortlist.Entry.{Entry};
+ghost use Rattle.mcf_engine.specs.declared.shortlist.ChainEntry.{ChainEntry};
 ghost use Rattle.mcf_engine.specs.Private.Raisings.{CostsAtLeast};
 ghost use Rattle.mcf_engine.specs.Private.Shortlists.{AreChains, IsFilled, IsPut, IsWhole, entry_at};
 
@@ -17,22 +17,22 @@ use mcf_network::{Net, Rid, State};
 use mcf_text::{ArcId, NoMemory, NodeId, copies};
 use std::alloc::Global;
 
-/// A residual arc that leaves a node, and where the entry before it of the same node stands: one more than its place, or
-/// 0 where there is none.
+/// A residual arc that leaves a node, and the place of the previous entry of that node plus one, or
+/// 0 if there is none.
 #[derive(Clone, Copy)]
-pub(crate) struct Entry {
+pub(crate) struct ChainEntry {
     pub(crate) arc: u32,
     pub(crate) back: bool,
     pub(crate) next: u32,
 }
 
-// A net with so many arcs a node is dense.
+// A net with at least this many arcs per node is dense.
 const DENSE: u32 = 192;
 
-// So is the net of an assignment with so many: the walk over its arcs reads one byte of each amount.
+// The same for the net of an assignment: the pass over its arcs reads one byte of each amount.
 const DENSE_ASSIGNMENT: u32 = 96;
 
-// How many entries a node there is room for.
+// The number of entries per node.
 const SHORT: usize = 16;
 
 // No label is below this.
@@ -41,22 +41,23 @@ const LEAST_LABEL: i128 = -1_000_000_000_000_000_000_000_000_000_000;
 // There are no more entries than this.
 const ENTRY_LIMIT: usize = 1 << 31;
 
-/// For each node of a dense net a threshold, and the reverses of the residual arcs with room that enter it and cost less.
+/// For each node of a dense net a threshold, and the reverses of the residual arcs with room that
+/// enter it and cost less.
 ///
-/// They are found by one walk over all arcs in their order, since the arcs that enter a node lie far apart in memory.
-/// Those of a node are a chain: its head says where the last of them stands, and each entry where the one before it does.
-/// Where there was no room for all, or the net is not dense, the list is not whole, and complete for no node. Only `start` takes
-/// memory.
+/// One pass over all arcs in their order finds them, since the arcs that enter a node are far apart
+/// in memory. Those of a node form a chain: its head has the place of the last of them, and each
+/// entry that of the previous one. If there was no place for all, or the net isn't dense, the list
+/// isn't whole, and complete for no node. Only `start` allocates.
 #[derive(Drop)]
 pub(crate) struct Shortlist {
     passed: Vec<i128>,
     heads: Vec<u32>,
-    pub(crate) entries: Vec<Entry>,
+    pub(crate) entries: Vec<ChainEntry>,
     whole: bool,
 }
 
 impl Shortlist {
-    /// Room for the list of a dense net, and none for that of another.
+    /// Space for the list of a dense net, and none for another net.
     pub(crate) fn start(alloc: Global, net: &Net) -> Result<Shortlist, NoMemory>
         ensures wants { OnErr result (1 ≤ node_count net.now) }
     {
@@ -72,7 +73,8 @@ impl Shortlist {
         })
     }
 
-    /// Lists the residual arcs of a state that may lower a key in a search from its prices, if the net is dense.
+    /// Lists the residual arcs of a state that may lower a key in a search from its prices, if the
+    /// net is dense.
     pub(crate) fn fill(&mut self, near: &NearState<'_, '_>)
         ensures list { IsFilled near.now self.new }
         ensures valid { IsPseudoflow near.now.state.now }
@@ -80,7 +82,8 @@ impl Shortlist {
         self.whole = self.fill_dense(near);
     }
 
-    /// Whether the list has all residual arcs with room that enter a node and cost less than `passed`.
+    /// Whether the list has all residual arcs with room that enter a node and cost less than
+    /// `passed`.
     pub(crate) fn is_complete(&self, w: NodeId, passed: i128) -> bool
         requires { self.now.whole ≡ true → IsNode (length self.now.passed.items) w }
         ensures whole { result ≡ true → self.now.whole ≡ true }
@@ -92,7 +95,7 @@ impl Shortlist {
         passed <= self.passed[w.place()]
     }
 
-    /// Where the last entry of a node stands: one more than its place, or 0 where there is none.
+    /// The place of the last entry of a node plus one, or 0 if there is none.
     pub(crate) fn last_of(&self, w: NodeId) -> u32
         requires { IsNode (length self.now.heads.items) w }
         ensures { result ≡ slice_index_or self.now.heads.items (w - 1) 0 }
@@ -100,7 +103,7 @@ impl Shortlist {
         self.heads[w.place()]
     }
 
-    // Lists them, and says whether the list is whole.
+    // Lists them, and returns whether the list is whole.
     fn fill_dense(&mut self, near: &NearState<'_, '_>) -> bool
         ensures count { result ≡ true → length self.new.passed.items ≡ node_count near.now.state.now.net }
         ensures whole { result ≡ true → IsWhole near.now.state.now self.new.passed.items self.new.heads.items self.new.entries.items }
@@ -133,7 +136,7 @@ impl Shortlist {
     }
 }
 
-// How many nodes of a net have a list: all where it is dense, or else none.
+// The number of nodes of a net that have a list: all if it is dense, otherwise none.
 fn listed_nodes(net: &Net) -> usize
     ensures few { result ≤ node_count net.now }
     ensures small { result < 2 ^ 31 }
@@ -145,7 +148,7 @@ fn listed_nodes(net: &Net) -> usize
     nodes as usize
 }
 
-// How many arcs a node a dense net has at least.
+// The least number of arcs per node of a dense net.
 fn dense_from(net: &Net) -> u32
     ensures { 1 ≤ result }
 {
@@ -155,8 +158,9 @@ fn dense_from(net: &Net) -> u32
     }
 }
 
-// Makes the thresholds of all nodes. No key falls below the opposite of the greatest price, so that no label falls below
-// the price less that one. Nothing rests on it, since a threshold is compared with that of the label itself.
+// Makes the thresholds of all nodes. No key falls below the negative of the greatest price, so no
+// label falls below the price less that one. Nothing depends on it, since a threshold is compared
+// with that of the label itself.
 fn put_thresholds(passed: &mut Vec<i128>, scale: u32, prices: &[i128])
     requires scale { 1 ≤ scale }
     requires count { length passed.old.items ≡ length prices.now }
@@ -178,7 +182,7 @@ fn greatest(prices: &[i128]) -> i128 {
     top
 }
 
-// Lets no node have an entry.
+// Removes the entries of all nodes.
 fn clear_heads(heads: &mut Vec<u32>)
     ensures count { length heads.new.items ≡ length heads.old.items }
     ensures zero { (i : ℕ) → i < length heads.old.items → slice_index_or heads.new.items i 0 ≡ 0 }
@@ -188,11 +192,12 @@ fn clear_heads(heads: &mut Vec<u32>)
     }
 }
 
-// Puts all residual arcs below the thresholds into an empty list, and says whether there was room for them.
+// Puts all residual arcs below the thresholds into an empty list, and returns whether there was a
+// place for them.
 fn put_arcs(
     passed: &[i128],
     heads: &mut Vec<u32>,
-    entries: &mut Vec<Entry>,
+    entries: &mut Vec<ChainEntry>,
     state: &State<'_>,
 ) -> bool
     requires passed { length passed.now ≡ node_count state.now.net }
@@ -213,13 +218,13 @@ fn put_arcs(
     true
 }
 
-// Puts a residual arc into the list if it has room and costs less than the threshold of its head, and says whether there
-// was a place for it.
+// Puts a residual arc into the list if it has room and costs less than the threshold of its head,
+// and returns whether there was a place for it.
 #[inline(always)]
 fn put(
     passed: &[i128],
     heads: &mut Vec<u32>,
-    entries: &mut Vec<Entry>,
+    entries: &mut Vec<ChainEntry>,
     state: &State<'_>,
     arc: ArcId,
     back: bool,
@@ -235,10 +240,10 @@ fn put(
     put_below(heads, entries, state, arc, back)
 }
 
-// Puts a residual arc into the list, and says whether there was a place for it.
+// Puts a residual arc into the list, and returns whether there was a place for it.
 fn put_below(
     heads: &mut Vec<u32>,
-    entries: &mut Vec<Entry>,
+    entries: &mut Vec<ChainEntry>,
     state: &State<'_>,
     arc: ArcId,
     back: bool,
@@ -256,8 +261,8 @@ fn put_below(
     true
 }
 
-// Whether there is a place for an entry more.
-fn has_place(entries: &Vec<Entry>) -> bool
+// Whether there is a place for another entry.
+fn has_place(entries: &Vec<ChainEntry>) -> bool
     ensures room { result ≡ true → length entries.now.items < vec_capacity entries.now }
     ensures small { result ≡ true → length entries.now.items < 2 ^ 31 }
 {
@@ -269,7 +274,7 @@ fn has_place(entries: &Vec<Entry>) -> bool
 }
 
 // Appends an entry to the list of the node at a place.
-fn push(heads: &mut Vec<u32>, entries: &mut Vec<Entry>, place: usize, arc: ArcId, back: bool)
+fn push(heads: &mut Vec<u32>, entries: &mut Vec<ChainEntry>, place: usize, arc: ArcId, back: bool)
     requires place { place < length heads.old.items }
     requires room { length entries.old.items < vec_capacity entries.old }
     requires small { length entries.old.items < 2 ^ 31 }
@@ -279,7 +284,7 @@ fn push(heads: &mut Vec<u32>, entries: &mut Vec<Entry>, place: usize, arc: ArcId
 {
     let next = heads[place];
     let count = entries.len() as u32 + 1;
-    entries.push_reserved(Entry {
+    entries.push_reserved(ChainEntry {
         arc: arc.get(),
         back,
         next,
@@ -287,8 +292,8 @@ fn push(heads: &mut Vec<u32>, entries: &mut Vec<Entry>, place: usize, arc: ArcId
     heads[place] = count;
 }
 
-// Whether a residual arc may have room and cost less than the threshold of its head. Backward the room is looked at
-// first, as most arcs carry nothing, and forward the cost.
+// Whether a residual arc may have room and cost less than the threshold of its head. Backward the
+// room is tested first, as most arcs carry nothing; forward the cost.
 #[inline(always)]
 fn is_below(passed: &[i128], state: &State<'_>, arc: ArcId, back: bool) -> bool
     requires passed { length passed.now ≡ node_count state.now.net }
@@ -327,7 +332,7 @@ fn is_dear(passed: &[i128], state: &State<'_>, arc: ArcId, back: bool) -> bool
 }
 
 /// The entry before a place, counted from 1.
-pub(crate) fn entry_before(entries: &[Entry], cursor: u32) -> Entry
+pub(crate) fn entry_before(entries: &[ChainEntry], cursor: u32) -> ChainEntry
     requires low { 1 ≤ cursor }
     requires high { cursor ≤ length entries.now }
     ensures { result ≡ entry_at entries.now (cursor - 1) }

@@ -1,20 +1,21 @@
-//! An engine that answered want of memory is asked again for the same net, and solves it.
+//! An engine that answered lack of memory is asked again for the same net, and solves it.
 //!
-//! With ample memory nothing is asked twice; `scripts/refuse_memory.py` refuses each allocation in turn.
+//! With ample memory nothing is asked twice; `scripts/refuse_memory.py` refuses each allocation in
+//! turn.
 
 use crate::fixtures::{CIRCULATION, Costed, SAMPLE, finds_all};
-use crate::networks::net_of;
 use mcf_assign::Sap;
-use mcf_augment::Augment;
 use mcf_basis::Basis;
+use mcf_cancel::{Cancel, Engine, Heap, Pricer};
+use mcf_fast::Fast;
 use mcf_feas::{Feas, feasible};
 use mcf_instance::Problem;
 use mcf_links::SiblingLinks;
 use mcf_matching::Matching;
 use mcf_network::{Net, NodeSet, State};
-use mcf_prices::{Cancel, Engine, Heap, Pricer};
 use mcf_scaling::{Refine, Scaling};
 use mcf_simplex::{Best, Block, First, Simplex};
+use mcf_test_nets::net_of;
 use mcf_text::NoMemory;
 use mcf_tree::Tree;
 use std::alloc::Global;
@@ -72,8 +73,8 @@ fn six_rows_by_the_simplex(rt: HostRuntime) -> Result<(), Fail> {
 
 // Whether the search that is judged does so, and where it is given up at once.
 fn either_search_finds_both(alloc: Global) -> Result<bool, NoMemory> {
-    let searched = finds_both(alloc, &mut Augment::new())?;
-    let given_up = finds_both(alloc, &mut Augment::within(0))?;
+    let searched = finds_both(alloc, &mut Fast::new())?;
+    let given_up = finds_both(alloc, &mut Fast::within(0))?;
     Ok(searched && given_up)
 }
 
@@ -83,7 +84,8 @@ fn six_rows_by_a_judged_search(rt: HostRuntime) -> Result<(), Fail> {
     Ok(())
 }
 
-// Whether each call that makes room for a net alone makes it as it should: by a function for each call.
+// Whether each call that makes room for a net alone makes it as it should: by a function for each
+// call.
 fn begins(alloc: Global, net: &Net) -> Result<bool, NoMemory> {
     Ok(
         begins_state(alloc, net)?

@@ -3,17 +3,13 @@ ghost use Rattle.std.specs.Prelude.{◌≡◌};
 ghost use Rattle.mcf_flows.specs.Network.{IsNode, node_count};
 ghost use Rattle.mcf_assign.specs.Runs.{is_source};
 
-use crate::assignments::{multiples, short_rows};
-use crate::feasibility::is_set_of;
 use crate::fixtures::{cost_of, finds_prices};
-use crate::networks::net_of;
 use mcf_assign::{Extended, Matching, Sap};
-use mcf_checker::{Verdict, check};
+use mcf_cancel::{Cancel, Engine, Outcome};
 use mcf_instance::{Problem, Side};
 use mcf_network::Net;
-use mcf_prices::{Cancel, Engine, Outcome};
 use mcf_scaling::Scaling;
-use mcf_solver::{Choice, EngineChoice, Kind, solve_text};
+use mcf_test_nets::{is_set_of, multiples, net_of};
 use mcf_text::{NoMemory, NodeId};
 use std::alloc::Global;
 use std::test::Fail;
@@ -39,8 +35,9 @@ const SHORT: &[u8] = b"p asn 3 2\nn 1\nn 2\na 1 3 4\na 2 3 4\n";
 // Two rows, the first of which has no arc, and two columns.
 const STUCK: &[u8] = b"p asn 4 2\nn 2\nn 3\na 3 1 0\na 3 4 0\n";
 
-// A text; of the searches from its rows, ascending, up to the first that finds no path, how many there are; the nodes that
-// the last of them settles in their order, and those that it reaches where it finds no path.
+// A text; of the searches from its rows, ascending, up to the first that finds no path, how many
+// there are; the nodes that the last of them settles in their order, and those that it reaches
+// where it finds no path.
 type Searches = (&'static [u8], u32, &'static [u32], Option<&'static [u32]>);
 
 static SEARCHES: [Searches; 8] = [
@@ -77,8 +74,8 @@ fn offer(matching: &mut Matching<'_>, net: &Net, v: NodeId) -> Option<Extended>
     Some(matching.extend(v))
 }
 
-// Searches from the rows, ascending, up to the first search that finds no path: how many searches there were, and what
-// the last one answered.
+// Searches from the rows, ascending, up to the first search that finds no path: how many searches
+// there were, and what the last one answered.
 fn offer_all(matching: &mut Matching<'_>, net: &Net) -> (u32, Option<Extended>)
     requires { matching.old.flow.net ≡ net.now }
     ensures { matching.new.flow.net ≡ net.now }
@@ -106,7 +103,8 @@ fn are_nodes(nodes: &[NodeId], numbers: &[u32]) -> bool {
             .all(|(v, number)| v.get() == *number)
 }
 
-// Whether the last search settled these nodes in their order, and found a path or reached these nodes alone.
+// Whether the last search settled these nodes in their order, and found a path or reached these
+// nodes alone.
 fn has_ended(
     net: &Net,
     matching: &Matching<'_>,
@@ -206,7 +204,7 @@ fn each_engine_answers_so(rt: HostRuntime) -> Result<(), Fail> {
     Ok(())
 }
 
-// Texts whose supplies don't add up to 0, and the side by which all nodes block.
+// Texts whose supplies don't sum to 0, and the side by which all nodes block.
 static UNBALANCED: [(&[u8], Side); 3] = [
     (SHORT, Side::Send),
     (IDLE_ROW, Side::Send),
@@ -228,7 +226,8 @@ fn is_blocked_by_all(alloc: Global, text: &[u8], side: Side) -> Result<bool, NoM
     }
 }
 
-// Nothing is searched: the searches from the rows of the second text end with another set, and those of the third with none.
+// Nothing is searched: the searches from the rows of the second text end with another set, and
+// those of the third with none.
 #[test]
 fn supplies_out_of_balance_are_not_searched(rt: HostRuntime) -> Result<(), Fail> {
     for (text, side) in &UNBALANCED {
@@ -252,7 +251,8 @@ fn takes_assignments_alone(rt: HostRuntime) -> Result<(), Fail> {
     Ok(())
 }
 
-// Whether shortest augmenting paths and cost scaling answer a net with one cost and the same prices.
+// Whether shortest augmenting paths and cost scaling answer a net with one cost and the same
+// prices.
 fn are_alike(alloc: Global, net: &Net, cost: i128) -> Result<bool, NoMemory> {
     let mut engine = Sap::new();
     if !engine.takes(net) {
@@ -282,65 +282,8 @@ fn agrees_with_cost_scaling(rt: HostRuntime) -> Result<(), Fail> {
     Ok(())
 }
 
-static ENGINES: [EngineChoice; 3] = [
-    EngineChoice::Sap,
-    EngineChoice::Scaling,
-    EngineChoice::Simplex,
-];
-
-// Whether an engine answers a text with a flow of a cost, which the checker accepts.
-fn costs(alloc: Global, text: &[u8], engine: EngineChoice, cost: i128) -> Result<bool, NoMemory> {
-    let choice = Choice {
-        engine,
-        ..Choice::default()
-    };
-    let mut answer = Vec::new(alloc);
-    let kind = solve_text(alloc, text, choice, &mut answer)?;
-    let verdict = check(alloc, text, &answer)?;
-    Ok(kind == Kind::Flow && verdict == Verdict::Flow(cost))
-}
-
-// Whether three engines answer a text with a flow of one cost.
-fn each_costs(alloc: Global, text: &[u8], cost: i128) -> Result<bool, NoMemory> {
-    for engine in &ENGINES {
-        if !costs(alloc, text, *engine, cost)? {
-            return Ok(false);
-        }
-    }
-    Ok(true)
-}
-
-#[test]
-fn three_engines_answer_with_one_cost(rt: HostRuntime) -> Result<(), Fail> {
-    let text = multiples(rt.alloc(), 200)?;
-    assert!(rt; each_costs(rt.alloc(), &text, 198)?);
-    Ok(())
-}
-
-// Whether three engines answer an assignment of short rows with a flow of one cost.
-fn each_costs_short(alloc: Global, size: u32, unit: i128, cost: i128) -> Result<bool, NoMemory> {
-    let text = short_rows(alloc, size, unit)?;
-    each_costs(alloc, &text, cost)
-}
-
-// How many short rows there are, in what unit, and the cost.
-static SHORT_ROWS: [(u32, i128, i128); 3] = [
-    (60, 1, 24_849),
-    (200, 1, 89_522),
-    (200, 990_000_000_000, 88_626_780_000_000_000),
-];
-
-// Rows are so short that all prices are updated from time to time, but where the unit is so great that 64 bits have no room for
-// distances; the costs are those that LEMON's network simplex finds.
-#[test]
-fn three_engines_agree_where_rows_are_short(rt: HostRuntime) -> Result<(), Fail> {
-    for (size, unit, cost) in &SHORT_ROWS {
-        assert!(rt; each_costs_short(rt.alloc(), *size, *unit, *cost)?);
-    }
-    Ok(())
-}
-
-// Whether the matching of a net, once its rows have been offered, has this cost and this first price.
+// Whether the matching of a net, once its rows have been offered, has this cost and this first
+// price.
 fn hands_over(alloc: Global, net: &Net, cost: i128, price: i128) -> Result<bool, NoMemory> {
     match net.problem() {
         Problem::Min => return Ok(false),
@@ -360,7 +303,8 @@ fn hands_over_text(alloc: Global, text: &[u8], cost: i128, price: i128) -> Resul
     }
 }
 
-// The second search raises the price of row 1 from 1, which its pair costs, to 2, and that of its column from 0 to 1.
+// The second search raises the price of row 1 from 1, which its pair costs, to 2, and that of its
+// column from 0 to 1.
 #[test]
 fn hands_over_its_parts(rt: HostRuntime) -> Result<(), Fail> {
     assert!(rt; hands_over_text(rt.alloc(), SQUARE, 3, 2)?);

@@ -1,13 +1,13 @@
 //! Texts of nets with what their least flows cost, and whether an engine finds that.
 
-use crate::networks::net_of;
+use mcf_cancel::{Engine, Outcome, Recovered, recover};
 use mcf_network::{Net, State};
-use mcf_prices::{Engine, Outcome, Recovered, recover};
-use mcf_text::{ArcId, NoMemory, put_number};
+use mcf_test_nets::net_of;
+use mcf_text::{ArcId, NoMemory};
 use std::alloc::Global;
 
-/// A text, and the cost of a least flow of its net, in which lower bounds are taken away, or nothing where no flow is
-/// feasible.
+/// A text, and the cost of a least flow of its net, in which lower bounds are taken away, or
+/// nothing if no flow is feasible.
 pub type Costed = (&'static [u8], Option<i128>);
 
 /// The sample of the DIMACS format.
@@ -81,8 +81,8 @@ pub fn cost_of(state: &State<'_>) -> i128 {
     total
 }
 
-// What a net is answered with, by an engine that is asked once more where memory was wanting: the cost of a least flow,
-// or nothing where there is no flow.
+// What a net is answered with, by an engine that is asked once more where memory ran out: the cost
+// of a least flow, or nothing if there is no flow.
 fn cost_by<E: Engine>(alloc: Global, engine: &mut E, net: &Net) -> Result<Option<i128>, NoMemory>
     requires { E.Takes net.now }
 {
@@ -96,7 +96,8 @@ fn cost_by<E: Engine>(alloc: Global, engine: &mut E, net: &Net) -> Result<Option
     }
 }
 
-/// Whether an engine takes the net of a text, and finds a least flow of a cost, or that no flow is feasible.
+/// Whether an engine takes the net of a text, and finds a least flow of a cost, or that no flow is
+/// feasible.
 pub fn finds<E: Engine>(
     alloc: Global,
     engine: &mut E,
@@ -149,15 +150,4 @@ pub fn has_prices(alloc: Global, state: &State<'_>, prices: &[i128]) -> Result<b
         Recovered::Prices(found) => Ok(found.as_slice() == prices),
         Recovered::Cycle(_) => Ok(false),
     }
-}
-
-/// Puts a line of words and numbers: a letter, the numbers and an end of the line.
-pub fn put_line(out: &mut Vec<u8>, letter: &[u8], numbers: &[i128]) -> Result<(), NoMemory> {
-    out.extend_from_slice(letter)?;
-    for number in numbers {
-        out.push(b' ')?;
-        put_number(out, *number)?;
-    }
-    out.push(b'\n')?;
-    Ok(())
 }

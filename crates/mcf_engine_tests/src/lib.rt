@@ -1,28 +1,20 @@
 #![tactic(auto)]
 
-//! The tests of nets, trees, prices and engines: what no clause says, and each public call with ample memory.
+//! The tests of prices and engines: what no clause says, and each public call with ample memory.
 //!
-//! They stand in a crate of their own, since a crate with tests is proved twice, and apart from the others, so that all are proved
-//! at the same time. It has no other function.
+//! They stand in a crate of their own, since a crate with tests is proved twice, and apart from the
+//! others, so that all are proved at the same time. It has no other function.
 
 #[cfg(test)]
 mod asking_again;
 #[cfg(test)]
 mod assigning;
 #[cfg(test)]
-mod assignments;
-#[cfg(test)]
-mod augmenting;
-#[cfg(test)]
-mod bases;
-#[cfg(test)]
-mod feasibility;
+mod fast;
 #[cfg(test)]
 mod fixtures;
 #[cfg(test)]
-mod networks;
-#[cfg(test)]
-mod offers;
+mod leaving;
 #[cfg(test)]
 mod price_sizes;
 #[cfg(test)]
@@ -32,8 +24,8 @@ mod raising;
 #[cfg(test)]
 mod random_prices;
 #[cfg(test)]
+mod runs;
+#[cfg(test)]
 mod scaling;
 #[cfg(test)]
 mod simplex;
-#[cfg(test)]
-mod trees;

@@ -1,19 +1,21 @@
-//! Prices in 64 bits and in 128: nets on both sides of the reach of prices from which on a basis keeps them in 128.
+//! Prices in 64 bits and in 128: nets on both sides of the reach of prices from which on a basis
+//! keeps them in 128.
 
 use crate::fixtures::{Costed, finds_all};
-use crate::networks::net_of;
 use crate::simplex::{finds_by_each, step};
 use mcf_basis::Basis;
+use mcf_cancel::Cancel;
 use mcf_network::Net;
-use mcf_prices::Cancel;
 use mcf_scaling::Scaling;
 use mcf_simplex::{Best, Block, First, Pricing};
+use mcf_test_nets::net_of;
 use mcf_text::{NoMemory, NodeId};
 use std::alloc::Global;
 use std::test::Fail;
 
-// Four units go from node 1 to node 4 for 14. Beside the arcs for it there is one that costs 10^12 and one back that costs 1: with all
-// that the arcs can cost, and four times the greatest cost, a price lies at most 3 * 10^18 from 0.
+// Four units go from node 1 to node 4 for 14. Beside the arcs for it there is one that costs 10^12
+// and one back that costs 1: with all that the arcs can cost, and four times the greatest cost, a
+// price lies at most 3 * 10^18 from 0.
 const WITHIN: &[u8] =
     b"p min 4 7\nn 1 4\nn 4 -4\na 1 2 0 4 2\na 1 3 0 2 2\na 2 3 0 2 1\na 2 4 0 3 3\na 3 4 0 5 1\na 1 4 0 2999995 1000000000000\na 4 1 0 999999999971 1\n";
 
@@ -31,7 +33,8 @@ static ROWS: [Costed; 3] = [
     (FAR_BEYOND, Some(14)),
 ];
 
-// Whether the nets are answered with the same cost by the simplex, by cost scaling and by cancelling cycles.
+// Whether the nets are answered with the same cost by the simplex, by cost scaling and by
+// cancelling cycles.
 fn each_finds(alloc: Global) -> Result<bool, NoMemory> {
     let cancelled = finds_all(alloc, &mut Cancel::new(), &ROWS)?;
     let scaled = finds_all(alloc, &mut Scaling::new(), &ROWS)?;

@@ -1,23 +1,24 @@
 //! Least flows of worked nets, by the plain engine and by a second one.
 ghost use Rattle.std.specs.Prelude.{◌≤◌, IfOk, OnErr, ⊤};
-ghost use Rattle.mcf_feas.specs.Feasible.{IsFeasibleState};
+ghost use Rattle.mcf_network.specs.States.{IsFeasibleState};
 ghost use Rattle.mcf_flows.specs.Network.{node_count};
 ghost use Rattle.mcf_engine.specs.Outcomes.{AreStatePrices, IsLeastState, IsOutcome};
 
 use crate::fixtures::{CIRCULATION, Costed, SAMPLE, cost_of, finds_all, finds_prices, has_prices};
-use crate::networks::net_of;
-use mcf_feas::{Feas, feasible};
-use mcf_instance::Problem;
-use mcf_network::{Net, Rid, State, push_along};
-use mcf_prices::{
+use mcf_cancel::{
     Cancel, Engine, Outcome, Recovered, greatest_prices_are_small, least_states_have_no_cycle,
     recover,
 };
+use mcf_feas::{Feas, feasible};
+use mcf_instance::Problem;
+use mcf_network::{Net, Rid, State, push_along};
+use mcf_test_nets::net_of;
 use mcf_text::NoMemory;
 use std::alloc::Global;
 use std::test::Fail;
 
-// An engine that takes the nets of minimum-cost flow problems alone, and pushes 1 at a time round each cycle.
+// An engine that takes the nets of minimum-cost flow problems alone, and pushes 1 at a time round
+// each cycle.
 #[derive(Drop)]
 struct ByOne;
 

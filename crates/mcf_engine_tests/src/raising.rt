@@ -3,11 +3,11 @@ ghost use Rattle.std.specs.Prelude.{◌≡◌, length};
 ghost use Rattle.mcf_flows.specs.Flow.{AreGreatestPrices};
 ghost use Rattle.mcf_flows.specs.Network.{node_count};
 
-use crate::networks::net_of;
-use mcf_network::State;
-use mcf_prices::{
+use mcf_cancel::{
     Heap, Pricer, Recovered, greatest_prices_are_small, recover, shown_prices_are_near,
 };
+use mcf_network::State;
+use mcf_test_nets::net_of;
 use mcf_text::{NoMemory, NodeId};
 use std::alloc::Global;
 use std::test::Fail;
@@ -25,7 +25,8 @@ fn raise_shown(pricer: &mut Pricer, state: &State<'_>, prices: &mut [i128])
 
 const CHAIN: &[u8] = b"p min 3 3\na 1 2 0 5 -2\na 2 3 0 5 -3\na 1 3 0 5 4\n";
 
-// Whether the greatest prices of the state without flow of a text's net are these, and are left as they are.
+// Whether the greatest prices of the state without flow of a text's net are these, and are left as
+// they are.
 fn is_raised(alloc: Global, text: &[u8], want: &[i128]) -> Result<bool, NoMemory> {
     let Some(net) = net_of(alloc, text)? else {
         return Ok(false);
@@ -47,11 +48,13 @@ fn raises_to_the_greatest_prices(rt: HostRuntime) -> Result<(), Fail> {
     Ok(())
 }
 
-// A node that is offered to a heap with a key, whether that is taken, and the key that the node waits with then.
-type Offer = (u32, i128, bool, i128);
+// A node that is offered to a heap with a key, whether that is taken, and the key that the node
+// waits with then.
+type NodeOffer = (u32, i128, bool, i128);
 
-// Whether an offer to a heap of three nodes is taken or not, and leaves a node that waits with a key, as the row has it.
-fn is_offered(heap: &mut Heap, offer: &Offer) -> bool
+// Whether an offer to a heap of three nodes is taken or not, and leaves a node that waits with a
+// key, as the row has it.
+fn is_offered(heap: &mut Heap, offer: &NodeOffer) -> bool
     requires keys { length heap.old.keys ≡ 3 }
     requires waiting { length heap.old.waiting ≡ 3 }
     ensures keys { length heap.new.keys ≡ 3 }
@@ -69,7 +72,7 @@ fn is_offered(heap: &mut Heap, offer: &Offer) -> bool
 }
 
 // Whether each of the offers goes so.
-fn are_offered(heap: &mut Heap, offers: &[Offer]) -> bool
+fn are_offered(heap: &mut Heap, offers: &[NodeOffer]) -> bool
     requires keys { length heap.old.keys ≡ 3 }
     requires waiting { length heap.old.waiting ≡ 3 }
 {
@@ -81,7 +84,8 @@ fn are_offered(heap: &mut Heap, offers: &[Offer]) -> bool
     true
 }
 
-// Whether nodes of these numbers come out of a heap, one after another; number 0 says that none waits.
+// Whether nodes of these numbers come out of a heap, one after another; number 0 says that none
+// waits.
 fn come_out(heap: &mut Heap, order: &[u32]) -> bool {
     for number in order {
         let found = match heap.pop() {
@@ -96,7 +100,7 @@ fn come_out(heap: &mut Heap, order: &[u32]) -> bool {
 }
 
 // Whether a heap of three nodes takes these offers, and then gives the nodes out in this order.
-fn is_ordered(alloc: Global, offers: &[Offer], order: &[u32]) -> Result<bool, NoMemory> {
+fn is_ordered(alloc: Global, offers: &[NodeOffer], order: &[u32]) -> Result<bool, NoMemory> {
     let Some(net) = net_of(alloc, CHAIN)? else {
         return Ok(false);
     };
@@ -109,7 +113,7 @@ fn is_ordered(alloc: Global, offers: &[Offer], order: &[u32]) -> Result<bool, No
 
 const FAR: i128 = 1_000_000_000_000_000_000_000_000_000_000;
 
-static ORDERS: [(&[Offer], &[u32]); 5] = [
+static ORDERS: [(&[NodeOffer], &[u32]); 5] = [
     // By key and then by number.
     (
         &[
@@ -169,8 +173,8 @@ fn takes_nodes_in_and_out_by_key_and_number(rt: HostRuntime) -> Result<(), Fail>
     Ok(())
 }
 
-// Whether a node that doesn't come first waits no more once it is settled, has the key that it is settled with, and leaves the
-// others in their order.
+// Whether a node that doesn't come first waits no more once it is settled, has the key that it is
+// settled with, and leaves the others in their order.
 fn is_settled(alloc: Global) -> Result<bool, NoMemory> {
     let Some(net) = net_of(alloc, CHAIN)? else {
         return Ok(false);
@@ -203,7 +207,8 @@ fn dense_text(alloc: Global, line: &[u8]) -> Result<Vec<u8>, NoMemory> {
     Ok(text)
 }
 
-// In a net of so many arcs a node those that may lower a price are listed, if they are few: here one of all, and all.
+// In a net of this many arcs a node those that may lower a price are listed, if they are few: here
+// one of all, and all.
 #[test]
 fn raises_in_a_dense_net(rt: HostRuntime) -> Result<(), Fail> {
     for line in [b"a 1 2 0 5 7\n".as_slice(), b"a 1 2 0 5 -7\n".as_slice()] {

@@ -1,13 +1,13 @@
-//! The prices with which engines end, on nets without a pattern: they are those that are recovered from the state alone.
+//! The prices with which engines end, on nets without a pattern: they are those that are recovered
+//! from the state alone.
 
-use crate::fixtures::{has_prices, put_line};
-use crate::networks::net_of;
-use crate::trees::{below, next};
-use mcf_augment::Augment;
+use crate::fixtures::has_prices;
+use mcf_cancel::{Cancel, Engine, Outcome};
+use mcf_fast::Fast;
 use mcf_network::Net;
-use mcf_prices::{Cancel, Engine, Outcome};
 use mcf_scaling::Scaling;
 use mcf_simplex::{First, Simplex};
+use mcf_test_nets::{below, net_of, next, put_line};
 use mcf_text::NoMemory;
 use std::alloc::Global;
 use std::test::Fail;
@@ -15,7 +15,8 @@ use std::test::Fail;
 // How many arcs a net has.
 const ARCS: u32 = 14;
 
-// An arc between two of so many nodes, of lower bounds from -3 to 0, widths up to 9, and costs from -5 to 20.
+// An arc between two of this many nodes, of lower bounds from -3 to 0, widths up to 9, and costs
+// from -5 to 20.
 fn put_arc(out: &mut Vec<u8>, seed: u64, nodes: u32) -> Result<(), NoMemory> {
     let second = next(seed);
     let third = next(second);
@@ -45,7 +46,8 @@ fn random_text(alloc: Global, seed: u64) -> Result<Vec<u8>, NoMemory> {
     Ok(out)
 }
 
-// Whether an engine ends with the prices that are recovered from its state; nothing where it ends with none.
+// Whether an engine ends with the prices that are recovered from its state; nothing if it ends with
+// none.
 fn agrees<E: Engine>(alloc: Global, engine: &mut E, net: &Net) -> Result<Option<bool>, NoMemory>
     requires { E.Takes net.now }
 {
@@ -60,8 +62,8 @@ fn all_agree(alloc: Global, net: &Net) -> Result<Option<bool>, NoMemory> {
     let plain = agrees(alloc, &mut Cancel::new(), net)?;
     let scaled = agrees(alloc, &mut Scaling::new(), net)?;
     let pivoted = agrees(alloc, &mut Simplex::new(First), net)?;
-    let augmented = agrees(alloc, &mut Augment::new(), net)?;
-    if plain == scaled && plain == pivoted && plain == augmented {
+    let fast = agrees(alloc, &mut Fast::new(), net)?;
+    if plain == scaled && plain == pivoted && plain == fast {
         Ok(plain)
     } else {
         Ok(Some(false))
@@ -77,7 +79,7 @@ fn all_agree_at(alloc: Global, seed: u64) -> Result<Option<bool>, NoMemory> {
     }
 }
 
-// How many of 300 random nets have a flow, or nothing where an engine doesn't agree.
+// How many of 300 random nets have a flow, or nothing if an engine doesn't agree.
 fn flows(alloc: Global) -> Result<Option<u32>, NoMemory> {
     let mut seed: u64 = 7;
     let mut flows: u32 = 0;
@@ -92,7 +94,8 @@ fn flows(alloc: Global) -> Result<Option<u32>, NoMemory> {
     Ok(Some(flows))
 }
 
-/// Of 300 nets a third at least has a flow, and each engine ends with its greatest prices, or finds none.
+/// Of 300 nets a third at least has a flow, and each engine ends with its greatest prices, or finds
+/// none.
 #[test]
 fn prices_of_random_nets(rt: HostRuntime) -> Result<(), Fail> {
     assert!(rt; matches!(flows(rt.alloc())?, Some(count) if count >= 100));

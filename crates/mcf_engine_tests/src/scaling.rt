@@ -1,23 +1,22 @@
 //! Phases, relabels and least flows of worked nets, by cost scaling.
 ghost use Rattle.std.specs.Prelude.{◌≡◌};
-ghost use Rattle.mcf_feas.specs.Feasible.{IsFeasibleState};
+ghost use Rattle.mcf_network.specs.States.{IsFeasibleState};
 
-use crate::assignments::multiples;
 use crate::fixtures::{
     CIRCULATION, COSTED, GREAT, LOOP, SAMPLE, SIDE_BY_SIDE, cost_of, finds, finds_all, has_prices,
 };
-use crate::networks::net_of;
 use mcf_feas::{Feas, feasible};
 use mcf_network::{Rid, State};
 use mcf_scaling::{
     Refine, Scaling, nearly_least_have_no_cycle, phases_end, prices_rise_little, runs_keep_bounds,
 };
+use mcf_test_nets::{multiples, net_of};
 use mcf_text::{ArcId, NoMemory, NodeId, copies};
 use std::alloc::Global;
 use std::test::Fail;
 
-// What a text is solved in: how many phases, how many relabels of a node in one of them at most, for what cost, and the
-// greatest prices that show it.
+// What a text is solved in: how many phases, how many relabels of a node in one of them at most,
+// for what cost, and the greatest prices that show it.
 type Row = (&'static [u8], u32, u32, i128, &'static [i128]);
 
 // Each phase relabels a node at most three times as often as there are nodes.
@@ -38,38 +37,39 @@ static ROWS: [Row; 6] = [
 
 // What was done with a refinement.
 #[derive(Clone, Copy)]
-enum Step {
+enum Refining {
     Begin,
     Push,
     Relabel(NodeId),
     Done,
 }
 
-// Takes the next step of a refinement: at an active node, or else the beginning of a phase, until it is done.
-fn take_step(refine: &mut Refine<'_>) -> Step {
+// Takes the next step of a refinement: at an active node, or else the beginning of a phase, until
+// it is done.
+fn take_step(refine: &mut Refine<'_>) -> Refining {
     let Some(v) = refine.active() else {
         return next_phase(refine);
     };
     match refine.admissible(v) {
         Some(r) => {
             refine.push(r);
-            Step::Push
+            Refining::Push
         }
         None => {
             refine.relabel(v);
-            Step::Relabel(v)
+            Refining::Relabel(v)
         }
     }
 }
 
 // Begins a phase, until the refinement is done.
-fn next_phase(refine: &mut Refine<'_>) -> Step {
+fn next_phase(refine: &mut Refine<'_>) -> Refining {
     let rest = refine.active().is_none();
     if rest && !refine.done() {
         refine.begin();
-        return Step::Begin;
+        return Refining::Begin;
     }
-    Step::Done
+    Refining::Done
 }
 
 // Counts a relabel of a node, and says how many that makes.
@@ -83,26 +83,26 @@ fn count_one(counts: &mut [u32], v: NodeId) -> u32 {
     }
 }
 
-// Takes steps until a refinement is done: how many phases that takes, and how many relabels of a node in one of them at
-// most, by counts for each node.
+// Takes steps until a refinement is done: how many phases that takes, and how many relabels of a
+// node in one of them at most, by counts for each node.
 fn refine_on(refine: &mut Refine<'_>, counts: &mut [u32]) -> (u32, u32) {
     let (mut phases, mut most) = (0u32, 0u32);
     for _ in 0..10_000u32 {
         match take_step(refine) {
-            Step::Begin => {
+            Refining::Begin => {
                 phases = phases.wrapping_add(1);
                 counts.fill(0);
             }
-            Step::Push => {}
-            Step::Relabel(v) => most = most.max(count_one(counts, v)),
-            Step::Done => break,
+            Refining::Push => {}
+            Refining::Relabel(v) => most = most.max(count_one(counts, v)),
+            Refining::Done => break,
         }
     }
     (phases, most)
 }
 
-// Whether the refinement of a state takes a row's phases, and not more than its relabels, for its cost, and the row's
-// prices are recovered from its last state.
+// Whether the refinement of a state takes a row's phases, and not more than its relabels, for its
+// cost, and the row's prices are recovered from its last state.
 fn is_refined(alloc: Global, state: State<'_>, row: &Row) -> Result<bool, NoMemory>
     requires { IsFeasibleState state.net state }
 {
@@ -147,7 +147,8 @@ fn solves_an_assignment(rt: HostRuntime) -> Result<(), Fail> {
     Ok(())
 }
 
-// Whether a refinement begins with price 0 of the first node and this reduced cost of the first arc.
+// Whether a refinement begins with price 0 of the first node and this reduced cost of the first
+// arc.
 fn begins_with(refine: &Refine<'_>, reduced: i128) -> bool {
     let net = refine.state().net();
     if net.node_count() < 1 || net.arc_count() < 1 {
@@ -168,8 +169,8 @@ fn first_price(refine: &Refine<'_>) -> Option<i128> {
     Some(refine.price(NodeId::new(1)))
 }
 
-// Whether the refinement of a state begins with this reduced cost of the first arc, and hands over, where it is done, a
-// state of this cost and the price of the first node that was told before.
+// Whether the refinement of a state begins with this reduced cost of the first arc, and hands over,
+// where it is done, a state of this cost and the price of the first node that was told before.
 fn hands_over(alloc: Global, state: State<'_>, reduced: i128, cost: i128) -> Result<bool, NoMemory>
     requires { IsFeasibleState state.net state }
 {
@@ -197,8 +198,8 @@ fn hands_over_text(
     }
 }
 
-// Texts, the first arc's reduced cost at prices 0, which is its cost times one more than there are nodes, and the cost of a
-// least flow.
+// Texts, the first arc's reduced cost at prices 0, which is its cost times one more than there are
+// nodes, and the cost of a least flow.
 static PARTS: [(&[u8], i128, i128); 2] = [(SAMPLE, 10, 14), (CIRCULATION, 0, -5)];
 
 #[test]

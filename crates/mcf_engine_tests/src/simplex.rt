@@ -2,15 +2,14 @@
 ghost use Rattle.std.specs.Prelude.{⊤};
 ghost use Rattle.mcf_basis.specs.Pivots.{IsEligible};
 
-use crate::assignments::multiples;
 use crate::fixtures::{
     AMONG_MANY, CIRCULATION, COSTED, Costed, EVEN, GREAT, SAMPLE, SIDE_BY_SIDE, finds, finds_all,
 };
-use crate::networks::net_of;
 use mcf_basis::Basis;
+use mcf_cancel::{Engine, Outcome};
 use mcf_network::State;
-use mcf_prices::{Engine, Outcome};
-use mcf_simplex::{Best, Block, First, Pricing, Simplex, Step, Wide, runs_are_tree_solutions};
+use mcf_simplex::{Best, Block, First, PivotStep, Pricing, Simplex, Wide, runs_are_tree_solutions};
+use mcf_test_nets::{multiples, net_of};
 use mcf_text::{ArcId, NoMemory, NodeId};
 use std::alloc::Global;
 use std::test::Fail;
@@ -52,10 +51,12 @@ impl<P: Pricing> Pricing for Counted<P> {
     }
 }
 
-// A text, which arcs a rule picks on its net, one after another, and how much each pivot moves, or none where it is still.
+// A text, which arcs a rule picks on its net, one after another, and how much each pivot moves, or
+// none where it is still.
 type Row = (&'static [u8], &'static [(u32, Option<i128>)]);
 
-// As the rule picks that takes the least number. The first pivot on the net without supplies moves nothing.
+// As the rule picks that takes the least number. The first pivot on the net without supplies moves
+// nothing.
 static FROM_THE_FIRST: [Row; 3] = [
     (SIDE_BY_SIDE, &[(1, Some(2)), (2, Some(1))]),
     (CIRCULATION, &[(4, None), (3, Some(5))]),
@@ -73,8 +74,8 @@ fn moved_by(basis: &mut Basis<'_>, k: ArcId) -> Option<i128>
     requires { IsEligible basis.old k }
 {
     match basis.pivot(k) {
-        Step::Moved(amount) => Some(amount),
-        Step::Still => None,
+        PivotStep::Moved(amount) => Some(amount),
+        PivotStep::Still => None,
     }
 }
 
@@ -127,7 +128,8 @@ fn each_is_driven(alloc: Global) -> Result<bool, NoMemory> {
     Ok(first && best && block && wide && greatest)
 }
 
-// Blocks of one, stretches of one and the rule that takes the most violated pick the cheaper arc; a rule of the test's own may turn back.
+// Blocks of one, stretches of one and the rule that takes the most violated pick the cheaper arc; a
+// rule of the test's own may turn back.
 #[test]
 fn each_rule_picks_its_arcs(rt: HostRuntime) -> Result<(), Fail> {
     assert!(rt; each_is_driven(rt.alloc())?);
@@ -196,7 +198,8 @@ fn starts_with_artificial_arcs(rt: HostRuntime) -> Result<(), Fail> {
 
 // ---- the engine
 
-/// Whether the simplex finds what rows have, under three rules, with blocks of three sizes, and under one of the test's own.
+/// Whether the simplex finds what rows have, under three rules, with blocks of three sizes, and
+/// under one of the test's own.
 pub fn finds_by_each(alloc: Global, rows: &[Costed]) -> Result<bool, NoMemory> {
     let first = finds_all(alloc, &mut Simplex::new(First), rows)?;
     let best = finds_all(alloc, &mut Simplex::new(Best), rows)?;
@@ -252,8 +255,8 @@ fn pivots_by_hand<P: Pricing>(rule: &mut P, basis: &mut Basis<'_>) -> u32 {
     pivots
 }
 
-// Whether an engine asks a rule, on the net of a text, once more than the same rule pivots when it is driven by hand, and
-// there is a pivot exactly where the row has one.
+// Whether an engine asks a rule, on the net of a text, once more than the same rule pivots when it
+// is driven by hand, and there is a pivot exactly if the row has one.
 fn asks_once_more<P: Pricing + Drop>(
     alloc: Global,
     engine: &mut Simplex<Counted<P>>,

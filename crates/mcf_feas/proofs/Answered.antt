@@ -5,10 +5,9 @@ use Rattle.mcf_flows.specs.Flow.{IsFeasible}
 use Rattle.mcf_flows.specs.Network.{Network}
 use Rattle.mcf_flows.proofs.Hoffman.{blocked_has_no_flow_lem}
 use Rattle.mcf_network.specs.Nets.{IsNet}
-use Rattle.mcf_network.specs.States.{Pseudoflow}
+use Rattle.mcf_network.specs.States.{IsFeasibleState, Pseudoflow}
 use Rattle.mcf_feas.specs.declared.feas.Feas.TheVariants.{Flow as WithFlow, Blocked}
 use Rattle.mcf_network.proofs.StuckLaws.{feasible_of_state}
-use Rattle.mcf_feas.specs.Feasible.{IsFeasibleState}
 use Rattle.mcf_feas.specs.Exactness.{AnswersAreExact, BlockedHasNoState}
 
 -- a state without surplus is a feasible flow of its net

@@ -11,7 +11,6 @@ pub use Rattle.mcf_network.specs.Residual
 pub use Rattle.mcf_network.specs.States
 pub use Rattle.mcf_network.specs.Stuck
 pub use Rattle.mcf_network.specs.Walks
-pub mod Chosen
 pub mod Exactness
 pub mod Feasible
 pub mod Private

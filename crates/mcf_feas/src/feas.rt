@@ -5,14 +5,13 @@ ghost use Rattle.mcf_flows.specs.Blocking.{in_table};
 ghost use Rattle.mcf_flows.specs.Network.{IsNode, node_count};
 ghost use Rattle.mcf_network.specs.States.{IsPseudoflow, surplus_at};
 ghost use Rattle.mcf_network.specs.Stuck.{IsStuck};
-ghost use Rattle.mcf_feas.specs.Chosen.{supply_total};
+ghost use Rattle.mcf_network.specs.Chosen.{supply_total};
 ghost use Rattle.mcf_feas.specs.Feasible.{IsFeas};
 
 use crate::path_search::PathSearch;
 use crate::preflow::round;
-use crate::supplies::unbalanced;
 use mcf_flows::Side;
-use mcf_network::{Net, NodeSet, State};
+use mcf_network::{Net, NodeSet, State, unbalanced};
 use mcf_text::{NoMemory, NodeId, copies};
 use std::alloc::Global;
 use std::collections::VecDeque;
@@ -28,19 +27,20 @@ pub enum Feas<'n> {
 
 /// A feasible flow of a net, or a node set that shows that there is none.
 ///
-/// Where the supplies do not add up to 0, the set is all nodes, and the side is `Take` exactly where they add
-/// up to less than 0. Where they add up to 0, the set blocks by `Send`.
+/// If the supplies don't sum to 0, the set is all nodes, and the side is `Take` exactly if their
+/// sum is below 0. If they sum to 0, the set blocks by `Send`.
 ///
-/// It pushes surplus down the levels of the nodes, first in, first out (Goldberg and Tarjan; Ahuja, Magnanti
-/// and Orlin, Network Flows, section 7.7), in rounds. A level is at most how far a node is from the nodes that take;
-/// where these are near it is found for three quarters of the nodes with a surplus, and the others are relabelled as they
-/// are visited. After each round a breadth-first search from the nodes with a surplus shows that none is left, or
-/// that none can leave the nodes reached, or finds an augmenting path (chapter 6). The time of a round is mostly
-/// linear in the nodes and arcs, and so is the memory.
+/// It pushes surplus down the levels of the nodes, first in, first out (Goldberg and Tarjan; Ahuja,
+/// Magnanti and Orlin, Network Flows, section 7.7), in rounds. A level is at most the distance of a
+/// node from the nodes that take; if these are near, the search stops when three quarters of the
+/// nodes with a surplus have a level, and the others are relabelled when they are visited. After
+/// each round a breadth-first search from the nodes with a surplus shows that none is left, or that
+/// none can leave the nodes it reached, or finds an augmenting path (chapter 6). The time of a
+/// round is mostly linear in the nodes and arcs, and so is the memory.
 ///
 /// # Errors
 ///
-/// Want of memory, where a growth was refused; a net without nodes wants none.
+/// `NoMemory` if an allocation is refused; a net without nodes needs none.
 pub fn feasible<'n>(alloc: Global, net: &'n Net) -> Result<Feas<'n>, NoMemory>
     ensures answer { IfOk result (IsFeas net.now) }
     ensures wants { OnErr result (1 ≤ node_count net.now) }
@@ -51,7 +51,7 @@ pub fn feasible<'n>(alloc: Global, net: &'n Net) -> Result<Feas<'n>, NoMemory>
     }
 }
 
-// What shows whether a net has a feasible flow, where its supplies add up to 0.
+// Decides whether a net whose supplies sum to 0 has a feasible flow, with what shows it.
 fn push_balanced<'n>(alloc: Global, net: &'n Net) -> Result<Feas<'n>, NoMemory>
     requires { supply_total net.now ≡ pos 0 }
     ensures answer { IfOk result (IsFeas net.now) }
@@ -67,7 +67,8 @@ fn push_balanced<'n>(alloc: Global, net: &'n Net) -> Result<Feas<'n>, NoMemory>
     Ok(Feas::Blocked(search.into_reached(), Side::Send))
 }
 
-// The tables of the pushes, which every round uses again: the level of each node, and the nodes that wait.
+// The tables of the pushes, which every round reuses: the level of each node, and the queue of
+// active nodes.
 fn tables(alloc: Global, net: &Net) -> Result<(Vec<u32>, VecDeque<NodeId>), NoMemory>
     ensures levels { IfOk result (λ made. length made.0.items ≡ node_count net.now) }
     ensures wants { OnErr result (1 ≤ node_count net.now) }
@@ -78,8 +79,8 @@ fn tables(alloc: Global, net: &Net) -> Result<(Vec<u32>, VecDeque<NodeId>), NoMe
     Ok((levels, queue))
 }
 
-// Pushes surplus in rounds, with a search after each and a push along the path that it finds, until a search finds no
-// path. Says whether no node has a surplus then.
+// Pushes surplus in rounds, each followed by a search and a push along the path that it finds,
+// until a search finds no path. Returns whether no node has a surplus then.
 fn push_in_rounds(
     state: &mut State<'_>,
     levels: &mut [u32],

@@ -1,19 +1,18 @@
 #![tactic(auto)]
 
-//! Whether a net has a feasible flow: a state without surplus, or a set of nodes that blocks every flow.
+//! Whether a net has a feasible flow: a state without surplus, or a set of nodes that blocks every
+//! flow.
 //!
-//! It stands on `mcf_network`. Definitions stand in `specs/`: `Chosen` says which node set is named where no
-//! flow is feasible, `Feasible` what `feasible` answers, `Exactness` what follows from such an answer,
-//! `Pushing` what pushes keep, and `Searching` what a search keeps.
+//! It builds on `mcf_network`. The definitions in `specs/`: `Feasible` says what `feasible`
+//! answers, `Exactness` what follows from such an answer, `Pushing` what pushes keep, and
+//! `Searching` what a search keeps.
 
 mod feas;
 mod laws;
 mod levels;
 mod path_search;
 mod preflow;
-mod supplies;
 mod waiting;
 
 pub use feas::{Feas, feasible};
 pub use laws::{answers_are_exact, blocked_has_no_state};
-pub use supplies::unbalanced;

@@ -1,4 +1,4 @@
-//! Instances made of arrays, with no text.
+//! Instances made of arrays instead of a text.
 ghost use Rattle.std.specs.Prelude.{◌≡◌, ◌↔◌, ◌≤◌, ◌+◌, ◌++◌, [], IfErr, IfOk, List, OnErr, length, map, neg_ℤ, pos, replicate, true, false, None, Some, is_ok, nat_le, ◌&&◌};
 ghost use Rattle.mcf_instance.specs.Arrays.{arc_of_numbers, arc_of_pair, assignment_problem, first_found, flow_problem, made_of_arrays, supply_fault};
 ghost use Rattle.mcf_flows.specs.Limits.{limits, arc_limit, node_limit};
@@ -7,12 +7,12 @@ ghost use Rattle.mcf_instance.specs.Private.ArrayStates.{HoldsArcs, IsFaultlessB
 ghost use Rattle.mcf_flows.specs.WellFormed.{IsWellFormed};
 
 use crate::reader::line::{ArcNumbers, Header, is_up_to};
-use crate::reader::state::State;
+use crate::reader::state::ReaderState;
 use mcf_flows::{ARC_LIMIT, Code, Instance, NODE_LIMIT, Problem, SUPPLY_LIMIT};
 use mcf_text::{ArcId, NoMemory, NodeId, copies};
 use std::alloc::Global;
 
-/// An arc of a flow problem in plain numbers, with nodes from 1: 32 bytes, in an order that C knows.
+/// An arc of a flow problem as plain numbers, with nodes from 1: 32 bytes, in C's layout.
 #[repr(C)]
 #[derive(Clone, Copy)]
 pub struct RawArc {
@@ -23,8 +23,8 @@ pub struct RawArc {
     pub cost: i64,
 }
 
-/// A pair of an assignment problem in plain numbers, with rows from 1 and columns from 1: 16 bytes, in an order that C
-/// knows.
+/// A pair of an assignment problem as plain numbers, with rows from 1 and columns from 1: 16 bytes,
+/// in C's layout.
 #[repr(C)]
 #[derive(Clone, Copy)]
 pub struct RawPair {
@@ -33,14 +33,15 @@ pub struct RawPair {
     pub cost: i64,
 }
 
-/// What is wrong with arrays: the first fault, where sizes come first, then supplies in order, then arcs in order.
+/// What is wrong with arrays: the first fault, sizes first, then supplies in order, then arcs in
+/// order.
 #[derive(Clone, Copy, Debug, PartialEq, Eq)]
 pub enum ArrayFault {
-    /// More than 1,000,000 nodes or 10,000,000 arcs.
+    /// There are more than 1,000,000 nodes or 10,000,000 arcs.
     Size,
     /// The supply of this node is out of range.
     Supply(NodeId),
-    /// This arc has this fault, of an arc line: `Node`, `Bound`, `Order`, `Cost`, `Side` or `Total`.
+    /// This arc has this fault of an arc line: `Node`, `Bound`, `Order`, `Cost`, `Side` or `Total`.
     Arc(ArcId, Code),
 }
 
@@ -70,7 +71,7 @@ fn numbers_of_arc(arc: RawArc) -> ArcNumbers
     }
 }
 
-// The numbers of a pair's arc.
+// The numbers of the arc of a pair.
 fn numbers_of_pair(rows: u32, pair: RawPair) -> ArcNumbers
     ensures { result ≡ numbers_of (arc_of_pair rows pair) }
 {
@@ -83,9 +84,9 @@ fn numbers_of_pair(rows: u32, pair: RawPair) -> ArcNumbers
     }
 }
 
-// Takes the arcs of a flow problem in, up to the first with a fault.
+// Takes the arcs of a flow problem, up to the first that has a fault.
 fn take_arcs(
-    state: &mut State,
+    state: &mut ReaderState,
     header: Header,
     arcs: &[RawArc],
 ) -> Result<Option<ArrayFault>, NoMemory>
@@ -105,9 +106,9 @@ fn take_arcs(
     Ok(None)
 }
 
-// Takes the pairs of an assignment problem in, up to the first with a fault.
+// Takes the pairs of an assignment problem, up to the first that has a fault.
 fn take_pairs(
-    state: &mut State,
+    state: &mut ReaderState,
     header: Header,
     rows: u32,
     pairs: &[RawPair],
@@ -127,15 +128,15 @@ fn take_pairs(
     Ok(None)
 }
 
-// Whether there may be so many nodes and arcs.
+// Whether the numbers of nodes and arcs are within the limits.
 fn sizes_fit(nodes: usize, arcs: usize) -> bool
     ensures { result ≡ (nat_le nodes node_limit && nat_le arcs arc_limit) }
 {
     nodes <= NODE_LIMIT as usize && arcs <= ARC_LIMIT as usize
 }
 
-// The instance of a state that all arcs were taken into, or their first fault.
-fn made(state: State, fault: Option<ArrayFault>) -> Result<Instance, ArrayFault>
+// The instance of a state that has taken all arcs, or the first fault.
+fn made(state: ReaderState, fault: Option<ArrayFault>) -> Result<Instance, ArrayFault>
     ensures exact { (g : Network) → IsFaultlessBefore g → TookArcs g fault state → result ≡ made_of_arrays limits g }
     ensures sound { IfOk result (IsWellFormed limits) }
 {
@@ -148,8 +149,9 @@ fn made(state: State, fault: Option<ArrayFault>) -> Result<Instance, ArrayFault>
 /// The flow problem of these supplies, by node, and of these arcs, in order; or the first fault.
 ///
 /// # Errors
-/// `NoMemory` where there is no memory for them; a problem without nodes wants none, nor one with a fault of its sizes or
-/// of a supply.
+///
+/// `NoMemory` if an allocation is refused; a problem without nodes needs no memory, nor does one
+/// whose sizes or supplies have a fault.
 pub fn flow_problem(
     alloc: Global,
     supplies: &[i64],
@@ -191,12 +193,12 @@ fn made_of_supplies(
     let mut kept = Vec::new(alloc);
     kept.extend_from_slice(supplies)?;
     let listed = copies(alloc, supplies.len(), false)?;
-    let mut state = State::of_nodes(alloc, header, listed, kept);
+    let mut state = ReaderState::of_nodes(alloc, header, listed, kept);
     let fault = take_arcs(&mut state, header, arcs)?;
     Ok(made(state, fault))
 }
 
-// As many copies of one value as there are rows, and then of another as there are columns.
+// A list of one value for each row, then another value for each column.
 fn by_side<T: Copy + Drop>(
     alloc: Global,
     rows: usize,
@@ -213,12 +215,14 @@ fn by_side<T: Copy + Drop>(
     Ok(made)
 }
 
-/// The assignment problem of so many rows and columns, and of the pairs that may be assigned, in order; or the first
-/// fault. Its nodes are the rows and then the columns: the arc of a pair goes from its row, and one that isn't of these
-/// rows and columns has the fault `Node` or `Side`.
+/// The assignment problem of this many rows and columns, and of the pairs that may be assigned, in
+/// order; or the first fault. Its nodes are the rows and then the columns: the arc of a pair leaves
+/// its row, and a pair outside these rows and columns has the fault `Node` or `Side`.
 ///
 /// # Errors
-/// `NoMemory` where there is no memory for them; a problem without rows and columns wants none, nor one beyond the sizes.
+///
+/// `NoMemory` if an allocation is refused; a problem without rows and columns needs no memory, nor
+/// does one beyond the sizes.
 pub fn assignment_problem(
     alloc: Global,
     rows: u32,
@@ -233,7 +237,7 @@ pub fn assignment_problem(
     made_of_sides(alloc, rows, columns, pairs)
 }
 
-// The assignment problem of so many rows and columns and of these pairs, or the first fault.
+// The assignment problem of this many rows and columns and of these pairs, or the first fault.
 fn made_of_sides(
     alloc: Global,
     rows: u32,
@@ -256,7 +260,7 @@ fn made_of_sides(
     };
     let listed = by_side(alloc, rows as usize, columns as usize, true, false)?;
     let supplies = by_side(alloc, rows as usize, columns as usize, 1i64, -1i64)?;
-    let mut state = State::of_nodes(alloc, header, listed, supplies);
+    let mut state = ReaderState::of_nodes(alloc, header, listed, supplies);
     let fault = take_pairs(&mut state, header, rows, pairs)?;
     Ok(made(state, fault))
 }

@@ -12,7 +12,7 @@ mod plain;
 pub(crate) mod state;
 
 use crate::reader::lines::{read_line, take_arcs};
-use crate::reader::state::State;
+use crate::reader::state::ReaderState;
 use mcf_flows::{Instance, Refusal};
 use mcf_text::{NoMemory, split_line};
 pub use pieces::Reader;
@@ -20,19 +20,20 @@ use std::alloc::Global;
 
 /// The instance that a text stands for, or its first fault.
 ///
-/// The text is in the extended DIMACS format: a line `p min NODES ARCS` or `p asn NODES ARCS`, then node
-/// lines, then arc lines, with comments and blank lines anywhere. It is read once, from the front; what
-/// follows the first faulty line is never looked at. Memory is taken for the nodes that the problem line
-/// names and for the arcs that come, and not for those that it names.
+/// The text is in the extended DIMACS format: a line `p min NODES ARCS` or `p asn NODES ARCS`, then
+/// node lines, then arc lines, with comments and blank lines anywhere. It is read once, from the
+/// front, up to the first faulty line. Memory is allocated for the nodes that the problem line
+/// names and for the arcs that follow, but not for the number of arcs that it names.
 ///
 /// # Errors
-/// `NoMemory` where there is no memory for them; a text whose first problem line isn't good, names no nodes
-/// or comes after a fault wants none.
+///
+/// `NoMemory` if an allocation is refused; a text needs none if its first problem line isn't valid,
+/// names no nodes or follows a fault.
 pub fn read(alloc: Global, text: &[u8]) -> Result<Result<Instance, Refusal>, NoMemory>
     ensures exact { IfOk result (λ outcome. outcome ≡ reading limits text.now) }
     ensures wants { OnErr result (NamesNodes limits text.now) }
 {
-    let mut state = State::new(alloc);
+    let mut state = ReaderState::new(alloc);
     let mut rest = text;
     let mut next = 1u128;
     'lines: while let Some(parts) = split_line(rest) {

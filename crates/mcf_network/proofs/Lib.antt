@@ -1,5 +1,6 @@
 pub mod AmountLaws
 pub mod ArcLaws
+pub mod Choices
 pub mod Lists
 pub mod Marks
 pub mod OutsLaws
@@ -9,5 +10,7 @@ pub mod StarLaws
 pub mod StateLaws
 pub mod StoredLaws
 pub mod StuckLaws
+pub mod Totals
 pub mod TreeLaws
 pub mod WalkLaws
+pub mod Wholes

@@ -4,6 +4,7 @@ pub use Rattle.mcf_flows.specs.Flow
 pub use Rattle.mcf_flows.specs.Limits
 pub use Rattle.mcf_flows.specs.Network
 pub use Rattle.mcf_flows.specs.WellFormed
+pub mod Chosen
 pub mod Laws
 pub mod Nets
 pub mod NodeSets

@@ -21,7 +21,8 @@ pub record IsPseudoflow (s : Pseudoflow) : Type 0 where
 abbrev pub amount_at : Pseudoflow → ℕ → ℤ
 amount_at s k = slice_index_or s.amounts (k - 1) (pos 0)
 
--- the surplus, or excess, of node v: what it has left to send, its supply less the net of the amounts
+-- the surplus, or excess, of node v: what it has left to send, its supply less the net of the
+-- amounts
 abbrev pub surplus_at : Pseudoflow → ℕ → ℤ
 surplus_at s v = at_node s.net.supplies v -ℤ net s.net.arcs s.amounts v
 
@@ -51,3 +52,9 @@ pub record KeepsSurplus (s : Pseudoflow) (surpluses : List ℤ) : Type 0 where
   pub flow : IsPseudoflow s
   pub count : length surpluses ≡ node_count s.net
   pub each : (v : ℕ) → IsNode (node_count s.net) v → at_node surpluses v ≡ surplus_at s v
+
+-- a state of the net in which no node has anything left to send or to take
+pub record IsFeasibleState (g : Network) (s : Pseudoflow) : Type 0 where
+  pub of_net : s.net ≡ g
+  pub flow : IsPseudoflow s
+  pub no_surplus : HasNoSurplus s

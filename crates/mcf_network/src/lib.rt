@@ -2,12 +2,13 @@
 
 //! Nets, which are networks without lower bounds, and the residual states of flows on them.
 //!
-//! It stands on `mcf_flows`, and speaks of a net as of an instance: a network whose lows are 0 and
-//! whose caps are the widths. Definitions stand in `specs/`: `Nets` says what every net keeps, `Residual`
-//! and `Stars` what leaves a node, `Stored` how a net is kept, `States` and `Walks` what a push does, `NodeSets` and `Stuck` what a
-//! search reaches, `TreeSolutions` which flows have no cycle of free arcs, `Removal` and `Restoring` how the
-//! net of an instance is made and how its states stand for flows of the instance, and `Laws` what carries
-//! over from one to the other.
+//! It builds on `mcf_flows`, and treats a net as a network whose lower bounds are 0 and whose
+//! capacities are the widths. The definitions in `specs/`: `Nets` says what every net satisfies,
+//! `Residual` and `Stars` what leaves a node, `Stored` how a net is stored, `States` and `Walks`
+//! what a push does, `NodeSets` and `Stuck` what a search reaches, `Chosen` which
+//! node set is named if no flow is feasible, `TreeSolutions` which flows have
+//! no cycle of free arcs, `Removal` and `Restoring` how the net of an instance is made and which
+//! flows of the instance its states stand for, and `Laws` what carries over from one to the other.
 
 mod amounts;
 mod laws;
@@ -20,6 +21,7 @@ mod restoring;
 mod rid;
 mod star;
 mod state;
+mod supplies;
 mod surplus;
 mod walk;
 mod widths;
@@ -35,4 +37,5 @@ pub use node_set::NodeSet;
 pub use restoring::{restore, restored_amount};
 pub use rid::Rid;
 pub use state::State;
+pub use supplies::unbalanced;
 pub use walk::{push_along, room_along};

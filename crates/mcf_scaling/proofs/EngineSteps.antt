@@ -4,8 +4,7 @@ use Rattle.std.specs.Prelude.{◌<ℤ◌}
 use Rattle.std.proofs.lemmas.Int.{ints}
 use Rattle.mcf_flows.specs.Network.{Network, IsNode, node_count}
 use Rattle.mcf_network.specs.declared.rid.Rid.{Rid}
-use Rattle.mcf_network.specs.States.{Pseudoflow, surplus_at}
-use Rattle.mcf_feas.specs.Feasible.{IsFeasibleState}
+use Rattle.mcf_network.specs.States.{IsFeasibleState, Pseudoflow, surplus_at}
 use Rattle.mcf_engine.specs.Outcomes.{AreStatePrices, IsLeastState}
 use Rattle.mcf_engine.proofs.StatePrices.{least_from_prices}
 use Rattle.mcf_scaling.specs.Made.{IsScaled}

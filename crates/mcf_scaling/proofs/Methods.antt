@@ -10,9 +10,8 @@ use Rattle.mcf_flows.specs.Network.{Network, IsArcNumber, IsNode, at_node, node_
 use Rattle.mcf_network.specs.declared.rid.Rid.{Rid}
 use Rattle.mcf_flows.specs.WellFormed.{IsUpTo}
 use Rattle.mcf_flows.proofs.Bounds.{mul_up_to}
-use Rattle.mcf_feas.specs.Feasible.{IsFeasibleState}
+use Rattle.mcf_network.specs.States.{IsFeasibleState, IsPseudoflow, Pseudoflow, amount_at, pushed, room_of, surplus_at}
 use Rattle.mcf_network.specs.Residual.{no_arc, arc_at, head, tail, unit_cost}
-use Rattle.mcf_network.specs.States.{Pseudoflow, IsPseudoflow, amount_at, pushed, room_of, surplus_at}
 use Rattle.mcf_network.specs.Walks.{HasRoom}
 use Rattle.mcf_network.proofs.ArcLaws.{amount_of, head_is_node, tail_is_node}
 use Rattle.mcf_network.proofs.StateLaws.{rid}

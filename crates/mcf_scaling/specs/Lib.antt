@@ -1,5 +1,4 @@
-pub use Rattle.mcf_feas.specs.Chosen
-pub use Rattle.mcf_feas.specs.Feasible
+pub use Rattle.mcf_network.specs.Chosen
 pub use Rattle.mcf_flows.specs.Blocking
 pub use Rattle.mcf_flows.specs.Flow
 pub use Rattle.mcf_flows.specs.Network

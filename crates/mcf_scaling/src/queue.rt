@@ -1,4 +1,4 @@
-//! Nodes that wait, first in, first out.
+//! A queue of active nodes, first in, first out.
 ghost use Rattle.std.specs.Prelude.{◌≡◌, ◌∷◌, ◌≤◌, ◌<ℤ◌, [], ℕ, List, IfNone, IfOk, IfSome, OnErr, length, pos};
 ghost use Rattle.mcf_flows.specs.Network.{IsNode, node_count};
 ghost use Rattle.std.specs.List.{Contains};
@@ -11,14 +11,14 @@ use std::alloc::Global;
 use std::collections::VecDeque;
 use std::marker::Model;
 
-/// Nodes of a net that wait, each once, in room made beforehand for all of them.
+/// Queued nodes of a net, each once, with space for all nodes.
 #[derive(Drop)]
-pub(crate) struct Queue {
+pub(crate) struct ActiveQueue {
     marks: Vec<bool>,
     nodes: VecDeque<NodeId>,
 }
 
-impl Model for Queue {
+impl Model for ActiveQueue {
     ghost use Rattle.std.specs.Prelude.{◌≤◌, length};
     ghost use Rattle.std.specs.VecDeque.{deque_capacity};
     ghost use Rattle.mcf_scaling.specs.Private.Queues.{IsQueue, Waiting};
@@ -30,20 +30,20 @@ impl Model for Queue {
     ghost invariant = { λ q. IsQueue (record { table = q.marks.items; nodes = q.nodes.items }) × (length q.marks.items ≤ deque_capacity q.nodes) };
 }
 
-impl Queue {
-    /// The queue in which no node of a net waits.
-    pub(crate) fn new(alloc: Global, net: &Net) -> Result<Queue, NoMemory>
+impl ActiveQueue {
+    /// The queue without any node of a net.
+    pub(crate) fn new(alloc: Global, net: &Net) -> Result<ActiveQueue, NoMemory>
         ensures value { IfOk result (λ q. q ≡ no_queue (node_count net.now)) }
         ensures wants { OnErr result (1 ≤ node_count net.now) }
     {
         let nodes = net.node_count() as usize;
-        Ok(Queue {
+        Ok(ActiveQueue {
             marks: copies(alloc, nodes, false)?,
             nodes: VecDeque::with_capacity(alloc, nodes)?,
         })
     }
 
-    /// Puts a node at the end, if it doesn't wait already.
+    /// Queues a node, unless it is queued already.
     pub(crate) fn insert(&mut self, v: NodeId)
         requires { IsNode (length self.old.table) v }
         ensures value { self.new ≡ queued self.old v }
@@ -56,7 +56,7 @@ impl Queue {
         }
     }
 
-    /// The first node, if one waits.
+    /// The first node in the queue, if any.
     pub(crate) fn front(&self) -> Option<NodeId>
         ensures some { IfSome result (λ v. (rest : List ℕ) × (self.now.nodes ≡ v ∷ rest)) }
         ensures none { IfNone result (self.now.nodes ≡ []) }
@@ -66,7 +66,7 @@ impl Queue {
         Some(*first)
     }
 
-    /// Takes the first node off, if one waits, and says which it was.
+    /// Removes and returns the first node, if any.
     pub(crate) fn pop(&mut self) -> Option<NodeId>
         ensures some { IfSome result (IsPopped self.old self.new) }
         ensures none { IfNone result (self.new ≡ self.old) }
@@ -79,8 +79,8 @@ impl Queue {
     }
 }
 
-/// Puts a node into the queue, if it has a surplus.
-pub(crate) fn enqueue(state: &State<'_>, queue: &mut Queue, v: NodeId)
+/// Queues a node, if it has a surplus.
+pub(crate) fn enqueue(state: &State<'_>, queue: &mut ActiveQueue, v: NodeId)
     requires node { IsNode (node_count state.now.net) v }
     requires size { length queue.old.table ≡ node_count state.now.net }
     requires valid { IsQueue queue.old }
@@ -94,8 +94,8 @@ pub(crate) fn enqueue(state: &State<'_>, queue: &mut Queue, v: NodeId)
     }
 }
 
-/// Puts each node with a surplus into the queue.
-pub(crate) fn enqueue_all(state: &State<'_>, queue: &mut Queue)
+/// Queues each node with a surplus.
+pub(crate) fn enqueue_all(state: &State<'_>, queue: &mut ActiveQueue)
     requires size { length queue.old.table ≡ node_count state.now.net }
     requires valid { IsQueue queue.old }
     ensures { HoldsActive state.now queue.new }
@@ -105,8 +105,8 @@ pub(crate) fn enqueue_all(state: &State<'_>, queue: &mut Queue)
     }
 }
 
-/// Takes nodes without a surplus off, until the first has one.
-pub(crate) fn tidy(state: &State<'_>, queue: &mut Queue)
+/// Removes nodes without a surplus from the front, until the first one has a surplus.
+pub(crate) fn tidy(state: &State<'_>, queue: &mut ActiveQueue)
     requires { HoldsActive state.now queue.old }
     ensures { IsQueueOf state.now queue.new }
 {

@@ -1,13 +1,13 @@
-//! Refining a state, phase by phase (Goldberg and Tarjan; Ahuja, Magnanti and Orlin, Network Flows, section 10.3).
+//! Refinement of a state, phase by phase (Goldberg and Tarjan; Ahuja, Magnanti and Orlin, Network
+//! Flows, section 10.3).
 ghost use Rattle.std.specs.Prelude.{◌≡◌, ◌<ℤ◌, ◌↔◌, ◌*◌, ◌^◌, ◌≤◌, ◌≤ℤ◌, ◌+ℤ◌, ◌-◌, ℕ, ℤ, length, slice_set, IfNone, IfOk, IfSome, IsTrue, OnErr, pos};
 ghost use Rattle.std.specs.Bool.{OnFalse, OnTrue};
 ghost use Rattle.std.specs.Int.{int_min};
-ghost use Rattle.mcf_feas.specs.Feasible.{IsFeasibleState};
+ghost use Rattle.mcf_network.specs.States.{IsFeasibleState, IsPseudoflow, pushed, room_of, surplus_at};
 ghost use Rattle.mcf_flows.specs.Network.{IsArcNumber, IsNode, at_node, node_count};
 ghost use Rattle.mcf_flows.specs.WellFormed.{IsUpTo};
 ghost use Rattle.mcf_network.specs.declared.rid.Rid.{Rid};
 ghost use Rattle.mcf_network.specs.Residual.{tail};
-ghost use Rattle.mcf_network.specs.States.{IsPseudoflow, pushed, room_of, surplus_at};
 ghost use Rattle.mcf_scaling.specs.Optimality.{AreSmallPrices, IsAdmissible, IsLeastReduced, rise_reach};
 ghost use Rattle.mcf_network.specs.Walks.{HasRoom};
 ghost use Rattle.mcf_scaling.specs.Private.CurrentArcs.{AreFirsts};
@@ -21,7 +21,7 @@ use crate::current_arcs::{all_firsts, next_admissible};
 use crate::filling::fill;
 use crate::marks::{mark, mark_all};
 use crate::pricing::{least_reduced, reduced_cost};
-use crate::queue::{Queue, enqueue, enqueue_all, tidy};
+use crate::queue::{ActiveQueue, enqueue, enqueue_all, tidy};
 use crate::scale::{first_scale, power};
 use crate::star::ForwardStar;
 use crate::steps::Steps;
@@ -32,30 +32,31 @@ use std::marker::Model;
 
 /// A state that is refined phase by phase, by pushes and relabels, until it is least.
 ///
-/// All costs are taken times the count of nodes plus 1. A residual arc with room and negative reduced cost is
-/// admissible, and a node of surplus above 0 is active. At each time the state is e-optimal: no residual arc with room
-/// has a reduced cost below -e, where e is a power of 2 that each phase halves. In a phase no price rises by more than
-/// 3ne, where n is the count of nodes, so no node is relabelled more than 3n times.
+/// All costs are multiplied by the number of nodes plus 1. A residual arc with room and negative
+/// reduced cost is admissible, and a node of surplus above 0 is active. The state is always
+/// e-optimal: no residual arc with room has a reduced cost below -e, where e is a power of 2 that
+/// each phase halves. In a phase no price rises by more than 3ne, where n is the number of nodes,
+/// so no node is relabelled more than 3n times.
 ///
-/// Only `start` takes memory. A clause sees the state, the prices, those at the beginning of the phase, the power
-/// of 2, and how many steps of each kind were made.
+/// Only `start` allocates. Clauses see the state, the prices, those at the beginning of the phase,
+/// the power of 2, and the number of steps of each kind.
 #[derive(Drop)]
 pub struct Refine<'n> {
     state: State<'n>,
     prices: Vec<i128>,
-    // the prices when the phase began
+    // The prices at the beginning of the phase.
     before: Vec<i128>,
-    // e is 2 to this power
+    // The exponent of e, a power of 2.
     scale: u32,
-    // the residual arcs that leave each node
+    // The residual arcs that leave each node.
     star: ForwardStar,
-    // for each position of the star whether the residual arc there has capacity
+    // For each position of the star, whether the residual arc there has capacity.
     has_capacity: Vec<bool>,
-    // for each node the position of its current arc: none of those before it is admissible
+    // For each node the position of its current arc: no earlier one is admissible.
     current_arcs: Vec<usize>,
-    // each active node, and the first is active
-    queue: Queue,
-    // the steps since the start
+    // Each active node; the first one is active.
+    queue: ActiveQueue,
+    // The steps since the start.
     steps: Steps,
 }
 
@@ -78,12 +79,13 @@ impl<'n> Model for Refine<'n> {
 }
 
 impl<'n> Refine<'n> {
-    /// The refinement of a state without surplus: prices 0, and e the least power of 2 that is at least the greatest
-    /// size of a cost times the count of nodes plus 1. That is 1 where all costs are 0.
+    /// The refinement of a state without surplus: prices 0, and e the least power of 2 that is at
+    /// least the greatest absolute value of a cost times the number of nodes plus 1. It is 1 if all
+    /// costs are 0.
     ///
     /// # Errors
     ///
-    /// Want of memory, where a growth was refused; a net without nodes wants none.
+    /// `NoMemory` if an allocation is refused; a net without nodes needs none.
     pub fn start(alloc: Global, state: State<'n>) -> Result<Refine<'n>, NoMemory>
         requires { IsFeasibleState state.net state }
         ensures value { IfOk result (IsStart state.entry) }
@@ -108,7 +110,7 @@ impl<'n> Refine<'n> {
         })
     }
 
-    /// A node of surplus above 0, if there is one: the first of those that wait.
+    /// An active node, if there is one: the first in the queue.
     pub fn active(&self) -> Option<NodeId>
         ensures some { IfSome result (IsActive self.now) }
         ensures none { IfNone result ((v : ℕ) → ¬ IsActive self.now v) }
@@ -142,8 +144,8 @@ impl<'n> Refine<'n> {
         self.prices[v.place()]
     }
 
-    /// The reduced cost of a residual arc: its cost times the count of nodes plus 1, less the price of its tail plus that
-    /// of its head.
+    /// The reduced cost of a residual arc: its cost times the number of nodes plus 1, less the
+    /// price of its tail plus that of its head.
     pub fn reduced(&self, r: Rid) -> i128
         requires { IsArcNumber self.now.flow.net r.arc }
         ensures value { result ≡ reduced self.now r }
@@ -152,8 +154,8 @@ impl<'n> Refine<'n> {
         reduced_cost(self.state.net(), &self.prices, Rid { arc, back })
     }
 
-    /// A residual arc with room and negative reduced cost that leaves a node, if there is one: the first from the node's
-    /// current arc on.
+    /// A residual arc with room and negative reduced cost that leaves a node, if there is one: the
+    /// first from the node's current arc on.
     pub fn admissible(&mut self, v: NodeId) -> Option<Rid>
         requires { IsNodeOf self.old v }
         ensures some { IfSome result (λ r. IsAdmissible self.old.flow self.old.prices r × (tail self.old.flow.net r ≡ v)) }
@@ -172,8 +174,8 @@ impl<'n> Refine<'n> {
         )
     }
 
-    /// Pushes the lesser of the surplus of its tail and its room along a residual arc with room and negative
-    /// reduced cost, from a node of surplus above 0, and says how much that is.
+    /// Pushes along a residual arc with room and negative reduced cost that leaves an active node:
+    /// the lesser of the node's surplus and the arc's room. Returns that amount.
     pub fn push(&mut self, r: Rid) -> i128
         requires admissible { IsAdmissible self.old.flow self.old.prices r }
         requires active { IsActive self.old (tail self.old.flow.net r) }
@@ -191,8 +193,9 @@ impl<'n> Refine<'n> {
         amount
     }
 
-    /// Raises the price of a node of surplus above 0 that no residual arc with room and negative reduced cost
-    /// leaves, by e and the least reduced cost of those with room that leave it, and says by how much that is.
+    /// Raises the price of an active node that no residual arc with room and negative reduced cost
+    /// leaves, by e plus the least reduced cost of those with room that leave it. Returns that
+    /// amount.
     pub fn relabel(&mut self, v: NodeId) -> i128
         requires active { IsActive self.old v }
         requires stuck { (r : Rid) → tail self.old.flow.net r ≡ v → ¬ IsAdmissible self.old.flow self.old.prices r }
@@ -215,7 +218,7 @@ impl<'n> Refine<'n> {
         rise
     }
 
-    /// Begins a phase: halves e, and fills each residual arc of negative reduced cost.
+    /// Begins a phase: halves e, and saturates each residual arc of negative reduced cost.
     pub fn begin(&mut self)
         requires scale { 1 ≤ self.old.scale }
         requires rest { (v : ℕ) → ¬ IsActive self.old v }
@@ -231,7 +234,7 @@ impl<'n> Refine<'n> {
         self.steps.begin();
     }
 
-    /// The state and the prices of its nodes, without what refines them.
+    /// The state and the prices of its nodes.
     pub fn into_parts(self) -> (State<'n>, Vec<i128>)
         ensures state { result.0 ≡ self.entry.flow }
         ensures prices { result.1.items ≡ self.entry.prices }
@@ -257,7 +260,7 @@ impl<'n> Refine<'n> {
         (state, prices, steps)
     }
 
-    /// The state, without what refines it.
+    /// The state.
     pub fn into_state(self) -> State<'n>
         ensures value { result ≡ self.entry.flow }
         ensures valid { IsPseudoflow result }
@@ -271,7 +274,7 @@ impl<'n> Refine<'n> {
 fn tables(
     alloc: Global,
     state: &State<'_>,
-) -> Result<(ForwardStar, Vec<bool>, Vec<usize>, Queue), NoMemory>
+) -> Result<(ForwardStar, Vec<bool>, Vec<usize>, ActiveQueue), NoMemory>
     ensures star { IfOk result (λ made. IsStarOf state.now.net made.0) }
     ensures positions { IfOk result (λ made. ArePositions state.now.net made.0) }
     ensures marks { IfOk result (λ made. AreCapacityMarks state.now made.0 made.1.items) }
@@ -284,11 +287,11 @@ fn tables(
     let mut has_capacity = copies(alloc, star.count(), false)?;
     mark_all(state, &star, &mut has_capacity);
     let current_arcs = all_firsts(alloc, net, &star)?;
-    let queue = Queue::new(alloc, net)?;
+    let queue = ActiveQueue::new(alloc, net)?;
     Ok((star, has_capacity, current_arcs, queue))
 }
 
-// Pushes the lesser of the surplus of its tail and its room along a residual arc.
+// Pushes the lesser of the tail's surplus and the arc's room along a residual arc.
 fn push_share(state: &mut State<'_>, arc: ArcId, back: bool) -> i128
     requires arc { IsArcNumber state.old.net arc }
     requires active { pos 0 ≤ℤ surplus_at state.old (tail state.old.net (record { arc = arc; back = back })) }
@@ -303,8 +306,8 @@ fn push_share(state: &mut State<'_>, arc: ArcId, back: bool) -> i128
     amount
 }
 
-// By how much the price of a node is raised: by e and the least reduced cost of the residual arcs with room that
-// leave it, of which there is one.
+// The amount by which the price of a node rises: e plus the least reduced cost of the residual arcs
+// with room that leave it, of which there is one.
 fn rise_of(
     state: &State<'_>,
     prices: &[i128],

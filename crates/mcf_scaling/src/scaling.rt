@@ -1,11 +1,10 @@
 //! The engine.
 ghost use Rattle.std.specs.Prelude.{◌≡◌, ◌≤◌, ◌⊎◌, ℕ, ℤ, IfNone, IfOk, IfSome, OnErr};
-ghost use Rattle.mcf_feas.specs.Feasible.{IsFeasibleState};
+ghost use Rattle.mcf_network.specs.States.{IsFeasibleState, IsPseudoflow};
 ghost use Rattle.mcf_flows.specs.Network.{node_count};
 ghost use Rattle.mcf_network.specs.declared.rid.Rid.{Rid};
 ghost use Rattle.mcf_engine.specs.Outcomes.{AreStatePrices, IfBlocked, IsLeastState, IsOutcome};
 ghost use Rattle.mcf_scaling.specs.Made.{IsScaled};
-ghost use Rattle.mcf_network.specs.States.{IsPseudoflow};
 ghost use Rattle.mcf_scaling.specs.Optimality.{AreSmallPrices, IsOptimalWithin};
 ghost use Rattle.mcf_scaling.specs.Phases.{IsDone, IsPush, IsRelabel, Run};
 ghost use Rattle.mcf_scaling.specs.Refinements.{Refinement, IsActive, IsNodeOf, IsRefinement, no_steps};
@@ -20,12 +19,13 @@ use mcf_text::{NoMemory, NodeId};
 use std::alloc::Global;
 use std::marker::Model;
 
-/// Cost scaling: a feasible flow, refined by phases until it is least (Goldberg and Tarjan; Ahuja, Magnanti and Orlin,
-/// Network Flows, section 10.3).
+/// Cost scaling: a feasible flow, refined by phases until it is least (Goldberg and Tarjan; Ahuja,
+/// Magnanti and Orlin, Network Flows, section 10.3).
 ///
-/// It takes every net. How it made a state is a relation of its contract, `IsScaled`: counted steps, as many phases as
-/// the costs and the count of nodes ask, and in none of them a price that rises by more than 3ne.
-/// A clause sees how many steps of each kind the last solve made that was answered.
+/// It takes every net. How it made a state is a relation of its contract, `IsScaled`: counted
+/// steps, as many phases as the costs and the number of nodes require, and in none of them a price
+/// that rises by more than 3ne. Clauses see the number of steps of each kind in the last solve that
+/// returned an answer.
 #[derive(Drop)]
 pub struct Scaling {
     steps: Steps,
@@ -66,8 +66,8 @@ impl Engine for Scaling {
     ///
     /// # Errors
     ///
-    /// Want of memory, where a growth was refused; a net without nodes wants none. The engine is as it was.
-    /// All memory is taken before the first phase: what runs then is handed no allocator.
+    /// `NoMemory` if an allocation is refused; a net without nodes needs none. The engine is then
+    /// unchanged. All memory is allocated before the first phase: what runs then gets no allocator.
     fn solve<'n>(&mut self, alloc: Global, net: &'n Net) -> Result<Outcome<'n>, NoMemory>
         ensures outcome { IfOk result (IsOutcome (λ s. IsScaled net.now s self.new) net.now) }
         ensures wants { OnErr result (1 ≤ node_count net.now) }
@@ -88,7 +88,8 @@ impl Engine for Scaling {
     }
 }
 
-// Refines a state without surplus: it is then least, and has prices. All memory is taken before the first phase.
+// Refines a state without surplus until it is least, and finds its prices. All memory is allocated
+// before the first phase.
 fn refine<'n>(alloc: Global, state: State<'n>) -> Result<(State<'n>, Vec<i128>, Steps), NoMemory>
     requires { IsFeasibleState state.net state }
     ensures least { IfOk result (λ found. IsLeastState state.entry.net found.0) }
@@ -101,7 +102,8 @@ fn refine<'n>(alloc: Global, state: State<'n>) -> Result<(State<'n>, Vec<i128>, 
     Ok(run_phases(refine, pricer))
 }
 
-// Takes phase by phase until e is 1, and then raises the prices to the greatest. It takes no memory.
+// Runs phase after phase until e is 1, and then raises the prices to the greatest. It allocates
+// nothing.
 fn run_phases<'n>(mut refine: Refine<'n>, pricer: Pricer) -> (State<'n>, Vec<i128>, Steps)
     requires feasible { IsFeasibleState refine.flow.net refine.flow }
     requires start { IsStart refine.flow refine }
@@ -118,7 +120,7 @@ fn run_phases<'n>(mut refine: Refine<'n>, pricer: Pricer) -> (State<'n>, Vec<i12
     priced(refine, pricer)
 }
 
-// The state of a refinement that is done, with its greatest prices.
+// The state of a finished refinement, with its greatest prices.
 fn priced<'n>(refine: Refine<'n>, mut pricer: Pricer) -> (State<'n>, Vec<i128>, Steps)
     requires done { IsDone refine }
     requires room { pricer ≡ node_count refine.flow.net }
@@ -144,8 +146,8 @@ fn raise_all(pricer: &mut Pricer, state: &State<'_>, prices: &mut Vec<i128>)
     pricer.raise(state, scale, 1, prices);
 }
 
-// Takes steps until no node is active: depth first, from the node to which the last push led where that is active,
-// else from the first of the queue.
+// Takes steps until no node is active: depth first, from the node to which the last push led if
+// that is active, otherwise from the first of the queue.
 fn discharge_all(refine: &mut Refine<'_>)
     requires valid { IsRefinement refine.old }
     ensures run { (a : Refinement) (k : ℕ) → Run a refine.old k → Run a refine.new k }
@@ -159,7 +161,8 @@ fn discharge_all(refine: &mut Refine<'_>)
     }
 }
 
-// Pushes from an active node, or raises its price, and says which active node is next, if there is one.
+// Pushes from an active node, or raises its price, and returns the next active node, if there is
+// one.
 fn step(refine: &mut Refine<'_>, v: NodeId) -> Option<NodeId>
     requires { IsActive refine.old v }
     ensures step { ((r : Rid) × IsPush refine.old refine.new r) ⊎ ((rise : ℤ) × IsRelabel refine.old refine.new v rise) }
@@ -183,7 +186,7 @@ fn step(refine: &mut Refine<'_>, v: NodeId) -> Option<NodeId>
     }
 }
 
-// A node if it is active, else another that is, if there is one.
+// A node if it is active, otherwise another active node, if there is one.
 fn next_active(refine: &Refine<'_>, v: NodeId) -> Option<NodeId>
     requires { IsNodeOf refine.now v }
     ensures some { IfSome result (IsActive refine.now) }

@@ -4,3 +4,4 @@ pub mod Rounds
 pub mod RunLaws
 pub mod Running
 pub mod Turns
+pub mod Pieces

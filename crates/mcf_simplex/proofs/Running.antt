@@ -1,5 +1,5 @@
 -- What the loop keeps: so many pivots lead here, and each lowered the rank by one at least.
-use Rattle.std.proofs.Common.{◌≡◌, ℕ, ◌+◌, ◌<◌, refl, ◌∙◌, arith, Option, Some, None, ℤ, pos, ◌+ℤ◌, ◌≤ℤ◌}
+use Rattle.std.proofs.Common.{◌≡◌, ℕ, ◌+◌, ◌<◌, ◌≤◌, refl, ◌∙◌, arith, Option, Some, None, ℤ, pos, ◌+ℤ◌, ◌≤ℤ◌}
 use Rattle.std.proofs.lemmas.Int.{ints}
 use Rattle.mcf_basis.specs.Bases.{IsBasis}
 use Rattle.mcf_basis.specs.Pivots.{IsPivot, PairFalls}
@@ -53,3 +53,46 @@ module _ {R : Type 0} (Picks : R → TreeStructure → Option ℕ → R → Type
 -- the measure of the loop
 pub measure_falls : (c d : TreeStructure) (k : ℕ) (moved : ℤ) → IsBasis c → IsBasis d → IsPivot c k moved d → PairFalls c d → rank_above d < rank_above c
 measure_falls c d k moved old new pivot falls = ranks_count_down_lem c d old new pivot.net falls
+
+-- so many pivots lead here, to a basis of the same net
+pub record IsMovedOn {R : Type 0} (Picks : R → TreeStructure → Option ℕ → R → Type 0) (r : R) (b : TreeStructure) (s : R) (c : TreeStructure) (pivots : ℕ) : Type 0 where
+  pub reached : Reached Picks r b s c pivots
+  pub basis : IsBasis c
+  pub net : c.net ≡ b.net
+
+module _ {R : Type 0} (Picks : R → TreeStructure → Option ℕ → R → Type 0) (r : R) (b : TreeStructure) where
+  pub moved_on_start : IsBasis b → IsMovedOn Picks r b r b 0
+  moved_on_start ok = record { reached = start; basis = ok; net = refl }
+
+  pub moved_on_next : (s t : R) (c d : TreeStructure) (pivots k : ℕ) (moved : ℤ) → IsMovedOn Picks r b s c pivots → Picks s c (Some k) t
+      → IsPivot c k moved d → PairFalls c d → IsBasis d → IsMovedOn Picks r b t d (pivots + 1)
+  moved_on_next s t c d pivots k moved w picks pivot falls ok =
+      record { reached = next w.reached picks pivot falls ok; basis = ok; net = pivot.net ∙ w.net }
+
+  -- a run that goes on
+  pub under_way_more : (s : R) (c : TreeStructure) → IsUnderWay Picks r b s c → (t : R) (d : TreeStructure) (pivots : ℕ) → Reached Picks s c t d pivots
+      → IsUnderWay Picks r b t d
+  under_way_more from x w _ _ _ start = w
+  under_way_more from x w _ _ _ (next {s} {t} {c} {d} {pivots} {k} {moved} before picks pivot falls ok) =
+      under_way_next Picks r b s t c d k moved (under_way_more from x w s c pivots before) picks pivot falls ok
+
+-- what so many pivots change
+pub record IsFurther (c d : TreeStructure) (pivots : ℕ) : Type 0 where
+  pub basis : IsBasis d
+  pub counted : d.pivots ≡ c.pivots + pivots
+  pub fallen : (rank_above d + pivots) ≤ rank_above c
+
+pub reached_further : {R : Type 0} (Picks : R → TreeStructure → Option ℕ → R → Type 0) (s : R) (c : TreeStructure) → IsBasis c
+    → (t : R) (d : TreeStructure) (pivots : ℕ) → Reached Picks s c t d pivots → IsFurther c d pivots
+reached_further Picks from x ok _ _ _ start = record { basis = ok; counted = omega arith; fallen = omega arith }
+reached_further Picks from x ok _ _ _ (next {s} {t} {c} {d} {pivots} {k} {moved} before picks pivot falls good) =
+    let so = reached_further Picks from x ok s c pivots before in
+    let counted = so.counted in
+    let fallen = so.fallen in
+    let one_more = pivot.pivots in
+    let less = measure_falls c d k moved so.basis good pivot falls in
+    record {
+      basis = good;
+      counted = omega (arith, counted, one_more);
+      fallen = omega (arith, fallen, less);
+    }

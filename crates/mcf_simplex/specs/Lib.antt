@@ -11,6 +11,7 @@ pub use Rattle.mcf_engine.specs.Outcomes
 pub mod Picking
 pub mod Blocks
 pub mod Stretches
+pub mod Following
 pub mod Runs
 pub mod Laws
 pub mod Private

@@ -10,11 +10,12 @@ use mcf_basis::Basis;
 use mcf_text::ArcId;
 use std::marker::Model;
 
-/// Blocks of arcs of one size, taken in turn round the arcs from where the last pick ended: the eligible arc of greatest violation of the
-/// first block that has one, and of several such the one that is met first.
+/// Blocks of arcs of one size, taken in turn around the arcs from where the last pick ended: the
+/// eligible arc of greatest violation in the first block that has one; among several, the one that
+/// is met first.
 ///
-/// A pick looks at no arc twice, so its last block may be shorter. It begins at arc 1 on a net that has no arc of the number at
-/// which the last pick ended.
+/// A pick scans no arc twice, so its last block may be shorter. It begins at arc 1 on a net that
+/// has no arc with the number at which the last pick ended.
 #[derive(Clone, Copy, Debug)]
 pub struct Block {
     size: u32,
@@ -47,7 +48,7 @@ impl Block {
 impl Pricing for Block {
     ghost Picks = { λ old basis answer new. IsBlockPick old basis answer new };
 
-    /// The eligible arc of greatest violation of the first block that has one.
+    /// The eligible arc of greatest violation in the first block that has one.
     fn pick(&mut self, basis: &Basis<'_>) -> Option<ArcId> {
         let picked = pick_block(basis, self.size, self.next);
         self.next = picked.next;
@@ -86,7 +87,7 @@ fn pick_block(basis: &Basis<'_>, size: u32, next: u32) -> Picked
     }
 }
 
-// The arc with which a pick begins.
+// The arc at which a pick begins.
 fn start_arc(arcs: u32, next: u32) -> u32
     requires { 1 ≤ next }
     ensures value { result ≡ start_arc arcs next }
@@ -96,8 +97,8 @@ fn start_arc(arcs: u32, next: u32) -> u32
     if next <= arcs { next } else { 1 }
 }
 
-// The place behind the block that begins at a place.
-fn block_end(arcs: u32, size: u32, place: u32) -> u32
+// The place after the block that begins at a place.
+pub(crate) fn block_end(arcs: u32, size: u32, place: u32) -> u32
     requires within { place < arcs }
     requires size { 1 ≤ size }
     ensures value { result ≡ block_end arcs size place }
@@ -149,8 +150,12 @@ fn most_violated_in_round(basis: &Basis<'_>, start: u32, begin: u32, end: u32) -
     more_violated(basis, early, late)
 }
 
-// The one of two arcs that violates more, the first of two that violate alike.
-fn more_violated(basis: &Basis<'_>, early: Option<ArcId>, late: Option<ArcId>) -> Option<ArcId>
+// The more violated of two arcs; if they are equal, the first.
+pub(crate) fn more_violated(
+    basis: &Basis<'_>,
+    early: Option<ArcId>,
+    late: Option<ArcId>,
+) -> Option<ArcId>
     requires early { IfSome early (IsArcNumber basis.now.net) }
     requires late { IfSome late (IsArcNumber basis.now.net) }
     ensures { IsMoreViolated basis.now early late result }

@@ -4,7 +4,7 @@ ghost use Rattle.mcf_basis.specs.Laws.{HasNoArtificial};
 ghost use Rattle.mcf_basis.specs.Starts.{IsStart};
 ghost use Rattle.mcf_basis.specs.Structures.{state_of};
 ghost use Rattle.mcf_basis.specs.Violations.{HasNoEligible};
-ghost use Rattle.mcf_feas.specs.Chosen.{supply_total};
+ghost use Rattle.mcf_network.specs.Chosen.{supply_total};
 ghost use Rattle.mcf_flows.specs.Network.{node_count};
 ghost use Rattle.mcf_network.specs.States.{Pseudoflow};
 ghost use Rattle.mcf_engine.specs.Outcomes.{AreStatePrices, IsLeastState, IsOutcome};
@@ -15,19 +15,19 @@ use crate::run::run;
 use mcf_basis::Basis;
 use mcf_counts::Count;
 use mcf_engine::{Engine, Outcome, Pricer};
-use mcf_feas::unbalanced;
 use mcf_flows::Side;
-use mcf_network::{Net, NodeSet, State};
+use mcf_network::{Net, NodeSet, State, unbalanced};
 use mcf_text::{NoMemory, copies};
 use std::alloc::Global;
 use std::marker::Model;
 
-/// The network simplex, with strongly feasible trees, over any lawful pricing rule (Dantzig; Cunningham; Ahuja, Magnanti and Orlin,
-/// Network Flows, sections 11.5 and 11.6).
+/// The network simplex, with strongly feasible trees, over any lawful pricing rule (Dantzig;
+/// Cunningham; Ahuja, Magnanti and Orlin, Network Flows, sections 11.5 and 11.6).
 ///
-/// It takes every net. How it made a state is a relation of its contract, `IsMadeByRun`: from the start basis counted pivots, no
-/// more than a bound, with the rule asked at each basis in turn. A clause sees the rule, which is what it became when it was asked
-/// last, and how many pivots the last solve made that answered.
+/// It takes every net. How it made a state is a relation of its contract, `IsMadeByRun`: counted
+/// pivots from the initial basis, no more than a bound, and at each basis in turn the rule picks
+/// the arc. Clauses see the rule, as its last pick left it, and the number of pivots in the last
+/// solve that returned an answer.
 #[derive(Drop)]
 pub struct Simplex<P> {
     rule: P,
@@ -77,15 +77,16 @@ impl<P: Pricing> Engine for Simplex<P> {
 
     /// A least state of the net, with its prices, or a node set that shows that there is none.
     ///
-    /// All room is taken by one call, before the rule is asked for the first time; by the form of `solve`, what runs then is
-    /// handed no allocator.
+    /// All memory is allocated by one call, before the rule picks the first arc; what runs then
+    /// gets no allocator.
     ///
     /// # Errors
     ///
-    /// Want of memory, where a growth was refused. The engine is then as it was, and its rule was not asked.
+    /// `NoMemory` if an allocation is refused. The engine is then unchanged, and its rule was not
+    /// asked.
     ///
-    /// Nor is it asked where the supplies don't add up to 0: such a net is answered without a pivot. On any other net it becomes what
-    /// one run makes of it, whatever the answer.
+    /// If the supplies don't sum to 0, the rule isn't asked either: such a net is answered without
+    /// a pivot. On any other net the rule becomes what one run makes of it, whatever the answer.
     fn solve<'n>(&mut self, alloc: Global, net: &'n Net) -> Result<Outcome<'n>, NoMemory>
         ensures outcome { IfOk result (IsOutcome (λ s. IsMadeByRun P.Picks self.old net.now s self.new) net.now) }
         ensures err { OnErr result (self.new ≡ self.old) }
@@ -104,17 +105,17 @@ impl<P: Pricing> Engine for Simplex<P> {
     }
 }
 
-// What a run works on, and the room for what it ends with.
+// The basis of a run, and the space for its result.
 #[derive(Drop)]
-struct Workspace<'n> {
-    basis: Basis<'n>,
+pub(crate) struct Workspace<'n> {
+    pub(crate) basis: Basis<'n>,
     state: State<'n>,
     shown: ShownRoom,
 }
 
 impl<'n> Workspace<'n> {
-    // The start basis of a net.
-    fn start(alloc: Global, net: &'n Net) -> Result<Workspace<'n>, NoMemory>
+    // The initial basis of a net.
+    pub(crate) fn start(alloc: Global, net: &'n Net) -> Result<Workspace<'n>, NoMemory>
         ensures basis { IfOk result (λ w. IsStart net.now w.basis) }
         ensures state { IfOk result (λ w. w.state.net ≡ net.now) }
         ensures cut { IfOk result (λ w. length w.shown.cut ≡ node_count net.now) }
@@ -130,18 +131,25 @@ impl<'n> Workspace<'n> {
             shown,
         })
     }
+
+    // The number of pivots that led to the basis.
+    pub(crate) fn into_pivots(self) -> Count
+        ensures { result.number ≡ self.entry.basis.pivots }
+    {
+        self.basis.into_pivots()
+    }
 }
 
-// Room for what shows an answer: a node set that blocks, or prices.
+// Space for what shows an answer: a node set that blocks, or prices.
 #[derive(Drop)]
-struct ShownRoom {
+pub(crate) struct ShownRoom {
     cut: NodeSet,
     pricer: Pricer,
     prices: Vec<i128>,
 }
 
 impl ShownRoom {
-    // Room for the nodes of a net.
+    // Space for the nodes of a net.
     fn start(alloc: Global, net: &Net) -> Result<ShownRoom, NoMemory>
         ensures cut { IfOk result (λ r. length r.cut ≡ node_count net.now) }
         ensures pricer { IfOk result (λ r. r.pricer ≡ node_count net.now) }
@@ -158,15 +166,18 @@ impl ShownRoom {
     }
 }
 
-// What a run ends with.
+/// The result of a run.
 #[derive(Drop)]
-struct Ended<'n> {
-    outcome: Outcome<'n>,
-    pivots: Count,
+pub struct Ended<'n> {
+    /// What its last basis shows.
+    pub outcome: Outcome<'n>,
+    /// The number of its pivots.
+    pub pivots: Count,
 }
 
-// What the last basis shows: its flow is least, with its prices, or, where an artificial arc still carries something, a node set blocks.
-fn finish<'n>(room: Workspace<'n>) -> Ended<'n>
+// What the last basis shows: its flow is least, with its prices; or, if an artificial arc still
+// carries something, a node set blocks.
+pub(crate) fn finish<'n>(room: Workspace<'n>) -> Ended<'n>
     requires over { HasNoEligible room.basis }
     requires balanced { supply_total room.basis.net ≡ pos 0 }
     requires state { room.state.net ≡ room.basis.net }

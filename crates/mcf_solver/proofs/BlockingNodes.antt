@@ -5,7 +5,7 @@ use Rattle.std.specs.List.Sorted.{IsStrictlyIncreasing}
 use Rattle.std.specs.Prelude.{◌↔◌, ◌<ℤ◌, ℤ}
 use Rattle.std.proofs.lemmas.Int.{ints}
 use Rattle.mcf_answer.specs.BlockingSet.{IsBlockingSet}
-use Rattle.mcf_feas.specs.Chosen.{IsChosenBlock, supply_total}
+use Rattle.mcf_network.specs.Chosen.{IsChosenBlock, supply_total}
 use Rattle.mcf_flows.specs.declared.problem.Side.{Side}
 use Rattle.mcf_flows.specs.declared.problem.Side.TheVariants.{Send, Take}
 use Rattle.mcf_flows.specs.Blocking.{Blocks, in_list, in_table}

@@ -4,7 +4,7 @@ use Rattle.std.specs.List.{All, AllZip}
 use Rattle.std.proofs.lemmas.Int.{ints}
 use Rattle.mcf_answer.specs.Ranges.{IsAmount}
 use Rattle.mcf_checker.specs.Correct.{IsRightFlow}
-use Rattle.mcf_feas.specs.Feasible.{IsFeasibleState}
+use Rattle.mcf_network.specs.States.{IsFeasibleState, Pseudoflow}
 use Rattle.mcf_flows.specs.Flow.{AreGreatestPrices, CanCarry, IsWithinBounds, cost}
 use Rattle.mcf_flows.specs.Limits.{limits}
 use Rattle.mcf_flows.specs.Network.{Network}
@@ -13,7 +13,6 @@ use Rattle.mcf_flows.proofs.AllZips.{length-AllZip}
 use Rattle.mcf_network.specs.Laws.{GreatestPricesCarryOver, RestoredLeastFlowsAreLeast}
 use Rattle.mcf_network.specs.Removal.{net_of}
 use Rattle.mcf_network.specs.Restoring.{restored}
-use Rattle.mcf_network.specs.States.{Pseudoflow}
 use Rattle.mcf_network.proofs.RestoringLaws.{net_of-arc_count, restored_all}
 use Rattle.mcf_engine.specs.Outcomes.{IsLeastState}
 use Rattle.mcf_engine.specs.SmallPrices.{price_limit}

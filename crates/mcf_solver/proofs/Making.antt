@@ -15,7 +15,7 @@ use Rattle.mcf_network.proofs.RestoringLaws.{net_of-arc_count}
 use Rattle.mcf_solver.specs.Making.{HasMadeFlow, IsMadeBy, IsMadeByEngine, IsMadeBySimplex, meant, new_block_rule, suited}
 use Rattle.mcf_choice.specs.declared.choice.Choice.{Choice}
 use Rattle.mcf_choice.specs.declared.choice.EngineChoice.{EngineChoice}
-use Rattle.mcf_choice.specs.declared.choice.EngineChoice.TheVariants.{Auto, Cancel, Simplex, Scaling, Augment, Sap}
+use Rattle.mcf_choice.specs.declared.choice.EngineChoice.TheVariants.{Auto, Cancel, Simplex, Scaling, Fast, Sap}
 use Rattle.mcf_simplex.specs.Blocks.{BlockRule, IsBlockPick}
 use Rattle.mcf_simplex.specs.Runs.{IsMadeByRun, RuleState}
 use Rattle.mcf_simplex.specs.Stretches.{IsWideFor, WideRule}
@@ -61,7 +61,7 @@ suited_to_assignments Asn h = refl
 meant_for_assignments : (e : EngineChoice) (p : Problem) → BySap ≡ meant e p → p ≡ Asn
 meant_for_assignments Auto p h = suited_to_assignments p h
 meant_for_assignments Cancel p h = cc
-meant_for_assignments Augment p h = cc
+meant_for_assignments Fast p h = cc
 meant_for_assignments Simplex p h = cc
 meant_for_assignments Scaling p h = cc
 meant_for_assignments Sap p h = suited_to_assignments p h

@@ -19,7 +19,7 @@ use Rattle.mcf_solver.specs.Making.{IsMadeBy, IsMadeByEngine, IsMadeBySimplex, I
 use Rattle.mcf_solver.specs.Private.Shaping.{MadeFlowsAreShaped}
 use Rattle.mcf_choice.specs.declared.choice.Choice.{Choice}
 use Rattle.mcf_solver.specs.declared.meant.Meant.{Meant}
-use Rattle.mcf_solver.specs.declared.meant.Meant.TheVariants.{ByCancel, BySimplex, ByScaling, ByAugment, BySap}
+use Rattle.mcf_solver.specs.declared.meant.Meant.TheVariants.{ByCancel, BySimplex, ByScaling, ByFast, BySap}
 use Rattle.mcf_choice.specs.declared.choice.PricingChoice.{PricingChoice}
 use Rattle.mcf_choice.specs.declared.choice.PricingChoice.TheVariants.{First, Best, Block, Wide}
 
@@ -55,7 +55,7 @@ module _ (first : RunsAreTreeSolutions first_picks) (best : RunsAreTreeSolutions
         restores = h.restores;
       })
   shaped_by ByScaling choice g flow e h = tt
-  shaped_by ByAugment choice g flow e h = tt
+  shaped_by ByFast choice g flow e h = tt
   shaped_by BySap choice g flow e h = tt
 
   pub shaped : MadeFlowsAreShaped

@@ -1,9 +1,9 @@
--- What the supplies of a network and of its net add up to.
+-- What the supplies of a network and of its net sum to.
 use Rattle.std.proofs.Common.{◌≡◌, ap, arith, map}
 use Rattle.std.specs.List.{All, range_with_len}
 use Rattle.std.proofs.lemmas.Int.{ints}
 use Rattle.std.proofs.lemmas.List.FromFn.{length-map-range_with_len}
-use Rattle.mcf_feas.specs.Chosen.{supply_total}
+use Rattle.mcf_network.specs.Chosen.{supply_total}
 use Rattle.mcf_flows.specs.Flow.{net}
 use Rattle.mcf_flows.specs.Network.{Network, at_node, node_count, node_sum}
 use Rattle.mcf_flows.specs.WellFormed.{HasEnds}

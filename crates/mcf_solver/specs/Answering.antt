@@ -1,5 +1,5 @@
--- The answer that is owed for an instance text: the first fault; or a least flow with its cost and prices
--- that show it; or a node set that blocks every flow.
+-- The answer that is owed for an instance text: the first fault; or a least flow with its cost and
+-- prices that show it; or a node set that blocks every flow.
 -- Source: own
 use Rattle.std.specs.Prelude.{◌≡◌, ◌++◌, ◌+◌, ◌<◌, ◌⊎◌, ℕ, true, List, length, ℤ, Result, Ok, Err}
 use Rattle.mcf_answer.specs.BlockingSet.{BlockingSet}
@@ -11,7 +11,7 @@ use Rattle.mcf_answer.specs.declared.answers.Answer.{Answer}
 use Rattle.mcf_answer.specs.declared.answers.Answer.TheVariants.{Flow, Sparse, Blocked, Refused}
 use Rattle.mcf_checker.specs.Correct.{IsCorrect, IsRightSet, IsRightSolution, IsRightSparse, amounts, spread}
 use Rattle.mcf_checker.specs.Judging.{accepts, verdict}
-use Rattle.mcf_feas.specs.Chosen.{IsChosen}
+use Rattle.mcf_network.specs.Chosen.{IsChosen}
 use Rattle.mcf_flows.specs.Blocking.{in_list}
 use Rattle.mcf_flows.specs.Codes.{Fault}
 use Rattle.mcf_flows.specs.Flow.{IsFeasible, IsLeast}
@@ -70,8 +70,9 @@ answer_kind (Sparse a) = WithFlow
 answer_kind (Blocked a) = WithSet
 answer_kind (Refused r) = WithRefusal
 
--- the text is what is written of an answer that is owed: its flow was made as the choice means, and has the shape and the form
--- that it means; the kind is the answer's; it is correct, and the checker accepts it
+-- the text is what is written of an answer that is owed: its flow was made as the choice means, and
+-- has the shape and the form that it means; the kind is the answer's; it is correct, and the
+-- checker accepts it
 pub record IsAnswerTo (choice : Choice) (input : List ℕ) (kind : Kind) (text : List ℕ) : Type 0 where
   pub answer : Answer
   pub in_range : IsAnswer answer
@@ -90,7 +91,8 @@ pub record AppendsAnswer (choice : Choice) (input : List ℕ) (kind : Kind) (old
   pub appended : new ≡ old ++ text
   pub answer : IsAnswerTo choice input kind text
 
--- the text has an instance for which the simplex is meant, whose start basis has a root where there are no nodes
+-- the text has an instance for which the simplex is meant, whose start basis has a root if there
+-- are no nodes
 pub record IsBySimplex (choice : Choice) (input : List ℕ) : Type 0 where
   pub net : Network
   pub read : reading limits input ≡ Ok net

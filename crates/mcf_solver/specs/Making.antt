@@ -1,10 +1,11 @@
 -- How the state behind a flow was made: by a new engine, the one that the choice means.
 -- Source: own
-use Rattle.std.specs.Prelude.{◌≡◌, ⊤, ℕ, ℤ, List, length, Option, IfSome, Result, Ok, Err}
+use Rattle.std.specs.Prelude.{◌≡◌, ⊤, ℕ, ℤ, Bool, List, length, Option, IfSome, Result, Ok, Err}
 use Rattle.mcf_answer.specs.declared.answers.Answer.{Answer}
 use Rattle.mcf_checker.specs.Correct.{flow_given}
 use Rattle.mcf_assign.specs.Runs.{IsMatchedByRows}
 use Rattle.mcf_basis.specs.Structures.{TreeStructure}
+use Rattle.mcf_fast.specs.Made.{IsMadeOrFound}
 use Rattle.mcf_flows.specs.Codes.{Fault}
 use Rattle.mcf_flows.specs.Network.{Network}
 use Rattle.mcf_flows.specs.declared.problem.Problem.{Problem}
@@ -24,11 +25,11 @@ use Rattle.mcf_choice.specs.declared.choice.Choice.{Choice}
 use Rattle.mcf_choice.specs.declared.choice.EngineChoice.{EngineChoice}
 use Rattle.mcf_scaling.specs.Made.{IsScaled}
 use Rattle.mcf_scaling.specs.Refinements.{StepCounts}
-use Rattle.mcf_choice.specs.declared.choice.EngineChoice.TheVariants.{Auto, Cancel, Simplex, Scaling, Augment, Sap}
+use Rattle.mcf_choice.specs.declared.choice.EngineChoice.TheVariants.{Auto, Cancel, Simplex, Scaling, Fast, Sap}
 use Rattle.mcf_choice.specs.declared.choice.PricingChoice.{PricingChoice}
 use Rattle.mcf_choice.specs.declared.choice.PricingChoice.TheVariants.{First, Best, Block, Wide}
 use Rattle.mcf_solver.specs.declared.meant.Meant.{Meant}
-use Rattle.mcf_solver.specs.declared.meant.Meant.TheVariants.{ByCancel, BySimplex, ByScaling, ByAugment, BySap}
+use Rattle.mcf_solver.specs.declared.meant.Meant.TheVariants.{ByCancel, BySimplex, ByScaling, ByFast, BySap}
 
 -- the engine that suits a problem
 abbrev pub suited : Problem → Meant
@@ -41,7 +42,7 @@ meant Auto problem = suited problem
 meant Cancel problem = ByCancel
 meant Simplex problem = BySimplex
 meant Scaling problem = ByScaling
-meant Augment problem = ByAugment
+meant Fast problem = ByFast
 meant Sap problem = suited problem
 
 -- what the rule of the first arc picks, which keeps nothing
@@ -56,21 +57,22 @@ best_picks old b answer new = IsBestPick b answer
 abbrev pub new_block_rule : ℕ → RuleState BlockRule
 new_block_rule size = record { rule = record { size = size; next = 1 }; pivots = 0 }
 
--- the net's state was made by a run of the network simplex, with a new rule: the one that is chosen, and its blocks have this size, or, if they are
--- wide, the one that suits the net
+-- the net's state was made by a run of the network simplex, with a new rule: the one that is
+-- chosen, and its blocks have this size, or, if they are wide, the one that suits the net
 abbrev pub IsMadeBySimplex : PricingChoice → ℕ → Network → Pseudoflow → Type 0
 IsMadeBySimplex First block g s = (old new : RuleState FirstRule) × IsMadeByRun first_picks old g s new
 IsMadeBySimplex Best block g s = (old new : RuleState BestRule) × IsMadeByRun best_picks old g s new
 IsMadeBySimplex Block block g s = (new : RuleState BlockRule) × IsMadeByRun IsBlockPick (new_block_rule block) g s new
 IsMadeBySimplex Wide block g s = (old new : RuleState WideRule) × IsWideFor (length g.arcs) old.rule × IsMadeByRun IsWidePick old g s new
 
--- the net's state was made by a new engine of this name; the plain engine and the search that is judged ask nothing of how,
--- cost scaling counts its steps, and the engine for assignments its searches
+-- the net's state was made by a new engine of this name; the plain engine asks nothing of how, cost
+-- scaling counts its steps, the engine for assignments its searches, and the fast engine the pivots
+-- of its run: it made the state by that run, or found it after leaving the run
 abbrev pub IsMadeByEngine : Meant → Choice → Network → Pseudoflow → Type 0
 IsMadeByEngine ByCancel choice g s = ⊤
 IsMadeByEngine BySimplex choice g s = IsMadeBySimplex choice.pricing choice.block g s
 IsMadeByEngine ByScaling choice g s = (steps : StepCounts) × IsScaled g s steps
-IsMadeByEngine ByAugment choice g s = ⊤
+IsMadeByEngine ByFast choice g s = (pivots : ℕ) × (is_found : Bool) × IsMadeOrFound is_found g s pivots
 IsMadeByEngine BySap choice g s = (searches : ℕ) × IsMatchedByRows g s searches
 
 -- the net's state was made by a new engine that the choice means for the problem of the net
@@ -84,7 +86,8 @@ pub record StandsForMade (IsMade : Network → Pseudoflow → Type 0) (g : Netwo
   pub made : IsMade (net_of g) state
   pub restores : flow ≡ restored g.arcs state.amounts
 
--- an answer's flow, where it gives one, is the one that a least state stands for which was made in this way
+-- an answer's flow, where it gives one, is the one that a least state stands for which was made in
+-- this way
 abbrev pub HasMadeFlow : (Network → Pseudoflow → Type 0) → Result Network Fault → Answer → Type 0
 HasMadeFlow IsMade (Ok g) a = IfSome (flow_given g a) (StandsForMade IsMade g)
 HasMadeFlow IsMade (Err fault) a = ⊤
@@ -94,7 +97,7 @@ abbrev pub IsShapedBy : Meant → Network → List ℤ → Type 0
 IsShapedBy ByCancel g flow = ⊤
 IsShapedBy BySimplex g flow = IsTreeSolution g flow
 IsShapedBy ByScaling g flow = ⊤
-IsShapedBy ByAugment g flow = ⊤
+IsShapedBy ByFast g flow = ⊤
 IsShapedBy BySap g flow = ⊤
 
 -- an answer's flow, where it gives one, has the shape of those of the engine that the choice means

@@ -4,7 +4,7 @@ ghost use Rattle.std.specs.List.{All};
 ghost use Rattle.mcf_answer.specs.Ranges.{IsAmount};
 ghost use Rattle.mcf_answer.specs.Solution.{IsSent};
 ghost use Rattle.mcf_checker.specs.Correct.{amounts, arc_ends, sent_ends};
-ghost use Rattle.mcf_feas.specs.Feasible.{IsFeasibleState};
+ghost use Rattle.mcf_network.specs.States.{IsFeasibleState};
 ghost use Rattle.mcf_flows.specs.Flow.{cost};
 ghost use Rattle.mcf_flows.specs.Limits.{limits};
 ghost use Rattle.mcf_flows.specs.WellFormed.{IsWellFormed};
@@ -22,12 +22,12 @@ use mcf_network::{
 use mcf_text::{ArcId, NoMemory};
 use std::alloc::Global;
 
-/// The answer for a least state of the net of an instance, with its prices: its flow, the flow's cost, and the
-/// prices, which show the flow as they show the state.
+/// The answer for a least state of the net of an instance, with its prices: its flow, the flow's
+/// cost, and the prices, which show the flow as they show the state.
 ///
 /// # Errors
 ///
-/// Want of memory; an instance without arcs wants none.
+/// `NoMemory` if an allocation is refused; an instance without arcs needs none.
 pub(crate) fn flow_answer(
     alloc: Global,
     instance: &Instance,
@@ -51,14 +51,15 @@ pub(crate) fn flow_answer(
     })
 }
 
-// What a flow costs, and what each arc carries, with its ends, in the order of the arcs.
+// The cost of a flow, and the flow of each arc, with its ends, in the order of the arcs.
 #[derive(Drop)]
 struct Carried {
     cost: i128,
     sent: Vec<Sent>,
 }
 
-// The cost of the flow for which a state stands and what it carries, in one pass over the arcs.
+// The cost of the flow that a state stands for, and the flow of each arc, in one pass over the
+// arcs.
 fn carried_along(alloc: Global, instance: &Instance, state: &State<'_>) -> Result<Carried, NoMemory>
     requires { IsFeasibleState (net_of instance.now) state.now }
     ensures value { IfOk result (λ made. made.cost ≡ cost instance.now.arcs (restored instance.now.arcs state.now.amounts)) }

@@ -1,6 +1,6 @@
-//! Which engine is meant.
+//! The engine that a choice means.
 
-// Which engine a choice means, for the problem at hand.
+// The engine that a choice means for a problem.
 #[derive(Clone, Copy, Debug, PartialEq, Eq)]
 pub(crate) enum Meant {
     // The plain engine.
@@ -9,8 +9,8 @@ pub(crate) enum Meant {
     BySimplex,
     // Cost scaling.
     ByScaling,
-    // A fast search that is judged.
-    ByAugment,
+    // The network simplex, watched, and where it is a bad case a search that is judged.
+    ByFast,
     // Shortest augmenting paths.
     BySap,
 }

@@ -2,7 +2,7 @@
 ghost use Rattle.std.specs.Prelude.{◌≡◌, ◌≤◌, ℕ, IfOk, OnErr, length};
 ghost use Rattle.std.specs.List.{All};
 ghost use Rattle.std.specs.List.Sorted.{IsStrictlyIncreasing};
-ghost use Rattle.mcf_feas.specs.Chosen.{IsChosenBlock};
+ghost use Rattle.mcf_network.specs.Chosen.{IsChosenBlock};
 ghost use Rattle.mcf_flows.specs.Blocking.{in_list, in_table};
 ghost use Rattle.mcf_flows.specs.Network.{IsNode, node_count};
 ghost use Rattle.mcf_network.specs.Removal.{net_of};
@@ -18,7 +18,7 @@ use std::alloc::Global;
 ///
 /// # Errors
 ///
-/// Want of memory; an instance without nodes wants none.
+/// `NoMemory` if an allocation is refused; an instance without nodes needs none.
 pub(crate) fn set_answer(
     alloc: Global,
     instance: &Instance,

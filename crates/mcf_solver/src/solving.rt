@@ -22,33 +22,34 @@ use crate::set::set_answer;
 use crate::sparse::sparse_answer;
 use mcf_answer::{Answer, write};
 use mcf_assign::Sap;
-use mcf_augment::Augment;
+use mcf_cancel::Cancel;
 use mcf_checker::correct_answers_are_accepted;
 use mcf_choice::{Choice, EngineChoice, Form, PricingChoice};
 use mcf_engine::{Engine, Outcome};
+use mcf_fast::Fast;
 use mcf_instance::{Instance, Problem, Refusal, read};
 use mcf_network::{Net, State, restored_tree_solutions_are_tree_solutions};
-use mcf_prices::Cancel;
 use mcf_scaling::Scaling;
 use mcf_simplex::{Best, Block, First, Simplex, Wide, runs_are_tree_solutions};
 use mcf_text::NoMemory;
 use std::alloc::Global;
 
-/// Appends the answer to an instance text: the first fault of the text; or a feasible flow that no feasible
-/// flow undercuts, with its cost and the greatest prices not above 0 that show it; or a node set that must
-/// send or take more than it can, so that no flow is feasible. A flow is written in the form that is chosen: in the
-/// second it names exactly the arcs whose flow isn't their low.
+/// Appends the answer to an instance text: the first fault of the text; or a feasible flow that no
+/// feasible flow undercuts, with its cost and the greatest prices not above 0 that show it; or a
+/// node set that must send or take more than it can, so that no flow is feasible. A flow is written
+/// in the form that is chosen: in the second it names exactly the arcs whose flow isn't their low.
 ///
-/// The checker accepts that answer, whatever engine was chosen. Which of several least flows is given, and
-/// which of several blocking sets where the supplies add up to 0, depends on the engine: a flow is the one that
-/// a least state stands for, made by a new engine that the choice means for the problem at hand. (Optimality by
-/// reduced costs: Ahuja, Magnanti and Orlin, Network Flows, chapter 9.)
+/// The checker accepts that answer, whatever engine was chosen. Which of several least flows is
+/// given, and which of several blocking sets where the supplies sum to 0, depends on the engine: a
+/// flow is the one that a least state stands for, made by a new engine that the choice means for
+/// the problem at hand. (Optimality by reduced costs: Ahuja, Magnanti and Orlin, Network Flows,
+/// chapter 9.)
 ///
 /// # Errors
 ///
-/// `NoMemory` only if the first problem line is good, names nodes and comes before the first fault; or if the network simplex is
-/// meant; or if the answer's text doesn't fit the capacity of `out`. `out` then keeps the bytes that it had. Its capacity never
-/// shrinks.
+/// `NoMemory` only if the first problem line is good, names nodes and comes before the first fault;
+/// or if the network simplex is meant; or if the answer's text doesn't fit the capacity of `out`.
+/// `out` then keeps the bytes that it had. Its capacity never shrinks.
 pub fn solve_text(
     alloc: Global,
     input: &[u8],
@@ -70,7 +71,7 @@ pub fn solve_text(
     Ok(answer_kind(&answer))
 }
 
-// The flow of an answer that was made as a choice means has the shape that it means.
+// An answer's flow that was made as a choice means has the shape that the choice means.
 fn made_flows_are_shaped()
     ensures { MadeFlowsAreShaped }
 {
@@ -92,7 +93,7 @@ fn answer_to(alloc: Global, input: &[u8], choice: Choice) -> Result<Answer, NoMe
     answer_for(alloc, outcome, choice)
 }
 
-/// Appends the answer to what was read of an instance text, as `solve_text` does to a text.
+/// Appends the answer to the result of reading an instance text, as `solve_text` does for a text.
 pub(crate) fn solve_outcome(
     alloc: Global,
     outcome: Result<Instance, Refusal>,
@@ -108,7 +109,7 @@ pub(crate) fn solve_outcome(
     Ok(answer_kind(&owed))
 }
 
-// The answer to what was read of an instance text.
+// The answer to the result of reading an instance text.
 fn answer_for(
     alloc: Global,
     outcome: Result<Instance, Refusal>,
@@ -125,7 +126,8 @@ fn answer_for(
     }
 }
 
-/// The answer to an instance, by the engine that is chosen: what `solve_text` writes of a text that stands for it.
+/// The answer to an instance, by the chosen engine: what `solve_text` writes for a text that stands
+/// for it.
 ///
 /// # Errors
 ///
@@ -144,7 +146,7 @@ pub fn solve_instance(
         Meant::ByCancel => solve_by(alloc, instance, choice.form, &mut Cancel::new()),
         Meant::BySimplex => solve_by_simplex(alloc, instance, choice),
         Meant::ByScaling => solve_by(alloc, instance, choice.form, &mut Scaling::new()),
-        Meant::ByAugment => solve_by(alloc, instance, choice.form, &mut Augment::new()),
+        Meant::ByFast => solve_by(alloc, instance, choice.form, &mut Fast::new()),
         Meant::BySap => solve_by(alloc, instance, choice.form, &mut Sap::new()),
     }
 }
@@ -157,7 +159,7 @@ fn engine_meant(engine: EngineChoice, problem: Problem) -> Meant
         EngineChoice::Cancel => Meant::ByCancel,
         EngineChoice::Simplex => Meant::BySimplex,
         EngineChoice::Scaling => Meant::ByScaling,
-        EngineChoice::Augment => Meant::ByAugment,
+        EngineChoice::Fast => Meant::ByFast,
         EngineChoice::Auto | EngineChoice::Sap => suited(problem),
     }
 }
@@ -172,7 +174,7 @@ fn suited(problem: Problem) -> Meant
     }
 }
 
-// The answer to an instance, by the network simplex with a new rule, the one that is chosen.
+// The answer to an instance, by the network simplex with a new instance of the chosen rule.
 fn solve_by_simplex(alloc: Global, instance: &Instance, choice: Choice) -> Result<Answer, NoMemory>
     ensures owed { IfOk result (IsOwed (Ok instance.now)) }
     ensures made { IfOk result (HasMadeFlow (IsMadeBySimplex choice.pricing choice.block) (Ok instance.now)) }
@@ -236,7 +238,7 @@ fn least_answer(
     }
 }
 
-// What an answer holds.
+// The kind of an answer.
 fn answer_kind(answer: &Answer) -> Kind
     ensures { result ≡ answer_kind answer.now }
 {

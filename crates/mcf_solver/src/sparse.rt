@@ -1,10 +1,10 @@
-//! The answer of the second form for a least state.
+//! The sparse answer for a least state.
 ghost use Rattle.std.specs.Prelude.{◌≡◌, ◌≤◌, ◌++◌, ◌+ℤ◌, ◌*ℤ◌, [], pos, true, IfOk, OnErr, OnOk, length};
 ghost use Rattle.std.specs.List.{cons_option};
 ghost use Rattle.std.specs.Ordering.{int_eq};
 ghost use Rattle.mcf_answer.specs.Ranges.{IsAmount};
 ghost use Rattle.mcf_checker.specs.Correct.{spread};
-ghost use Rattle.mcf_feas.specs.Feasible.{IsFeasibleState};
+ghost use Rattle.mcf_network.specs.States.{IsFeasibleState, amount_at};
 ghost use Rattle.mcf_flows.specs.declared.problem.Problem.TheVariants.{Asn};
 ghost use Rattle.mcf_flows.specs.Flow.{cost};
 ghost use Rattle.mcf_flows.specs.Limits.{limits};
@@ -12,7 +12,6 @@ ghost use Rattle.mcf_flows.specs.Network.{IsArcNumber};
 ghost use Rattle.mcf_flows.specs.WellFormed.{IsWellFormed};
 ghost use Rattle.mcf_network.specs.Removal.{net_of};
 ghost use Rattle.mcf_network.specs.Restoring.{restored};
-ghost use Rattle.mcf_network.specs.States.{amount_at};
 ghost use Rattle.mcf_engine.specs.Outcomes.{AreStatePrices, IsLeastState};
 ghost use Rattle.mcf_solver.specs.Answering.{IsLeastSparse};
 ghost use Rattle.mcf_solver.specs.Forms.{moved_arc, moved_of};
@@ -27,12 +26,13 @@ use mcf_network::{
 use mcf_text::{ArcId, NoMemory};
 use std::alloc::Global;
 
-/// The answer of the second form for a least state of the net of an instance, with its prices: the arcs that don't
-/// carry their low, the flow's cost, and the prices, which show the flow as they show the state.
+/// The sparse answer for a least state of the net of an instance, with its prices: the arcs that
+/// don't carry their lower bound, the flow's cost, and the prices, which show the flow as they show
+/// the state.
 ///
 /// # Errors
 ///
-/// Want of memory; an instance without arcs wants none.
+/// `NoMemory` if an allocation is refused; an instance without arcs needs none.
 pub(crate) fn sparse_answer(
     alloc: Global,
     instance: &Instance,
@@ -57,14 +57,16 @@ pub(crate) fn sparse_answer(
     })
 }
 
-// What a flow costs, and the arcs that don't carry their low, each with what it carries, ascending.
+// The cost of a flow, and the arcs that don't carry their lower bound, each with its flow,
+// ascending.
 #[derive(Drop)]
 struct StatedFlow {
     cost: i128,
     moved: Vec<(ArcId, i128)>,
 }
 
-// The cost of the flow for which a state stands, and the arcs that don't carry their low, in one pass over the arcs.
+// The cost of the flow that a state stands for, and the arcs that don't carry their lower bound, in
+// one pass over the arcs.
 fn stated_along(
     alloc: Global,
     instance: &Instance,
@@ -95,7 +97,7 @@ fn stated_along(
     Ok(StatedFlow { cost: total, moved })
 }
 
-// Whether an instance is an assignment, of which no arc has a low or is a loop.
+// Whether an instance is an assignment, whose arcs have lower bound 0 and are no loops.
 fn is_assignment(instance: &Instance) -> bool
     ensures { result ≡ true → instance.now.problem ≡ Asn }
 {
@@ -105,7 +107,7 @@ fn is_assignment(instance: &Instance) -> bool
     }
 }
 
-// Whether an arc carries nothing, where that is its low: then nothing else of it is read.
+// Whether an arc carries nothing and its lower bound is 0: then nothing else of it is read.
 #[inline(always)]
 fn is_idle(state: &State<'_>, units: bool, k: ArcId) -> bool
     requires { IsArcNumber state.now.net k }
@@ -117,7 +119,7 @@ fn is_idle(state: &State<'_>, units: bool, k: ArcId) -> bool
     state.amount(k) <= 0
 }
 
-// A sum with the cost of an amount, which most arcs don't have.
+// A sum plus the cost of an amount, which is 0 for most arcs.
 #[inline(always)]
 fn with_cost(total: i128, cost: i128, amount: i128) -> i128
     requires total { IsAmount total }
@@ -130,7 +132,7 @@ fn with_cost(total: i128, cost: i128, amount: i128) -> i128
     total + cost * amount
 }
 
-// Appends an arc by its number with what it carries, unless that is its low.
+// Appends an arc by its number with its flow, unless that is its lower bound.
 fn add_moved(
     moved: &mut Vec<(ArcId, i128)>,
     number: ArcId,
@@ -146,7 +148,7 @@ fn add_moved(
     Ok(())
 }
 
-// Whether an arc carries its low.
+// Whether an arc carries its lower bound.
 fn carries_low(arc: &Arc, amount: i128) -> bool
     ensures { result ≡ int_eq amount arc.now.low }
 {

@@ -14,7 +14,7 @@ struct Asking {
     file: Option<&'static str>,
 }
 
-static ASKED: [Asking; 11] = [
+static ASKED: [Asking; 13] = [
     Asking {
         words: &["mcf", "solve"],
         engine: EngineChoice::Auto,
@@ -48,8 +48,8 @@ static ASKED: [Asking; 11] = [
         file: None,
     },
     Asking {
-        words: &["mcf", "solve", "--engine=augment", "f.min"],
-        engine: EngineChoice::Augment,
+        words: &["mcf", "solve", "--engine=fast", "f.min"],
+        engine: EngineChoice::Fast,
         pricing: PricingChoice::Block,
         block: 256,
         form: Form::One,
@@ -103,6 +103,22 @@ static ASKED: [Asking; 11] = [
         pricing: PricingChoice::Block,
         block: 256,
         form: Form::One,
+        file: None,
+    },
+    Asking {
+        words: &["mcf", "solve", "--form", "full"],
+        engine: EngineChoice::Auto,
+        pricing: PricingChoice::Block,
+        block: 256,
+        form: Form::One,
+        file: None,
+    },
+    Asking {
+        words: &["mcf", "solve", "--form=sparse"],
+        engine: EngineChoice::Auto,
+        pricing: PricingChoice::Block,
+        block: 256,
+        form: Form::Two,
         file: None,
     },
     Asking {

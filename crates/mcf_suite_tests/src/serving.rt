@@ -41,7 +41,7 @@ fn room(alloc: Global) -> Result<Vec<u8>, NoMemory> {
     Ok(Vec::with_capacity(alloc, 4096)?)
 }
 
-// Want of memory, where a run that wrote nothing told of it.
+// `NoMemory` if a run that wrote nothing told of it.
 fn had_memory(status: u8, out: &[u8], err: &[u8]) -> Result<(), NoMemory> {
     if status == 3 && out.is_empty() && err == b"mcf: out of memory\n".as_slice() {
         return Err(NoMemory);
@@ -49,7 +49,8 @@ fn had_memory(status: u8, out: &[u8], err: &[u8]) -> Result<(), NoMemory> {
     Ok(())
 }
 
-// A run with a text on standard input, and with a file of another text, or no file, whatever its name is.
+// A run with a text on standard input, and with a file of another text, or no file, whatever its
+// name is.
 fn served(
     alloc: Global,
     words: &[&str],
@@ -237,7 +238,8 @@ fn six_rows_served(rt: HostRuntime) -> Result<(), Fail> {
 // Two arcs of one cost, of which either may carry all.
 const TWO_ALIKE: &str = "p min 2 2\nn 1 3\nn 2 -3\na 1 2 0 3 4\na 1 2 0 3 4\n";
 
-// Whether these words give one of two answers, from standard input and, by the same words and a name, from a file.
+// Whether these words give one of two answers, from standard input and, by the same words and a
+// name, from a file.
 fn is_either(
     alloc: Global,
     words: (&[&str], &[&str]),
@@ -286,7 +288,8 @@ fn put_often(out: &mut Vec<u8>, text: &[u8], often: u32) -> Result<(), NoMemory>
     Ok(())
 }
 
-// A thousand arcs whose costs come to 10^36 in all, with an arc more that costs nothing; and its answers in both forms.
+// A thousand arcs whose costs come to 10^36 in all, with an arc more that costs nothing; and its
+// answers in both forms.
 fn greatest_total(alloc: Global) -> Result<(Vec<u8>, Vec<u8>, Vec<u8>), NoMemory> {
     let mut text = Vec::with_capacity(alloc, 65_536)?;
     text.extend_from_slice(b"p min 2 1001\n")?;
@@ -425,7 +428,7 @@ static SOLVING: [(Words, bool); 17] = [
     (&["mcf", "solve", "--engine", "auto"], false),
     (&["mcf", "solve", "--engine", "simplex"], false),
     (&["mcf", "solve", "--engine", "scaling"], false),
-    (&["mcf", "solve", "--engine", "augment"], false),
+    (&["mcf", "solve", "--engine", "fast"], false),
     (&["mcf", "solve", "--engine", "sap"], false),
     (&["mcf", "solve", "--pricing", "first", "a"], true),
     (&["mcf", "solve", "--pricing", "best"], false),
@@ -509,7 +512,7 @@ fn words_that_are_refused(rt: HostRuntime) -> Result<(), Fail> {
 }
 
 // Words that ask for help, and a part of it.
-static HELP: [(Words, &str); 29] = [
+static HELP: [(Words, &str); 30] = [
     (&["mcf", "--help"], "solve"),
     (&["mcf", "-h"], "solve"),
     (&["mcf", "help"], "solve"),
@@ -519,7 +522,7 @@ static HELP: [(Words, &str); 29] = [
     (&["mcf", "solve", "--help"], "--block <N>"),
     (
         &["mcf", "solve", "--help"],
-        "auto, cancel, simplex, scaling, augment, sap",
+        "auto, cancel, simplex, scaling, fast, sap",
     ),
     (&["mcf", "solve", "--help"], "[default: auto]"),
     (&["mcf", "solve", "--help"], "first, best, block, wide"),
@@ -528,7 +531,7 @@ static HELP: [(Words, &str); 29] = [
     (&["mcf", "solve", "--help"], "[default: 256]"),
     (&["mcf", "solve", "--help"], "\n  auto     "),
     (&["mcf", "solve", "--help"], "\n  cancel   "),
-    (&["mcf", "solve", "--help"], "\n  augment  "),
+    (&["mcf", "solve", "--help"], "\n  fast     "),
     (&["mcf", "solve", "--help"], "\n  simplex  "),
     (&["mcf", "solve", "--help"], "\n  scaling  "),
     (&["mcf", "solve", "--help"], "\n  sap      "),
@@ -537,9 +540,10 @@ static HELP: [(Words, &str); 29] = [
     (&["mcf", "solve", "--help"], "\n  block    "),
     (&["mcf", "--help"], "--version"),
     (&["mcf", "solve", "-h"], "--form <FORM>"),
-    (&["mcf", "solve", "--help"], "[default: 1]"),
-    (&["mcf", "solve", "--help"], "\n  1        "),
-    (&["mcf", "solve", "--help"], "\n  2        "),
+    (&["mcf", "solve", "--help"], "[default: full]"),
+    (&["mcf", "solve", "--help"], "full, sparse, 1, 2"),
+    (&["mcf", "solve", "--help"], "\n  full     "),
+    (&["mcf", "solve", "--help"], "\n  sparse   "),
     (&["mcf", "solve", "-h"], "[FILE]"),
     (&["mcf", "solve", "a", "--help"], "[FILE]"),
 ];

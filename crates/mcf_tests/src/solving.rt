@@ -1,7 +1,7 @@
 //! Worked instances solved.
 //!
-//! Rows stand in statics, and a row is judged by a function that answers whether it holds: a test of many
-//! assertions, or one that makes its rows, takes long to prove.
+//! Rows stand in statics, and a row is judged by a function that answers whether it holds: a test
+//! of many assertions, or one that makes its rows, takes long to prove.
 use mcf_checker::{Verdict, check};
 use mcf_solver::{BlockSize, Choice, EngineChoice, Form, Kind, PricingChoice, solve_text};
 use mcf_text::{NoMemory, put_number};
@@ -33,7 +33,7 @@ static WAYS: [Way; 12] = [
         block: 256,
     },
     Way {
-        engine: EngineChoice::Augment,
+        engine: EngineChoice::Fast,
         pricing: PricingChoice::Block,
         block: 256,
     },
@@ -291,7 +291,7 @@ static GREATEST: [Worked; 8] = [
     },
 ];
 
-// Answers of the second form; those without a flow have one form.
+// Answers of the sparse form; those without a flow have one form.
 static SPARSE: [Worked; 6] = [
     Worked {
         kind: Kind::Flow,
@@ -352,7 +352,7 @@ fn answered_by(
     Ok((kind, out))
 }
 
-// The same choice, with the second form of a flow.
+// The same choice, with the sparse form of a flow.
 fn with_second_form(choice: Choice) -> Choice {
     Choice {
         form: Form::Two,
@@ -385,7 +385,7 @@ fn is_accepted(alloc: Global, worked: &Worked) -> Result<bool, NoMemory> {
     ))
 }
 
-// Whether it is answered so by each choice with the second form.
+// Whether it is answered so by each choice with the sparse form.
 fn is_sparse(alloc: Global, worked: &Worked) -> Result<bool, NoMemory> {
     for way in &WAYS {
         let Some(choice) = choice_of(way) else {
@@ -398,7 +398,8 @@ fn is_sparse(alloc: Global, worked: &Worked) -> Result<bool, NoMemory> {
     is_accepted(alloc, worked)
 }
 
-// Whether the checker says of the answer with the second form, by a way, what it says of the answer that is given.
+// Whether the checker says of the answer with the sparse form, by a way, what it says of the answer
+// that is given.
 fn is_accepted_alike(alloc: Global, worked: &Worked, way: &Way) -> Result<bool, NoMemory> {
     let Some(choice) = choice_of(way) else {
         return Ok(false);
@@ -447,7 +448,7 @@ fn the_greatest_numbers(rt: HostRuntime) -> Result<(), Fail> {
     Ok(())
 }
 
-// Answers of the second form, and that of each worked instance is accepted as its first form is.
+// Answers of the sparse form, and that of each worked instance is accepted as its first form is.
 #[test]
 fn answers_of_the_second_form(rt: HostRuntime) -> Result<(), Fail> {
     for worked in &SPARSE {
@@ -467,8 +468,9 @@ fn the_greatest_numbers_in_the_second_form(rt: HostRuntime) -> Result<(), Fail> 
     Ok(())
 }
 
-// Rows of which each allocation is refused in turn, by `scripts/refuse_memory.py`: a flow, a set that must take, a matching,
-// two rows with one column, a cycle that earns, and a second line of one node.
+// Rows of which each allocation is refused in turn, by `scripts/refuse_memory.py`: a flow, a set
+// that must take, a matching, two rows with one column, a cycle that earns, and a second line of
+// one node.
 static SIX_ROWS: [Worked; 6] = [
     Worked {
         kind: Kind::Flow,
@@ -502,7 +504,8 @@ static SIX_ROWS: [Worked; 6] = [
     },
 ];
 
-// Whether an instance is answered so by a way, after bytes that were there; where memory is wanting these alone are left.
+// Whether an instance is answered so by a way, after bytes that were there; if memory runs out
+// these alone are left.
 fn keeps_or_answers(alloc: Global, worked: &Worked, way: &Way) -> Result<bool, NoMemory> {
     let Some(choice) = choice_of(way) else {
         return Ok(false);
@@ -553,7 +556,8 @@ fn one_of_several_least_flows(rt: HostRuntime) -> Result<(), Fail> {
     Ok(())
 }
 
-// An instance on two nodes: a thousand arcs of the greatest bound and cost, whose total is 10^36, and one that costs nothing.
+// An instance on two nodes: a thousand arcs of the greatest bound and cost, whose total is 10^36,
+// and one that costs nothing.
 fn of_greatest_total(alloc: Global) -> Result<Vec<u8>, NoMemory> {
     let mut text = b"p min 2 1001\n".to_vec(alloc)?;
     for _ in 0..1_000 {
@@ -622,7 +626,8 @@ fn two_arcs_among_a_thousand_nodes(rt: HostRuntime) -> Result<(), Fail> {
     Ok(())
 }
 
-// A thousand arcs that earn most, each with one to come back by: what they earn is their total, 10^36.
+// A thousand arcs that earn most, each with one to come back by: what they earn is their total,
+// 10^36.
 fn greatest_earning(alloc: Global) -> Result<Vec<u8>, NoMemory> {
     let mut text = b"p min 2 2000\n".to_vec(alloc)?;
     for _ in 0..1_000 {

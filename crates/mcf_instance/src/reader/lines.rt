@@ -1,4 +1,4 @@
-//! Lines taken in one after another: arc lines in a row, as far as they are good and plain, and any line.
+//! Lines, one after another: runs of arc lines that are valid and plain, and any other line.
 ghost use Rattle.std.specs.Prelude.{◌≡◌, ◌+◌, ◌≤◌, ◌∷◌, ℕ, List, drop, None, Some, IfOk, OnErr, OnOk, length};
 ghost use Rattle.mcf_flows.specs.Limits.{limits, line_limit};
 ghost use Rattle.mcf_instance.specs.Memory.{NamesNodes};
@@ -6,19 +6,20 @@ ghost use Rattle.mcf_instance.specs.Private.TakenArcs.{ReadsLines, WantsForLines
 ghost use Rattle.mcf_instance.specs.ReadOn.{HasRead};
 ghost use Rattle.mcf_text.specs.Feed.{BeginsWithLines};
 
-use crate::reader::state::State;
+use crate::reader::state::ReaderState;
 use mcf_text::{NoMemory, is_kept};
 use std::alloc::Global;
 
-/// Lines that were taken in, and their bytes.
+/// Lines that were taken, and their bytes.
 #[derive(Clone, Copy)]
 pub(crate) struct Run {
     pub(crate) lines: usize,
     pub(crate) bytes: usize,
 }
 
-/// Takes the arc lines at the front of a text in, as far as they are good and plain; none before the problem line.
-pub(crate) fn take_arcs(state: &mut State, text: &[u8]) -> Result<Run, NoMemory>
+/// Takes the arc lines at the front of a text, as long as they are valid and plain; none before the
+/// problem line.
+pub(crate) fn take_arcs(state: &mut ReaderState, text: &[u8]) -> Result<Run, NoMemory>
     requires { state.old.refusal ≡ None }
     ensures good { OnOk result (state.new.refusal ≡ None) }
     ensures lines { IfOk result (λ run. BeginsWithLines text.now run.lines run.bytes) }
@@ -41,10 +42,10 @@ pub(crate) fn take_arcs(state: &mut State, text: &[u8]) -> Result<Run, NoMemory>
     Ok(Run { lines, bytes })
 }
 
-/// Takes a line in, of this number. One that isn't kept changes nothing.
+/// Takes the line with this number. If it isn't significant (kept), nothing changes.
 pub(crate) fn read_line(
     alloc: Global,
-    state: &mut State,
+    state: &mut ReaderState,
     number: u128,
     line: &[u8],
 ) -> Result<(), NoMemory>

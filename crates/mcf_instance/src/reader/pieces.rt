@@ -1,4 +1,4 @@
-//! The reader of instance texts that come in pieces.
+//! The reader of instance texts that arrive in pieces (chunks).
 ghost use Rattle.std.specs.Prelude.{◌≡◌, ◌≢◌, ◌+◌, ◌<◌, ◌≤◌, ◌++◌, ◌∷◌, [], ℕ, List, false, length, None, IfErr, IfOk, IfSome, IsTrue, OnErr, OnOk};
 ghost use Rattle.mcf_instance.specs.Feeding.{StandsFor};
 ghost use Rattle.mcf_flows.specs.Limits.{limits, line_limit};
@@ -7,20 +7,21 @@ ghost use Rattle.mcf_instance.specs.ReadOn.{HasReadOn, HasReadPieces};
 ghost use Rattle.mcf_text.specs.Feed.{byte_limit};
 
 use crate::reader::lines::{read_line, take_arcs};
-use crate::reader::state::State;
+use crate::reader::state::ReaderState;
 use mcf_flows::{Instance, Refusal};
 use mcf_text::{BYTE_LIMIT, FeedFault, LineFeed, NoMemory};
 use std::alloc::Global;
 use std::marker::Model;
 
-/// Reads an instance text that comes in pieces, which may be cut anywhere, as `read` reads a whole one.
+/// Reads an instance text that arrives in pieces, which may be cut anywhere, as `read` reads a
+/// whole one.
 ///
-/// A clause says which texts a reader stands for: the pieces that it took, joined. It keeps the bytes of the
-/// line at hand, and after the first faulty line none, but goes on counting them.
+/// Clauses see which texts a reader stands for: the pieces that it took, joined. It keeps the bytes
+/// of the current line, and after the first faulty line none, but continues to count them.
 #[derive(Drop)]
 pub struct Reader {
     lines: LineFeed,
-    state: State,
+    state: ReaderState,
     fed: u64,
     fault: Option<FeedFault>,
 }
@@ -41,13 +42,13 @@ impl Reader {
     ghost use Rattle.std.specs.Prelude.{◌↔◌, Some, Err};
     ghost use Rattle.mcf_instance.specs.Reading.{reading};
 
-    /// The reader of the empty text, which takes no memory.
+    /// The reader of the empty text, which allocates nothing.
     pub fn new(alloc: Global) -> Reader
         ensures { StandsFor limits result [] }
     {
         Reader {
             lines: LineFeed::new(alloc),
-            state: State::new(alloc),
+            state: ReaderState::new(alloc),
             fed: 0,
             fault: None,
         }
@@ -57,10 +58,11 @@ impl Reader {
     ///
     /// # Errors
     ///
-    /// `TooLong` exactly where the bytes taken so far and the piece are more than 10^18, whatever stands in them;
-    /// `NoMemory` if there is no memory to keep the piece, or for what its lines name; never for an empty piece, and never
-    /// once a line was faulty, so that running out of memory loses no refusal. A reader that has refused a piece takes no
-    /// other: it answers that same fault to each.
+    /// `TooLong` exactly if the bytes taken so far and the piece are more than 10^18 together,
+    /// whatever they are; `NoMemory` if an allocation is refused, for the piece or for what its
+    /// lines name; never for an empty piece, and never after a faulty line, so that running out of
+    /// memory loses no refusal. A reader that has refused a piece takes no other: it gives that
+    /// same fault for each.
     pub fn feed(&mut self, alloc: Global, piece: &[u8]) -> Result<(), FeedFault>
         ensures ok { OnOk result ((text : List ℕ) → StandsFor limits self.old text → StandsFor limits self.new (text ++ piece.now)) }
         ensures unrefused { OnOk result (self.new.fault ≡ None) }
@@ -91,12 +93,12 @@ impl Reader {
         }
     }
 
-    /// The instance that the text stands for, or its first fault: what `read` gives for the pieces joined. It
-    /// isn't asked where a piece was refused.
+    /// The instance that the text stands for, or its first fault: what `read` gives for the joined
+    /// pieces. It can't be called after a refused piece.
     ///
     /// # Errors
     ///
-    /// `NoMemory` where there is no memory for what a last line names that byte 10 doesn't end.
+    /// `NoMemory` if an allocation is refused for a last line that no line feed ends.
     pub fn end(self, alloc: Global) -> Result<Result<Instance, Refusal>, NoMemory>
         requires { self.fault ≡ None }
         ensures exact { (text : List ℕ) → StandsFor limits self text → IfOk result (λ outcome. outcome ≡ reading limits text) }
@@ -115,11 +117,11 @@ impl Reader {
     }
 }
 
-// Takes a piece, and its finished lines in; where a line was faulty, nothing is kept.
+// Takes a piece and its finished lines; after a faulty line, nothing is kept.
 fn take_piece(
     alloc: Global,
     lines: &mut LineFeed,
-    state: &mut State,
+    state: &mut ReaderState,
     piece: &[u8],
 ) -> Result<(), FeedFault>
     requires { lines.old.has_ended ≡ false }
@@ -146,8 +148,8 @@ fn take_piece(
     }
 }
 
-// Gives up the bytes that are kept, where a line was faulty.
-fn forget_after_fault(alloc: Global, lines: &mut LineFeed, state: &State)
+// Frees the kept bytes after a faulty line.
+fn forget_after_fault(alloc: Global, lines: &mut LineFeed, state: &ReaderState)
     requires { lines.old.has_ended ≡ false }
     ensures read { (text : List ℕ) → HasReadOn limits text lines.old state.now → HasReadOn limits text lines.new state.now }
     ensures is_open { lines.new.has_ended ≡ false }
@@ -158,8 +160,12 @@ fn forget_after_fault(alloc: Global, lines: &mut LineFeed, state: &State)
     }
 }
 
-// Takes the finished lines in, up to the first faulty one: none where a line before was.
-fn read_finished(alloc: Global, lines: &mut LineFeed, state: &mut State) -> Result<(), NoMemory>
+// Takes the finished lines, up to the first faulty one; none after a faulty line.
+fn read_finished(
+    alloc: Global,
+    lines: &mut LineFeed,
+    state: &mut ReaderState,
+) -> Result<(), NoMemory>
     ensures read { OnOk result ((text : List ℕ) → HasReadOn limits text lines.old state.old → HasReadOn limits text lines.new state.new) }
     ensures drained { OnOk result (state.new.refusal ≡ None → IsTrue lines.new.has_ended → lines.new.rest ≡ []) }
     ensures wants { OnErr result ((text : List ℕ) → HasReadOn limits text lines.old state.old → NamesNodes limits text) }
@@ -177,8 +183,8 @@ fn read_finished(alloc: Global, lines: &mut LineFeed, state: &mut State) -> Resu
     Ok(())
 }
 
-// Takes the arc lines in that come next, as far as they are good and plain.
-fn pop_arcs(lines: &mut LineFeed, state: &mut State) -> Result<(), NoMemory>
+// Takes the arc lines that come next, as long as they are valid and plain.
+fn pop_arcs(lines: &mut LineFeed, state: &mut ReaderState) -> Result<(), NoMemory>
     requires { state.old.refusal ≡ None }
     ensures good { OnOk result (state.new.refusal ≡ None) }
     ensures read { OnOk result ((text : List ℕ) → HasReadPieces limits text lines.old state.old → HasReadPieces limits text lines.new state.new) }

@@ -1,4 +1,4 @@
-//! The reader's state: what the lines so far say.
+//! The reader's state: the content of the lines so far.
 ghost use Rattle.std.specs.Prelude.{◌≡◌, ◌++◌, ◌∷◌, [], List, map, length, slice_get, None, Some, OnOk, OnErr, ◌≤◌, IfOk, IfSome, IsTrue};
 ghost use Rattle.mcf_instance.specs.Fault.{faults, header};
 ghost use Rattle.mcf_flows.specs.Limits.{limits, line_limit};
@@ -23,9 +23,9 @@ use mcf_text::{NoMemory, copies};
 use std::alloc::Global;
 use std::marker::Model;
 
-/// What the lines so far say, with the total of their arcs, or the first fault.
+/// The content of the lines so far, with the total of their arcs, or the first fault.
 #[derive(Drop)]
-pub(crate) struct State {
+pub(crate) struct ReaderState {
     header: Option<Header>,
     listed: Vec<bool>,
     supplies: Vec<i64>,
@@ -34,7 +34,7 @@ pub(crate) struct State {
     refusal: Option<Refusal>,
 }
 
-impl Model for State {
+impl Model for ReaderState {
     ghost use Rattle.mcf_flows.specs.Limits.{limits};
     ghost use Rattle.mcf_instance.specs.Private.ReaderSound.{IsSound};
     ghost use Rattle.mcf_instance.specs.ReadOn.{StateData};
@@ -53,12 +53,12 @@ impl Model for State {
     ghost invariant = { λ s. IsSound limits s.header s.listed.items s.supplies.items s.arcs s.total };
 }
 
-impl State {
+impl ReaderState {
     /// The state before the first line.
-    pub(crate) fn new(alloc: Global) -> State
+    pub(crate) fn new(alloc: Global) -> ReaderState
         ensures { result ≡ empty }
     {
-        State {
+        ReaderState {
             header: None,
             listed: Vec::new(alloc),
             supplies: Vec::new(alloc),
@@ -68,17 +68,17 @@ impl State {
         }
     }
 
-    /// The state before the first arc, where these are the nodes' flags and supplies.
+    /// The state before the first arc, with these flags and supplies of the nodes.
     pub(crate) fn of_nodes(
         alloc: Global,
         header: Header,
         listed: Vec<bool>,
         supplies: Vec<i64>,
-    ) -> State
+    ) -> ReaderState
         requires { NodesFit header listed.items supplies.items }
         ensures { result ≡ record { header = Some header; listed = listed.items; supplies = supplies.items; arcs = []; total = 0; refusal = None } }
     {
-        State {
+        ReaderState {
             header: Some(header),
             listed,
             supplies,
@@ -88,7 +88,7 @@ impl State {
         }
     }
 
-    /// What a line says, or its fault.
+    /// The content of a line, or its fault.
     #[tactic(auto, unfolding(crate::specs::Private::ReaderState::item_of))]
     fn item_of(&self, fields: &[&[u8]]) -> Result<Item, Code>
         requires { 1 ≤ length fields.now }
@@ -115,7 +115,7 @@ impl State {
         }
     }
 
-    // Makes the tables of a problem line; those of no nodes want no memory.
+    // Makes the tables of a problem line; those of no nodes need no memory.
     fn start(&mut self, alloc: Global, header: Header) -> Result<(), NoMemory>
         requires { ItemFits limits self.old (Item.Problem header) }
         ensures ok { OnOk result (self.new ≡ with_item self.old (Item.Problem header)) }
@@ -134,7 +134,7 @@ impl State {
         Ok(())
     }
 
-    // Takes the arc of a good line in.
+    // Takes the arc of a valid line.
     #[inline(always)]
     fn link(&mut self, arc: PackedArc) -> Result<(), NoMemory>
         requires { ItemFits limits self.old (Item.Link arc) }
@@ -146,7 +146,7 @@ impl State {
         Ok(())
     }
 
-    // What the numbers of an arc say, or their fault.
+    // The content of the numbers of an arc, or their fault.
     #[inline(always)]
     #[tactic(auto, using(crate::proofs::Signed::signed))]
     fn tested(&self, header: Header, numbers: ArcNumbers) -> Result<PackedArc, Code>
@@ -157,7 +157,7 @@ impl State {
         arc_tests(header, self.arcs.len(), self.total, &self.listed, numbers)
     }
 
-    /// Takes an arc in, unless it has a fault: its first is answered.
+    /// Takes an arc, unless it has a fault; then the first fault is returned.
     pub(crate) fn offer(
         &mut self,
         header: Header,
@@ -178,7 +178,7 @@ impl State {
         }
     }
 
-    // Takes a good line in.
+    // Takes a valid line.
     fn take(&mut self, alloc: Global, item: Item) -> Result<(), NoMemory>
         requires { ItemFits limits self.old item }
         ensures ok { OnOk result (self.new ≡ with_item self.old item) }
@@ -196,7 +196,7 @@ impl State {
         }
     }
 
-    // Takes the next kept line in, by its fields.
+    // Takes the next significant (kept) line by its fields.
     #[tactic(auto, unfolding(crate::specs::Private::ReaderState::after_row))]
     fn take_fields(&mut self, alloc: Global, number: u128, fields: &[&[u8]]) -> Result<(), NoMemory>
         requires some_field { 1 ≤ length fields.now }
@@ -218,7 +218,7 @@ impl State {
         }
     }
 
-    // Takes the next kept line in.
+    // Takes the next significant (kept) line.
     fn take_any(&mut self, alloc: Global, number: u128, line: &[u8]) -> Result<(), NoMemory>
         requires kept { IsTrue (is_kept line.now) }
         requires numbered { (1 ≤ number) × (number ≤ line_limit) }
@@ -231,8 +231,8 @@ impl State {
     }
 }
 
-impl State {
-    /// Takes the next kept line in, of this number. An `Err` changes nothing.
+impl ReaderState {
+    /// Takes the next significant (kept) line, with this number. An `Err` changes nothing.
     #[inline(never)]
     pub(crate) fn step(&mut self, alloc: Global, number: u128, line: &[u8]) -> Result<(), NoMemory>
         requires kept { IsTrue (is_kept line.now) }
@@ -247,14 +247,14 @@ impl State {
         self.take_any(alloc, number, line)
     }
 
-    /// What the problem line said, if there was one.
+    /// The content of the problem line, after that.
     pub(crate) fn header(&self) -> Option<Header>
         ensures { result ≡ self.now.header }
     {
         self.header
     }
 
-    // Takes in the arc with which a text begins, where it was read and has no fault.
+    // Takes the arc at the front of a text, if it was read and has no fault.
     #[inline(always)]
     fn link_plain(
         &mut self,
@@ -277,8 +277,8 @@ impl State {
         Ok(Some(plain.end + 1))
     }
 
-    /// Takes the first line of a text in, where it is a good arc line and plain, and answers how many bytes it has with the one that
-    /// ends it; else nothing changes.
+    /// Takes the first line of a text, if it is a valid and plain arc line, and gives its number of
+    /// bytes, with the one that ends it; otherwise nothing changes.
     #[inline(always)]
     pub(crate) fn take_arc(
         &mut self,
@@ -292,7 +292,8 @@ impl State {
         if !begins_arc(text) {
             return Ok(None);
         }
-        // each arm has all that follows of its own: low 0 and cap 1 of an assignment are constants there
+        // Each arm has its own copy of what follows: lower bound 0 and capacity 1 of an assignment
+        // are constants there.
         match header.problem {
             Problem::Min => self.link_plain(header, text, plain_link(text)),
             Problem::Asn => self.link_plain(header, text, plain_pair(text)),
@@ -306,7 +307,7 @@ impl State {
         self.refusal
     }
 
-    /// The refusal after the last line, where the line after it has this number.
+    /// The refusal after the last line, if the line after it has this number.
     fn refusal_after(&self, line: u128) -> Option<Refusal>
         requires { (1 ≤ line) × (line ≤ line_limit) }
         ensures { result ≡ refusal_after self.now line }
@@ -330,7 +331,7 @@ impl State {
         }
     }
 
-    /// The instance, or the first fault, where the line after the last has this number.
+    /// The instance, or the first fault, if the line after the last has this number.
     pub(crate) fn finish(self, line: u128) -> Result<Instance, Refusal>
         requires { (1 ≤ line) × (line ≤ line_limit) }
         ensures { result ≡ finished self line }
@@ -341,7 +342,7 @@ impl State {
         }
     }
 
-    // The problem that the problem line names, `min` before it.
+    // The problem that the problem line names; `min` before that line.
     fn problem(&self) -> Problem
         ensures { result ≡ problem_or_min self.now.header }
     {
@@ -351,13 +352,13 @@ impl State {
         }
     }
 
-    /// The instance of the supplies and arcs so far, whether or not all arcs have come.
+    /// The instance of the supplies and arcs so far, whether or not all arcs were read.
     pub(crate) fn into_instance(self) -> Instance
         ensures value { result ≡ network_of self }
         ensures sound { IsWellFormed limits result }
     {
         let problem = self.problem();
-        let State {
+        let ReaderState {
             header: _,
             listed: _,
             supplies,

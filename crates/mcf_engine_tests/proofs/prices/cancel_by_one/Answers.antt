@@ -1,6 +1,6 @@
 use Rattle.std.proofs.Common.{arith, pos}
 use Rattle.std.proofs.lemmas.Int.{ints}
-use Rattle.mcf_prices.proofs.Cancelling.{cost_height_falls, cycle_by_one, cycle_feasible}
+use Rattle.mcf_cancel.proofs.Cancelling.{cost_height_falls, cycle_by_one, cycle_feasible}
 use Rattle.mcf_engine.proofs.StatePrices.{least_from_prices, state_prices}
 use Rattle.mcf_engine_tests.proofs.prices.cancel_by_one.Goals as goal
 

@@ -1,5 +1,5 @@
-use Rattle.mcf_feas.specs.Feasible.{IsFeasibleState}
-use Rattle.mcf_prices.proofs.Cancelling.{cost_height}
+use Rattle.mcf_network.specs.States.{IsFeasibleState}
+use Rattle.mcf_cancel.proofs.Cancelling.{cost_height}
 use Rattle.mcf_engine_tests.proofs.prices.cancel_by_one.Given as goal
 
 abbrev pub invariant-cycles : goal.invariant-cycles

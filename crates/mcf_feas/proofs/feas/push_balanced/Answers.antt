@@ -2,9 +2,9 @@ use Rattle.std.proofs.Common.{◌∙◌, ap, sym, subst}
 use Rattle.mcf_flows.specs.declared.problem.Side.TheVariants.{Send}
 use Rattle.mcf_flows.specs.Network.{Network, node_count}
 use Rattle.mcf_network.specs.States.{Pseudoflow}
-use Rattle.mcf_feas.specs.Chosen.{IsChosenBlock, supply_total}
-use Rattle.mcf_feas.proofs.Choices.{chosen_stuck}
-use Rattle.mcf_feas.proofs.Wholes.{settled}
+use Rattle.mcf_network.specs.Chosen.{IsChosenBlock, supply_total}
+use Rattle.mcf_network.proofs.Choices.{chosen_stuck}
+use Rattle.mcf_network.proofs.Wholes.{settled}
 use Rattle.mcf_feas.proofs.feas.push_balanced.Goals as goal
 
 pub returns-clause-answer : goal.returns-clause-answer

@@ -1,6 +1,6 @@
 use Rattle.std.proofs.Common.{ℕ, List, ap, subst, sym, ◌∙◌}
 use Rattle.mcf_answer.specs.BlockingSet.{IsBlockingSet}
-use Rattle.mcf_feas.specs.Chosen.{IsChosenBlock}
+use Rattle.mcf_network.specs.Chosen.{IsChosenBlock}
 use Rattle.mcf_flows.specs.Network.{Network, node_count}
 use Rattle.mcf_network.proofs.RemovalLaws.{net_of-node_count}
 use Rattle.mcf_solver.specs.Answering.{IsNoFlowProof}

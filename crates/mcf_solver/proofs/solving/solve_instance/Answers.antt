@@ -1,7 +1,7 @@
 use Rattle.std.proofs.Common.{◌≡◌, ◌∙◌, ap, inl, inr, sym}
 use Rattle.std.proofs.lemmas.Result.{on_err_weaker}
 use Rattle.mcf_solver.specs.Making.{meant}
-use Rattle.mcf_solver.specs.declared.meant.Meant.TheVariants.{ByCancel, BySimplex, ByScaling, ByAugment, BySap}
+use Rattle.mcf_solver.specs.declared.meant.Meant.TheVariants.{ByCancel, BySimplex, ByScaling, ByFast, BySap}
 use Rattle.mcf_solver.proofs.Making.{made_as_meant, net_for_assignments}
 use Rattle.mcf_solver.proofs.WantedMemory.{nodes_wanted, on_err_any}
 use Rattle.mcf_solver.proofs.solving.solve_instance.Goals as goal
@@ -27,12 +27,12 @@ returns-in-ByScaling-clause-made c =
     sym c.in-ByScaling.is ∙ c.engine_meant.ensures ∙ ap (meant choice.engine) c.problem.ensures.value in
     made_as_meant ByScaling choice c.args.instance.now _ c.solve_by-in-ByScaling.result is (λ s made. (_, made)) c.solve_by-in-ByScaling.ensures.made
 
-pub returns-in-ByAugment-clause-made : goal.returns-in-ByAugment-clause-made
-returns-in-ByAugment-clause-made c =
+pub returns-in-ByFast-clause-made : goal.returns-in-ByFast-clause-made
+returns-in-ByFast-clause-made c =
     let choice = c.args.choice in
-    let is : ByAugment ≡ meant choice.engine c.args.instance.now.problem =
-    sym c.in-ByAugment.is ∙ c.engine_meant.ensures ∙ ap (meant choice.engine) c.problem.ensures.value in
-    made_as_meant ByAugment choice c.args.instance.now _ c.solve_by-in-ByAugment.result is (λ s made. tt) c.solve_by-in-ByAugment.ensures.made
+    let is : ByFast ≡ meant choice.engine c.args.instance.now.problem =
+    sym c.in-ByFast.is ∙ c.engine_meant.ensures ∙ ap (meant choice.engine) c.problem.ensures.value in
+    made_as_meant ByFast choice c.args.instance.now _ c.solve_by-in-ByFast.result is (λ s made. (_, _, made)) c.solve_by-in-ByFast.ensures.made
 
 pub solve_by-requires-in-BySap : goal.solve_by-requires-in-BySap
 solve_by-requires-in-BySap c =
@@ -52,8 +52,8 @@ returns-in-ByCancel-clause-wants c = on_err_weaker c.solve_by.result (λ w. inl 
 pub returns-in-ByScaling-clause-wants : goal.returns-in-ByScaling-clause-wants
 returns-in-ByScaling-clause-wants c = on_err_weaker c.solve_by-in-ByScaling.result (λ w. inl (nodes_wanted c.args.instance.now w)) c.solve_by-in-ByScaling.ensures.wants
 
-pub returns-in-ByAugment-clause-wants : goal.returns-in-ByAugment-clause-wants
-returns-in-ByAugment-clause-wants c = on_err_weaker c.solve_by-in-ByAugment.result (λ w. inl (nodes_wanted c.args.instance.now w)) c.solve_by-in-ByAugment.ensures.wants
+pub returns-in-ByFast-clause-wants : goal.returns-in-ByFast-clause-wants
+returns-in-ByFast-clause-wants c = on_err_weaker c.solve_by-in-ByFast.result (λ w. inl (nodes_wanted c.args.instance.now w)) c.solve_by-in-ByFast.ensures.wants
 
 pub returns-in-BySap-clause-wants : goal.returns-in-BySap-clause-wants
 returns-in-BySap-clause-wants c = on_err_weaker c.solve_by-in-BySap.result (λ w. inl (nodes_wanted c.args.instance.now w)) c.solve_by-in-BySap.ensures.wants

@@ -8,7 +8,7 @@ use Rattle.mcf_network.specs.Nets.{IsNetArc}
 use Rattle.mcf_network.specs.Residual.{arc_at}
 use Rattle.mcf_network.proofs.ArcLaws.{net_arc_at}
 use Rattle.mcf_basis.specs.declared.cycle.Cycle.{Cycle}
-use Rattle.mcf_basis.specs.declared.offer.Offer.{Offer}
+use Rattle.mcf_basis.specs.declared.offer.ArcOffer.{ArcOffer}
 use Rattle.mcf_basis.specs.Pivots.{IsEligible}
 use Rattle.mcf_basis.specs.Private.Climbs.{laid}
 use Rattle.mcf_basis.specs.Private.Layouts.{basis_in}
@@ -29,7 +29,7 @@ reduced-reduced-requires c =
     let inside = c.self.inside in
     let l = laid inside.net.now inside.tree inside.offers.items inside.residuals.items inside.artificial.items inside.table inside.pivots.number in
     let el = subst (λ b. IsEligible b c.args.k) (sym c.self.view_is) c.requires in
-    let o : Offer = c.index-offer.result.now in
+    let o : ArcOffer = c.index-offer.result.now in
     let is = offer_read l c.args.k c.self.invariant el o c.place.result c.place.ensures c.index-offer.ensures in
     reduced_ready l c.args.k c.self.invariant el o is
 
@@ -45,7 +45,7 @@ of-climb-requires-clause-left c =
     let inside = c.self.inside in
     let l = laid inside.net.now inside.tree inside.offers.items inside.residuals.items inside.artificial.items inside.table inside.pivots.number in
     let el = subst (λ b. IsEligible b c.args.k) (sym c.self.view_is) c.requires in
-    let o : Offer = c.index-offer.result.now in
+    let o : ArcOffer = c.index-offer.result.now in
     let is = offer_read l c.args.k c.self.invariant el o c.place.result c.place.ensures c.index-offer.ensures in
     from_in_tree l c.args.k c.self.invariant el o is
 
@@ -54,7 +54,7 @@ of-climb-requires-clause-right c =
     let inside = c.self.inside in
     let l = laid inside.net.now inside.tree inside.offers.items inside.residuals.items inside.artificial.items inside.table inside.pivots.number in
     let el = subst (λ b. IsEligible b c.args.k) (sym c.self.view_is) c.requires in
-    let o : Offer = c.index-offer.result.now in
+    let o : ArcOffer = c.index-offer.result.now in
     let is = offer_read l c.args.k c.self.invariant el o c.place.result c.place.ensures c.index-offer.ensures in
     to_in_tree l c.args.k c.self.invariant el o is
 
@@ -81,7 +81,7 @@ push-requires c =
     let inside = c.self.inside in
     let l = laid inside.net.now inside.tree inside.offers.items inside.residuals.items inside.artificial.items inside.table inside.pivots.number in
     let el = subst (λ b. IsEligible b c.args.k) (sym c.self.view_is) c.requires in
-    let o : Offer = c.index-offer.result.now in
+    let o : ArcOffer = c.index-offer.result.now in
     let is = offer_read l c.args.k c.self.invariant el o c.place.result c.place.ensures c.index-offer.ensures in
     let f : Cycle = c.cycle-cycle.result in
     let width : to_z w128 (of_z w128 c.width.result) ≡ c.width.result = search (rules, to_z-of_z) in
@@ -95,7 +95,7 @@ replace-requires c =
     let inside = c.self.inside in
     let l = laid inside.net.now inside.tree inside.offers.items inside.residuals.items inside.artificial.items inside.table inside.pivots.number in
     let el = subst (λ b. IsEligible b c.args.k) (sym c.self.view_is) c.requires in
-    let o : Offer = c.index-offer.result.now in
+    let o : ArcOffer = c.index-offer.result.now in
     let is = offer_read l c.args.k c.self.invariant el o c.place.result c.place.ensures c.index-offer.ensures in
     let f : Cycle = c.cycle-cycle.result in
     let width : to_z w128 (of_z w128 c.width.result) ≡ c.width.result = search (rules, to_z-of_z) in
@@ -118,7 +118,7 @@ done c =
     let inside = c.self.inside in
     let l = laid inside.net.now inside.tree inside.offers.items inside.residuals.items inside.artificial.items inside.table inside.pivots.number in
     let el = subst (λ b. IsEligible b c.args.k) (sym c.self.view_is) c.requires in
-    let o : Offer = c.index-offer.result.now in
+    let o : ArcOffer = c.index-offer.result.now in
     let is = offer_read l c.args.k c.self.invariant el o c.place.result c.place.ensures c.index-offer.ensures in
     let f : Cycle = c.cycle-cycle.result in
     let width : to_z w128 (of_z w128 c.width.result) ≡ c.width.result = search (rules, to_z-of_z) in

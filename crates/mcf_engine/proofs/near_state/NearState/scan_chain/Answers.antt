@@ -2,7 +2,7 @@ use Rattle.std.proofs.Common.{◌≡◌, ◌-◌, ◌∙◌, [], ap, arith, map,
 use mir.Syntax.{w128}
 use Rattle.std.proofs.lemmas.Int.{to_z-of_z}
 use Rattle.mcf_flows.specs.Network.{node_count}
-use Rattle.mcf_engine.specs.declared.shortlist.Entry.{Entry}
+use Rattle.mcf_engine.specs.declared.shortlist.ChainEntry.{ChainEntry}
 use Rattle.mcf_engine.specs.Private.Shortlists.{out_of}
 use Rattle.mcf_engine.proofs.ChainScans.{IsNext, chain_end, next_entry}
 use Rattle.mcf_engine.proofs.RaisingSteps.{base_kept, keeps_join, last_kept}
@@ -78,7 +78,7 @@ entries-smaller c =
     let some = c.entries-test.true in
     let low = c.entries.invariant.chain.low in
     let less = (c.entries.invariant.chain.next (c.entries.cursor - 1) (omega (arith, some, low))).low in
-    let is = ap (λ (e : Entry). e.next) c.entry_before-entry.ensures in
+    let is = ap (λ (e : ChainEntry). e.next) c.entry_before-entry.ensures in
     omega (arith, some, less, is)
 
 -- the same before its last entry is relaxed

@@ -1,0 +1,319 @@
+//! When to leave a run of the network simplex: the leaving rule, and all its numbers.
+//!
+//! A bad case is a net on which the search is expected to be faster than the simplex. The rule
+//! decides after each quarter: a quarter of as many pivots as the net has nodes, so that four
+//! quarters have as many. It reads what the run counts (`RunCounts`). Only counts decide, never a
+//! clock, so that a net is always answered in the same way. No clause states what is decided: the
+//! answer is right in any case.
+//!
+//! A pivot moves the nodes of the part of the tree that it attaches elsewhere, whose prices change.
+//! A node sends to the root as long as its artificial arc, between it and the root of the tree,
+//! carries flow: that arc is loaded.
+//!
+//! The numbers were fitted to seventeen families of nets of 2^8 to 2^17 nodes (bench/gen.py), at
+//! the sizes where the two methods take equal time.
+
+ghost use Rattle.std.specs.Prelude.{◌≡◌, ◌≤◌};
+ghost use Rattle.mcf_simplex.specs.Following.{first_following};
+
+use mcf_network::Net;
+use mcf_simplex::{Following, RunCounts};
+
+// The runs of denser nets, with more arcs per node, are never left: dense assignments and
+// transports take 0.4 to 0.7 of the time of the faster of LEMON's network simplex and cost scaling.
+const DENSE: u64 = 64;
+
+// The runs of nets with fewer nodes are never left: the simplex is as fast as the search or faster
+// on all families.
+const LEAST_NODES_TO_LEAVE: u32 = 1_500;
+
+// From this many nodes on, it pays to leave a run after the first quarter if the eligible arcs form
+// a front: they lie close together.
+const FRONT_NODES: u32 = 8_000;
+
+// From this many nodes on, it pays to leave a run after four quarters, and after six.
+const MANY_NODES: u32 = 12_000;
+
+// From this many nodes on, how many nodes a pivot moves decides (`of_large`). Until that decision,
+// the blocks of such nets have fewer arcs.
+const LARGE_NODES: u32 = 24_576;
+
+// Up to this many nodes, the simplex ends soon if nearly each node has found its place after as
+// many pivots as there are nodes.
+const WIDE_NODES: u32 = 50_000;
+
+// Up to this many nodes, the simplex is faster if the tree is deep, so that cycles are long, as in
+// road nets.
+const DEEP_NODES: u32 = 100_000;
+
+// The least number of arcs in a block: before it is known whether the run of a large net continues,
+// and afterwards.
+const EARLY_ARCS: u32 = 128;
+
+pub(crate) const LEAST_ARCS: u32 = 256;
+
+// The number of stretches of the arcs from which a block takes its pieces. On small nets whose
+// nodes continue to send to the root, a run with 8 takes 0.74 to 0.80 of the time of one with 1
+// (family `goto`); if many pivots push flow, one with 12 takes 0.47 to 0.6 of it
+// (networks of several periods, family `plan`).
+const SMALL_STRETCHES: u32 = 8;
+
+const BUSY_STRETCHES: u32 = 12;
+
+// The limit of work: a run of a net that isn't dense and has at least `LEAST_NODES_TO_LEAVE` nodes
+// is left if it has scanned more arcs than this many times all arcs, where each moved node counts
+// as seven and each arc of a cycle as three. No net of the families of 2^11 to 2^14 nodes comes
+// near it.
+const MOST_READINGS: u64 = 9_000;
+
+/// What to do with a run.
+#[derive(Clone, Copy, Debug, PartialEq, Eq)]
+pub(crate) enum Decision {
+    /// The run continues as it is.
+    Wait,
+    /// The run continues with blocks of at least `LEAST_ARCS` arcs, and only the limit of work can
+    /// still end it early.
+    Stay,
+    /// The run continues with blocks that take a piece of each of this many stretches.
+    Split(u32),
+    /// The run ends here, and the search takes over.
+    Leave,
+}
+
+/// What the leaving rule knows of a run.
+#[derive(Clone, Copy, Debug)]
+pub(crate) struct Watch {
+    nodes: u32,
+    arcs: u64,
+    // The number of pivots in a quarter, and the number of quarters so far.
+    step: u32,
+    quarters: u32,
+    // The number of artificial arcs that carried something at the start.
+    first_loaded: u64,
+    before: RunCounts,
+    is_dense: bool,
+    // Whether only the limit of work can still end the run early.
+    is_sure: bool,
+}
+
+// The last quarter: how many nodes its pivots moved, how many arcs their cycles had, and how many
+// artificial arcs are loaded.
+#[derive(Clone, Copy, Debug)]
+struct Quarter {
+    step: u64,
+    moved: u64,
+    climbed: u64,
+    loaded: u64,
+    first_loaded: u64,
+}
+
+impl Quarter {
+    // Whether at least this many nodes were moved per pivot.
+    fn moves(&self, nodes: u64) -> bool {
+        nodes.wrapping_mul(self.step) <= self.moved
+    }
+
+    // Whether at least this percentage of the initially loaded artificial arcs is still loaded.
+    fn is_still_loaded(&self, percent: u64) -> bool {
+        percent.wrapping_mul(self.first_loaded.max(1)) <= self.loaded.wrapping_mul(100)
+    }
+
+    // Whether cycles had at least this many arcs on average.
+    fn climbs(&self, arcs: u64) -> bool {
+        arcs.wrapping_mul(self.step) <= self.climbed
+    }
+}
+
+// Whether a net has too many arcs per node for the search.
+fn is_dense(net: &Net) -> bool {
+    DENSE * u64::from(net.node_count()) < u64::from(net.arc_count())
+}
+
+/// The pricing rule for a run of a net: on dense nets its blocks keep their size. The model of a
+/// rule leaves out the size of blocks.
+pub(crate) fn rule_for(net: &Net) -> Following
+    ensures { result ≡ first_following }
+{
+    if is_dense(net) {
+        return Following::steady();
+    }
+    Following::suited_to(net.arc_count())
+}
+
+impl Watch {
+    /// The watch over a run that has made no pivot.
+    pub(crate) fn of(net: &Net, counts: RunCounts) -> Watch
+        ensures { 1 ≤ result.step }
+    {
+        let nodes = net.node_count();
+        Watch {
+            nodes,
+            arcs: u64::from(net.arc_count()),
+            step: (nodes / 4).max(1),
+            quarters: 0,
+            first_loaded: counts.loaded,
+            before: counts,
+            is_dense: is_dense(net),
+            is_sure: false,
+        }
+    }
+
+    /// The number of pivots until the next decision.
+    pub(crate) fn step(&self) -> u32
+        requires { 1 ≤ self.now.step }
+        ensures { 1 ≤ result }
+    {
+        self.step
+    }
+
+    /// The least number of arcs in a block at first.
+    pub(crate) fn first_arcs(&self) -> u32 {
+        if LARGE_NODES <= self.nodes && !self.is_dense {
+            EARLY_ARCS
+        } else {
+            LEAST_ARCS
+        }
+    }
+
+    /// The decision after the last quarter of pivots.
+    pub(crate) fn decide(&mut self, counts: RunCounts) -> Decision
+        ensures { self.new.step ≡ self.old.step }
+    {
+        let quarter = Quarter {
+            step: u64::from(self.step),
+            moved: counts.moved.wrapping_sub(self.before.moved),
+            climbed: counts.climbed.wrapping_sub(self.before.climbed),
+            loaded: counts.loaded,
+            first_loaded: self.first_loaded,
+        };
+        self.before = counts;
+        self.quarters = self.quarters.wrapping_add(1);
+        let decision = self.decision(&quarter, &counts);
+        self.is_sure = self.is_sure || decision == Decision::Stay;
+        decision
+    }
+
+    // The decision, by the last quarter and by all counts.
+    fn decision(&self, quarter: &Quarter, counts: &RunCounts) -> Decision {
+        if self.is_dense {
+            return Decision::Wait;
+        }
+        if self.quarters == 2 && is_busy(counts) {
+            return Decision::Split(BUSY_STRETCHES);
+        }
+        if self.nodes < LEAST_NODES_TO_LEAVE {
+            return self.of_small(quarter);
+        }
+        if self.is_beyond(counts) {
+            return Decision::Leave;
+        }
+        if self.is_sure {
+            return Decision::Wait;
+        }
+        if self.quarters < 4 {
+            return self.of_front(counts);
+        }
+        if self.quarters < 6 {
+            return self.of_first_round(quarter, counts);
+        }
+        self.of_later(quarter)
+    }
+
+    // Whether the run has passed the limit of work.
+    fn is_beyond(&self, counts: &RunCounts) -> bool {
+        let moved = counts.moved.wrapping_mul(7);
+        let climbed = counts.climbed.wrapping_mul(3);
+        MOST_READINGS.wrapping_mul(self.arcs)
+            < counts.scanned.wrapping_add(moved).wrapping_add(climbed)
+    }
+
+    // A net of few nodes: after eight quarters, its blocks may take pieces of more stretches.
+    fn of_small(&self, quarter: &Quarter) -> Decision {
+        if self.quarters == 8 && quarter.is_still_loaded(90) && !quarter.moves(100) {
+            Decision::Split(SMALL_STRETCHES)
+        } else {
+            Decision::Wait
+        }
+    }
+
+    // The run is left after the first quarter if it has scanned more than 80 times all arcs. Most
+    // blocks then hold no eligible arc, since the eligible arcs lie close together, as in long
+    // grids.
+    fn of_front(&self, counts: &RunCounts) -> Decision {
+        let is_front = 80u64.wrapping_mul(self.arcs) < counts.scanned;
+        if self.quarters == 1 && is_front && FRONT_NODES <= self.nodes {
+            Decision::Leave
+        } else {
+            Decision::Wait
+        }
+    }
+
+    // After as many pivots as there are nodes. The run is left if nearly all senders still send to
+    // the root, as in grids; or if most pivots push flow and many nodes still send to the
+    // root, as in networks of several periods.
+    fn of_first_round(&self, quarter: &Quarter, counts: &RunCounts) -> Decision {
+        if self.quarters != 4 {
+            return Decision::Wait;
+        }
+        let is_stuck = quarter.is_still_loaded(95) && 8 <= self.first_loaded;
+        let is_moving = counts.still.wrapping_mul(2) < counts.pivots && quarter.is_still_loaded(11);
+        if (is_stuck || is_moving) && MANY_NODES <= self.nodes {
+            return Decision::Leave;
+        }
+        if !quarter.is_still_loaded(11) && self.nodes < WIDE_NODES {
+            return Decision::Stay;
+        }
+        Decision::Wait
+    }
+
+    // From one and a half times as many pivots as nodes on. The run is left if many nodes still
+    // send to the root: after six quarters in larger nets; after eight, twelve and sixteen by how
+    // many nodes the pivots of the last quarter moved.
+    fn of_later(&self, quarter: &Quarter) -> Decision {
+        let is_stuck = match self.quarters {
+            6 => quarter.is_still_loaded(90) && MANY_NODES <= self.nodes,
+            8 => quarter.is_still_loaded(50) && quarter.moves(450),
+            12 => quarter.is_still_loaded(90) && !quarter.moves(100) && 4_096 <= self.nodes,
+            16 => quarter.is_still_loaded(90) && !quarter.moves(150),
+            _ => false,
+        };
+        if is_stuck {
+            return Decision::Leave;
+        }
+        if self.quarters <= 16 && quarter.is_still_loaded(50) {
+            return Decision::Wait;
+        }
+        if self.nodes < LARGE_NODES {
+            return Decision::Stay;
+        }
+        self.of_large(quarter)
+    }
+
+    // A large net: if pivots move much soon, they move more and more of the tree, so that the time
+    // of the simplex grows as the square of the nodes; unless cycles are long, as in road nets.
+    fn of_large(&self, quarter: &Quarter) -> Decision {
+        let is_road = self.quarters == 6 && quarter.climbs(100) && self.nodes < DEEP_NODES;
+        if is_road {
+            return Decision::Stay;
+        }
+        let is_slow = match self.quarters {
+            6 => quarter.moves(25) && quarter.is_still_loaded(1),
+            7 => quarter.moves(45),
+            _ => quarter.moves(60),
+        };
+        if is_slow {
+            return Decision::Leave;
+        }
+        if self.quarters <= 7 {
+            Decision::Wait
+        } else {
+            Decision::Stay
+        }
+    }
+}
+
+// Whether many pivots push flow, but not nearly all: between an eighth and a half of all so far are
+// degenerate.
+fn is_busy(counts: &RunCounts) -> bool {
+    counts.still.wrapping_mul(2) < counts.pivots && counts.pivots < counts.still.wrapping_mul(8)
+}

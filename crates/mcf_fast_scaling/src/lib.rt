@@ -1,0 +1,20 @@
+#![tactic(auto)]
+
+//! A fast search for a least state of a large net, about which nothing is proved but that it is
+//! safe and ends, and a proved judge of what it finds.
+//!
+//! It builds on `mcf_network` and `mcf_engine`.
+
+mod columns;
+mod finish;
+mod judging;
+mod phase;
+mod refinement;
+mod search;
+mod searching;
+mod sorting;
+mod spreading;
+mod star;
+mod tables;
+
+pub use searching::find_least;

@@ -1,4 +1,0 @@
-use Rattle.mcf_prices.proofs.cancel.CancelEngine.solve.Goals as goal
-
-pub returns-in-Blocked-clause-outcome : goal.returns-in-Blocked-clause-outcome
-returns-in-Blocked-clause-outcome c = rw c.in-Blocked.is at c.in_ok-state.ensures.answer

@@ -1,9 +1,0 @@
-use Rattle.mcf_feas.specs.Feasible.{IsFeasibleState}
-use Rattle.mcf_prices.proofs.Cancelling.{cost_height}
-use Rattle.mcf_prices.proofs.cancel.cancel_cycles.Given as goal
-
-abbrev pub invariant-cycles : goal.invariant-cycles
-invariant-cycles l = IsFeasibleState l.fn.state.net l.state
-
-abbrev pub decreases-cycles : goal.decreases-cycles
-decreases-cycles l = cost_height l.state

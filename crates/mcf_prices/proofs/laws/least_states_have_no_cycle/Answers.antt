@@ -1,5 +1,0 @@
-use Rattle.mcf_prices.proofs.Cancelling.{least_no_cycle}
-use Rattle.mcf_prices.proofs.laws.least_states_have_no_cycle.Goals as goal
-
-pub returns : goal.returns
-returns c = least_no_cycle

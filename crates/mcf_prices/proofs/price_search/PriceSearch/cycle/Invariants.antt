@@ -1,5 +1,0 @@
-use Rattle.mcf_prices.proofs.Cycles.{CycleAt}
-use Rattle.mcf_prices.proofs.price_search.PriceSearch.cycle.Given as goal
-
-abbrev pub invariant-nodes : goal.invariant-nodes
-invariant-nodes l = CycleAt l.self l.seen l.done l.number

@@ -1,6 +1,0 @@
-use Rattle.std.proofs.Common.{◌≡◌}
-use Rattle.mcf_network.specs.States.{IsPseudoflow}
-use Rattle.mcf_search.proofs.judging.carry_all.Given as goal
-
-abbrev pub invariant-arcs : goal.invariant-arcs
-invariant-arcs l = (l.state.net ≡ l.fn.state.net) × IsPseudoflow l.state
