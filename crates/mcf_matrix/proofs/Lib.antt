@@ -1,0 +1,13 @@
+pub mod Below
+pub mod CoverDuality
+pub mod CutDuality
+pub mod Matched
+pub mod MatchingDuality
+pub mod Pairing
+pub mod PlaceSums
+pub mod PlanDuality
+pub mod PlanSums
+pub mod Rows
+pub mod Shipping
+pub mod Shown
+pub mod Tests

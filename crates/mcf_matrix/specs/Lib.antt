@@ -1,0 +1,13 @@
+pub use Rattle.mcf_flows.specs.Limits
+pub use Rattle.mcf_flows.specs.Network
+pub use Rattle.mcf_flows.specs.WellFormed
+pub mod Costs
+pub mod Covers
+pub mod Cuts
+pub mod Laws
+pub mod Matchings
+pub mod MatrixPrices
+pub mod PlaceSums
+pub mod Plans
+pub mod Tables
+pub mod Private

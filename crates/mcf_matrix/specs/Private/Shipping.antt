@@ -1,0 +1,35 @@
+-- What passes over a transport plan test.
+use Rattle.std.specs.Prelude.{◌≡◌, ℕ, ◌<◌, ◌==◌, IfSome, IsSome, Option, List, length, ℤ, pos, ◌+ℤ◌, ◌-ℤ◌, ◌≤ℤ◌, ◌<ℤ◌}
+use Rattle.std.specs.List.{All}
+use Rattle.mcf_flows.specs.Network.{when}
+use Rattle.mcf_matrix.specs.declared.shipment.Shipment.{Shipment}
+use Rattle.mcf_matrix.specs.Costs.{Costs}
+use Rattle.mcf_matrix.specs.PlaceSums.{at_place}
+use Rattle.mcf_matrix.specs.Plans.{IsShipment, IsTightShipment, plan_sum}
+
+-- an entry of an allowed pair, of no amount below 0, whose reduced cost is 0 if it is used
+abbrev pub IsGoodShipment : Costs → List ℤ → List ℤ → Shipment → Type 0
+IsGoodShipment m u v s = IsShipment m s × IsTightShipment m u v s
+
+-- what the entries bring to the end i
+abbrev pub amount_at : (Shipment → ℕ) → List Shipment → ℕ → ℤ
+amount_at end plan i = plan_sum (λ s. when (end s == i) s.amount) plan
+
+-- each end is a place of the list, and no amount is below 0
+abbrev pub AreSendable : (Shipment → ℕ) → ℕ → List Shipment → Type 0
+AreSendable end n plan = All (λ s. (end s < n) × (pos 0 ≤ℤ s.amount)) plan
+
+-- the ends get exactly what the list says
+abbrev pub AreMet : (Shipment → ℕ) → List Shipment → List ℤ → Type 0
+AreMet end plan masses = (i : ℕ) → i < length masses → amount_at end plan i ≡ at_place masses i
+
+-- what is left of the masses after some entries
+pub record IsLeft (end : Shipment → ℕ) (plan : List Shipment) (masses left : List ℤ) : Type 0 where
+  pub as_long : length left ≡ length masses
+  pub each : (i : ℕ) → i < length masses → at_place left i +ℤ amount_at end plan i ≡ at_place masses i
+
+-- the same of an entry's parts
+pub record IsGoodAmount (cost : Option ℤ) (size u v : ℤ) : Type 0 where
+  pub allowed : IsSome cost
+  pub amount : pos 0 ≤ℤ size
+  pub tight : pos 0 <ℤ size → IfSome cost (λ c. c -ℤ u -ℤ v ≡ pos 0)

@@ -1,0 +1,82 @@
+//! The judge of covers: whether too few rows and columns meet every allowed pair.
+ghost use Rattle.std.specs.Prelude.{◌≡◌, ◌+◌, ◌<◌, ◌↔◌, ◌⊎◌, ℕ, List, IsSome, IsTrue, count_by, length, min};
+ghost use Rattle.mcf_matrix.specs.Covers.{AreCovered, IsShortCover};
+ghost use Rattle.mcf_matrix.specs.Matchings.{IsMatching};
+ghost use Rattle.mcf_matrix.specs.PlaceSums.{at_place, is_marked, mark_count};
+ghost use Rattle.mcf_matrix.specs.Private.Narrow.{RowIsCovered};
+ghost use Rattle.mcf_matrix.specs.Tables.{cost_of, whole_costs};
+
+use crate::matrix::{FORBIDDEN, Matrix};
+
+/// Whether the marked rows and columns meet every allowed pair, and are fewer than the smaller side
+/// has, so that there is no matching (the easy half of the theorem of König, 1931): the rows that
+/// aren't marked see only the marked columns, which are too few for them (Hall, 1935).
+///
+/// The tables have an entry for each row and one for each column; those of other lengths are
+/// refused. It takes no memory, and reads the entries of the rows that aren't marked.
+pub fn judge_cover(matrix: &Matrix, rows: &[bool], columns: &[bool]) -> bool
+    ensures exact { IsTrue result ↔ IsShortCover (whole_costs matrix.now) rows.now columns.now }
+    ensures none { IsTrue result → (x : List ℕ) → ¬ IsMatching (whole_costs matrix.now) x }
+{
+    if rows.len() != matrix.rows() {
+        return false;
+    }
+    if columns.len() != matrix.columns() {
+        return false;
+    }
+    if !is_short(matrix, rows, columns) {
+        return false;
+    }
+    are_covered(matrix, rows, columns)
+}
+
+// How many places a table marks.
+fn count_marks(table: &[bool]) -> usize
+    ensures { result ≡ mark_count table.now }
+{
+    table.iter().filter(|mark| **mark).count()
+}
+
+// Whether fewer places are marked than the smaller side has.
+fn is_short(matrix: &Matrix, rows: &[bool], columns: &[bool]) -> bool
+    ensures { IsTrue result ↔ (mark_count rows.now + mark_count columns.now < min matrix.now.rows matrix.now.columns) }
+{
+    let smaller = matrix.rows().min(matrix.columns());
+    let row_marks = count_marks(rows);
+    let column_marks = count_marks(columns);
+    row_marks < smaller && column_marks < smaller - row_marks
+}
+
+// Whether the entry forbids its pair, or its column is marked.
+#[inline(always)]
+fn is_met(cost: i64, mark: bool) -> bool
+    ensures { IsTrue result ↔ (IsSome (cost_of cost) → IsTrue mark) }
+{
+    cost == FORBIDDEN || mark
+}
+
+// Whether the column of each allowed pair of a row is marked.
+fn row_is_covered(row: &[i64], columns: &[bool]) -> bool
+    requires { length columns.now ≡ length row.now }
+    ensures { IsTrue result ↔ RowIsCovered row.now columns.now }
+{
+    let mut covered = true;
+    for column in 0..row.len() {
+        covered &= is_met(row[column], columns[column]);
+    }
+    covered
+}
+
+// Whether each allowed pair has its row or its column marked.
+fn are_covered(matrix: &Matrix, rows: &[bool], columns: &[bool]) -> bool
+    requires rows { length rows.now ≡ matrix.now.rows }
+    requires columns { length columns.now ≡ matrix.now.columns }
+    ensures { IsTrue result ↔ AreCovered (whole_costs matrix.now) rows.now columns.now }
+{
+    for (row, mark) in rows.iter().enumerate() {
+        if !*mark && !row_is_covered(matrix.row(row), columns) {
+            return false;
+        }
+    }
+    true
+}

@@ -1,0 +1,28 @@
+#![tactic(auto)]
+
+//! Cost matrices, their matchings and transport plans, and judges that say whether prices show one
+//! least.
+//!
+//! It stands on `mcf_flows`. Rows and columns count from 0. Definitions stand in `specs/`: `Costs`
+//! says what each pair costs, `Tables` how a matrix is stored, `Matchings` and `MatrixPrices` what
+//! a least matching is and which prices show it.
+
+mod assignment;
+mod cover;
+mod cut;
+mod laws;
+mod matrix;
+mod prices;
+mod shipment;
+mod transport;
+
+pub use assignment::judge_assignment;
+pub use cover::judge_cover;
+pub use cut::judge_transport_cut;
+pub use laws::{
+    covered_has_no_matching, cut_has_no_plan, shown_matchings_are_least,
+    shown_matchings_cost_the_prices, shown_plans_are_least, shown_plans_cost_the_prices,
+};
+pub use matrix::{FORBIDDEN, Matrix, MatrixFault, is_shaped};
+pub use shipment::{Masses, Shipment};
+pub use transport::judge_transport;

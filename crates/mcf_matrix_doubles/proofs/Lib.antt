@@ -1,0 +1,3 @@
+pub mod BitRows
+pub mod Covering
+pub mod Powers

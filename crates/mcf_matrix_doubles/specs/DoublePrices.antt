@@ -1,0 +1,19 @@
+-- Prices of a matrix of doubles: whole numbers of one power of 2.
+-- Source: own
+use Rattle.std.specs.Prelude.{ℕ, ◌-◌, ◌<◌, ◌^◌, IfSome, List, length, map, ℤ, pos, ◌*ℤ◌, ◌-ℤ◌, ◌≤ℤ◌, slice_index}
+use Rattle.mcf_flows.specs.WellFormed.{IsUpTo}
+use Rattle.mcf_matrix.specs.PlaceSums.{at_place}
+use Rattle.mcf_matrix_doubles.specs.Doubles.{double_cost}
+
+-- prices in units of 2^unit, as the whole numbers that they stand for
+abbrev pub in_units : ℕ → List ℤ → List ℤ
+in_units unit prices = map (λ z. z *ℤ pos (2 ^ unit)) prices
+
+-- each price is less than 2^125 from 0
+abbrev pub AreSmallPrices : List ℤ → Type 0
+AreSmallPrices prices = (i : ℕ) → i < length prices → IsUpTo (2 ^ 125 - 1) (at_place prices i)
+
+-- no reduced cost of a row is below 0
+abbrev pub RowHolds : List ℕ → ℤ → List ℤ → ℕ → Type 0
+RowHolds row price prices unit =
+    (j : ℕ) → j < length row → IfSome (double_cost (slice_index row j)) (λ c. pos 0 ≤ℤ (c -ℤ price *ℤ pos (2 ^ unit) -ℤ at_place prices j *ℤ pos (2 ^ unit)))

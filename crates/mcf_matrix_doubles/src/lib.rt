@@ -1,0 +1,17 @@
+#![tactic(auto)]
+
+//! Cost matrices of doubles, which come as their bits and are read exactly.
+//!
+//! It stands on `mcf_matrix`. A finite double is the whole number of units of 2^-1074 that its bits
+//! stand for, -0.0 is 0, and +infinity forbids a pair. Definitions stand in `specs/`: `Doubles`
+//! says what bits stand for, `DoubleTables` which costs a list of them states, `DoublePrices` which
+//! whole numbers prices of one power of 2 are.
+
+mod comparing;
+mod double;
+mod double_matrix;
+mod prices;
+
+pub use double::{INFINITY, Scaled};
+pub use double_matrix::{DoubleFault, DoubleMatrix};
+pub use prices::{are_small_prices, none_below};
