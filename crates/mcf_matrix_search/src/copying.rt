@@ -1,0 +1,76 @@
+//! Copies of matrices in which another cost stands for forbidden pairs, turned over if there are
+//! more rows than columns.
+
+use mcf_matrix::FORBIDDEN;
+use mcf_matrix_rows::{View, at, narrow, put};
+use mcf_text::{NoMemory, copies};
+use std::alloc::Global;
+
+// So many rows are turned over side by side: the lines of a cache serve all of them.
+const SIDE_BY_SIDE: u32 = 16;
+
+/// A copy in which a cost stands for forbidden pairs, with rows and columns exchanged or not.
+pub(crate) fn copy_costs(
+    alloc: Global,
+    view: View<'_>,
+    far: i64,
+    is_turned: bool,
+) -> Result<Vec<i64>, NoMemory> {
+    let count = (view.rows as usize).saturating_mul(view.columns as usize);
+    let mut copy = copies(alloc, count, far)?;
+    if is_turned {
+        turn_all(view, far, copy.as_mut_slice());
+    } else {
+        copy_rows(view, far, copy.as_mut_slice());
+    }
+    Ok(copy)
+}
+
+// The cost of a pair, or another for a forbidden one.
+#[inline(always)]
+fn cost_or(cost: i64, far: i64) -> i64 {
+    if cost == FORBIDDEN { far } else { cost }
+}
+
+// Copies all rows.
+fn copy_rows(view: View<'_>, far: i64, copy: &mut [i64]) {
+    let columns = view.columns as usize;
+    'rows: for row in 0..view.rows {
+        let start = (row as usize).wrapping_mul(columns).min(copy.len());
+        copy_row(view.row(row), far, columns, &mut copy[start..]);
+    }
+}
+
+// Copies so many entries of a row.
+fn copy_row(entries: &[i64], far: i64, columns: usize, copy: &mut [i64]) {
+    let count = columns.min(entries.len()).min(copy.len());
+    'columns: for j in 0..count {
+        copy[j] = cost_or(entries[j], far);
+    }
+}
+
+// Copies all columns as rows.
+fn turn_all(view: View<'_>, far: i64, copy: &mut [i64]) {
+    'blocks: for block in 0..view.rows / SIDE_BY_SIDE + 1 {
+        turn_block(view, far, block.wrapping_mul(SIDE_BY_SIDE), copy);
+    }
+}
+
+// Copies the entries of all columns in rows that stand side by side.
+fn turn_block(view: View<'_>, far: i64, first: u32, copy: &mut [i64]) {
+    'columns: for column in 0..view.columns {
+        turn_column(view, far, first, column, copy);
+    }
+}
+
+// Copies those of one column.
+fn turn_column(view: View<'_>, far: i64, first: u32, column: u32, copy: &mut [i64]) {
+    let start = (column as usize).wrapping_mul(view.rows as usize);
+    let end = first.saturating_add(SIDE_BY_SIDE).min(view.rows);
+    'rows: for row in first..end {
+        let place = start.wrapping_add(row as usize);
+        if place < copy.len() {
+            copy[place] = cost_or(view.cost(row, column), far);
+        }
+    }
+}

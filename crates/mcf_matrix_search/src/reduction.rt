@@ -1,0 +1,34 @@
+//! Column reduction: each column takes the least entry that it has as its price, and pairs with the
+//! row of that, if it is free.
+
+use mcf_matrix_rows::{NOWHERE, Pairing, View, at, lower_prices, narrow, put};
+
+/// Reduces the columns of a square matrix, from the first on; a column pairs with the first row
+/// that has its least entry. `rows` is scratch, one for each column; `counts` tells how many
+/// columns have their least entry in each row.
+pub(crate) fn reduce_columns(
+    view: View<'_>,
+    pairing: &mut Pairing,
+    rows: &mut [i64],
+    counts: &mut [u32],
+) {
+    write_least_entries(view, pairing.prices.as_mut_slice(), rows);
+    counts.fill(0);
+    'columns: for column in 0..view.columns {
+        let row = u32::try_from(at(rows, column, -1)).unwrap_or(NOWHERE);
+        let count = at(counts, row, 1);
+        put(counts, row, count.wrapping_add(1));
+        if count == 0 {
+            pairing.pair(row, column);
+        }
+    }
+}
+
+// Writes the least entry of each column, and the first row that has it.
+fn write_least_entries(view: View<'_>, prices: &mut [i64], rows: &mut [i64]) {
+    prices.fill(i64::MAX);
+    rows.fill(0);
+    'rows: for row in 0..view.rows {
+        lower_prices(i64::from(row), view.row(row), prices, rows);
+    }
+}
