@@ -1,12 +1,11 @@
 /* Minimum-cost flow with proved answers, for C and C++. Link with libmcf.so or libmcf.a (pkg-config
    mcf).
 
-   What these functions do is proved of the code behind them, for all values of their arguments;
-   docs/LIBRARY.md says what that means. Nothing proves that a caller keeps what is asked of it
-   here: a pointer is not NULL, not even where the length after it is 0; it points to as many values
-   as that length says; a buffer that is written overlaps nothing else; and no other thread writes
-   to any of it during the call. Calls of several threads at once need no lock. No call keeps a
-   pointer. */
+   The code behind these functions is proved to do what this file says, for all values of their
+   arguments; docs/LIBRARY.md says what that means. No proof covers the caller's duties: a pointer
+   is not NULL, even if the length after it is 0; it points to as many values as that length says; a
+   buffer that a call writes overlaps nothing else; and no other thread writes to any of this memory
+   during the call. Several threads can call at once without a lock. No call keeps a pointer. */
 #ifndef MCF_H
 #define MCF_H
 
@@ -17,27 +16,28 @@
 extern "C" {
 #endif
 
-/* What a call that solves answers. A call that judges answers 0 where the answer is accepted and 1
- * where it isn't. */
+/* The status that a solving call returns. A judging call returns 0 if it accepts the answer and 1
+ * if it rejects it. */
 enum mcf_status {
     MCF_FLOW = 0,          /* a least-cost flow, with prices that show it */
-    MCF_BLOCKED = 1,       /* a node set that blocks every flow */
+    MCF_BLOCKED = 1,       /* an infeasibility certificate: a node set that blocks every flow */
     MCF_INVALID_INPUT = 2, /* the text has a bad line, or the arrays have a fault: the first, and
                         what is wrong there */
     MCF_NO_MEMORY = 3,
-    MCF_BUFFER_TOO_SMALL = 4, /* of a text, the buffer is too short, and used says how long it must
-                        be; of arrays, a buffer has another length than these */
-    MCF_INVALID_CHOICE = 5,   /* the numbers of the choice mean none */
-    MCF_PRICE_OVERFLOW = 6    /* of arrays, a price of the flow doesn't fit 64 bits */
+    MCF_BUFFER_TOO_SMALL = 4, /* for a text, the buffer is too short, and `used` says how long it
+                        must be; for arrays, a buffer has a wrong length */
+    MCF_INVALID_CHOICE = 5,   /* a number of the choice has no meaning */
+    MCF_PRICE_OVERFLOW = 6,   /* for arrays, a price of the flow doesn't fit 64 bits */
+    MCF_NOT_SHOWN = 7 /* for a cost matrix, the search found no answer that the judge accepts */
 };
 
-/* How an instance is solved and answered. All 0 is what suits. */
+/* How to solve an instance and which form the answer has. All zeros are the defaults. */
 struct mcf_choice {
-    uint32_t engine;  /* MCF_AUTO to MCF_AUGMENT */
-    uint32_t pricing; /* of the network simplex, MCF_BLOCK to MCF_WIDE_BLOCKS */
-    uint32_t block;   /* arcs of a block of MCF_BLOCK: 1 to 1000000, or 0 for 256 */
-    uint32_t form;    /* of an answer text: MCF_FULL or 0, or MCF_SPARSE, which names only the arcs
-                         that don't carry their low */
+    uint32_t engine;  /* MCF_AUTO to MCF_FAST */
+    uint32_t pricing; /* the rule of the network simplex, MCF_BLOCK to MCF_WIDE_BLOCKS */
+    uint32_t block;   /* the arcs in a block of MCF_BLOCK: 1 to 1000000, or 0 for 256 */
+    uint32_t form;    /* the form of an answer text: MCF_FULL or 0, or MCF_SPARSE, which names only
+                         the arcs whose flow differs from their lower bound */
 };
 
 enum mcf_engine {
@@ -46,33 +46,33 @@ enum mcf_engine {
     MCF_SIMPLEX = 2,
     MCF_SCALING = 3,
     MCF_SAP = 4,
-    MCF_AUGMENT = 5
+    MCF_FAST = 5
 };
 
 enum mcf_form { MCF_FULL = 1, MCF_SPARSE = 2 };
 
 enum mcf_pricing { MCF_BLOCK = 0, MCF_FIRST = 1, MCF_BEST = 2, MCF_WIDE_BLOCKS = 3 };
 
-/* A verdict, a cost, a node set or a fault. Its number is low + 2^64 high, below 0 where negative
- * is 1. */
+/* A verdict, a cost, a node set or a fault. Its number is low + 2^64 high, negated if `negative` is
+ * 1. */
 struct mcf_verdict {
     uint32_t kind; /* MCF_ACCEPTED_FLOW to MCF_REJECTED_SET */
-    uint32_t code; /* of a refusal or a fault, 1 to 19: MCF_KIND to MCF_MISSING; of a node set from
-                      arrays, MCF_SEND or MCF_TAKE */
+    uint32_t code; /* for a refusal or a fault, 1 to 19: MCF_KIND to MCF_MISSING; for a node set
+                      from arrays, MCF_SEND or MCF_TAKE */
     uint32_t negative;
     uint64_t low, high;
 };
 
 enum mcf_kind {
     MCF_ACCEPTED_FLOW = 0,    /* number: the cost, which no feasible flow undercuts */
-    MCF_ACCEPTED_BLOCKED = 1, /* number: how many nodes; no flow is feasible */
-    MCF_ACCEPTED_REFUSAL = 2, /* number: the line, or of arrays the node or the arc, from 1 */
+    MCF_ACCEPTED_BLOCKED = 1, /* number: how many nodes the set has; no flow is feasible */
+    MCF_ACCEPTED_REFUSAL = 2, /* number: the line, or for arrays the node or the arc, from 1 */
     MCF_REJECTED_SHAPE = 3,   /* number: the first line of the answer that doesn't fit */
     MCF_REJECTED_KIND = 4,
     MCF_REJECTED_REFUSAL = 5,
     MCF_REJECTED_ARC = 6,   /* number: the arc, whose flow isn't within its bounds */
     MCF_REJECTED_NODE = 7,  /* number: the node, whose supply isn't met */
-    MCF_REJECTED_PRICE = 8, /* number: the arc, whose flow the prices don't show */
+    MCF_REJECTED_PRICE = 8, /* number: the arc, whose reduced cost doesn't allow its flow */
     MCF_REJECTED_COST = 9,
     MCF_REJECTED_SET = 10
 };
@@ -102,17 +102,17 @@ enum mcf_code {
 enum mcf_side { MCF_SEND = 0, MCF_TAKE = 1 };
 
 /* Solves an instance text in a DIMACS format, and writes the answer text to the beginning of the
-   buffer: MCF_FLOW to MCF_INVALID_CHOICE. `used` becomes the length of the answer, also at
-   MCF_BUFFER_TOO_SMALL, and 0 where there is none. From 3 on the buffer is as it was. */
+   buffer. Returns MCF_FLOW to MCF_INVALID_CHOICE. `used` becomes the length of the answer, also for
+   MCF_BUFFER_TOO_SMALL, or 0 if there is no answer. From status 3 on, the buffer is unchanged. */
 uint32_t mcf_solve(const uint8_t *input, size_t input_length, const struct mcf_choice *choice,
                    uint8_t *buffer, size_t buffer_length, size_t *used);
 
-/* Judges an answer text for an instance text: 0, 1 or MCF_NO_MEMORY, which leaves `verdict` as it
-   was. It accepts exactly where the answer is correct. */
+/* Judges an answer text for an instance text. Returns 0, 1 or MCF_NO_MEMORY, which leaves `verdict`
+   unchanged. It accepts exactly if the answer is correct. */
 uint32_t mcf_check(const uint8_t *input, size_t input_length, const uint8_t *answer,
                    size_t answer_length, struct mcf_verdict *verdict);
 
-/* An arc: its ends, from 1, the least and the greatest flow, and the cost of a unit. */
+/* An arc: its tail and head, from 1, its lower bound, its capacity, and the cost of a unit. */
 struct mcf_arc {
     uint32_t src, dst;
     int64_t low, cap, cost;
@@ -127,19 +127,23 @@ struct mcf_flow_problem {
 };
 
 /* Solves a flow problem. `flow` has room for a number for each arc, and `prices` for one for each
-   node. MCF_FLOW: the flow, the prices, and `verdict` the cost. MCF_BLOCKED: `prices` marks by 1
-   the nodes of a set that must send or take (`verdict.code`) more than it can, and by 0 all others.
-   MCF_INVALID_INPUT: `verdict` the first fault, where the arrays are beyond the limits: at most
-   1,000,000 nodes and 10,000,000 arcs; ends from 1 to the number of nodes; supplies and bounds at
-   most 10^18 from 0, costs 10^15; low at most cap; and the sizes of cost times bound at most 10^36
-   in sum. `flow` is as it was from 1 to 5, `prices` from 2 to 5, and `verdict` from 3 on: at
-   MCF_PRICE_OVERFLOW both buffers are written and hold no answer. MCF_NO_MEMORY is never answered
-   where a size or a supply is beyond the limits. */
+   node.
+
+   MCF_FLOW: the buffers hold the flow and the prices, and `verdict` the cost. MCF_BLOCKED: `prices`
+   marks with 1 the nodes of a set that must send or take (`verdict.code`) more than it can, and
+   with 0 all others. MCF_INVALID_INPUT: `verdict` has the first fault, because the arrays are
+   beyond the limits: at most 1,000,000 nodes and 10,000,000 arcs; ends from 1 to the number of
+   nodes; absolute values of at most 10^18 for supplies and bounds, and 10^15 for costs; low at most
+   cap; and absolute values of cost times bound of at most 10^36 in sum.
+
+   `flow` is unchanged for statuses 1 to 5, `prices` for 2 to 5, and `verdict` from 3 on. For
+   MCF_PRICE_OVERFLOW the call writes both buffers, but they hold no answer. If a size or a supply
+   is beyond the limits, the status is never MCF_NO_MEMORY. */
 uint32_t mcf_solve_arcs(const struct mcf_flow_problem *problem, const struct mcf_choice *choice,
                         int64_t *flow, size_t flow_length, int64_t *prices, size_t prices_length,
                         struct mcf_verdict *verdict);
 
-/* A pair that may be assigned: its row from 1, its column from 1, and its cost. */
+/* An allowed pair: its row and its column, both from 1, and its cost. */
 struct mcf_pair {
     uint32_t row, column;
     int64_t cost;
@@ -152,28 +156,61 @@ struct mcf_assignment {
     size_t pair_count;
 };
 
-/* Solves an assignment problem: as many of its pairs as there are rows, and columns, of least cost
-   in sum. `flow` has room for a number for each pair, which becomes 1 where it is assigned and else
-   0, and `prices` for the rows and then the columns. What it answers is what mcf_solve_arcs
-   answers, with the rows and then the columns as nodes. */
+/* Solves an assignment problem: chooses pairs of least total cost that contain each row and each
+   column once. `flow` has room for a number for each pair, which becomes 1 if the pair is chosen
+   and otherwise 0. `prices` has room for the rows and then the columns. The statuses are those of
+   mcf_solve_arcs, with the rows and then the columns as nodes. */
 uint32_t mcf_solve_pairs(const struct mcf_assignment *problem, const struct mcf_choice *choice,
                          int64_t *flow, size_t flow_length, int64_t *prices, size_t prices_length,
                          struct mcf_verdict *verdict);
 
-/* Judges a flow by arc with prices by node for a flow problem, whoever made them: 0, 1,
-   MCF_INVALID_INPUT
-   (`verdict` the first fault of the arrays), MCF_NO_MEMORY, or MCF_BUFFER_TOO_SMALL, where an array
-   hasn't the right length. `verdict` holds the cost that is claimed, and becomes the verdict: it
-   accepts exactly where the flow is feasible, has that cost, and is shown by the prices to be
-   least. */
+/* Judges a flow by arc with prices by node for a flow problem, whoever made them. Before the call
+   `verdict` holds the claimed cost; after it, the verdict. Returns 0, 1, MCF_INVALID_INPUT
+   (`verdict` has the first fault of the arrays), MCF_NO_MEMORY, or MCF_BUFFER_TOO_SMALL if an array
+   has a wrong length. The call accepts exactly if the flow is feasible, has that cost, and the
+   prices show that no feasible flow costs less. */
 uint32_t mcf_check_arcs(const struct mcf_flow_problem *problem, const int64_t *flow,
                         size_t flow_length, const int64_t *prices, size_t prices_length,
                         struct mcf_verdict *verdict);
 
-/* The same of an assignment problem. */
+/* The same for an assignment problem. */
 uint32_t mcf_check_pairs(const struct mcf_assignment *problem, const int64_t *flow,
                          size_t flow_length, const int64_t *prices, size_t prices_length,
                          struct mcf_verdict *verdict);
+
+/* A cost matrix: costs[i * stride + j] is the cost of row i and column j, both from 0, or INT64_MAX
+   if the pair is forbidden. */
+struct mcf_matrix {
+    const int64_t *costs;
+    size_t length;
+    size_t rows, columns, stride;
+};
+
+/* Assigns all rows to columns, or all columns to rows, whichever are fewer, at least total cost.
+   `column_of` and `row_prices` have room for a number for each row, and `column_prices` for one for
+   each column.
+
+   MCF_FLOW: `column_of` has the column of each row, or a number that is no column's for a row
+   without one. The prices show that the assignment has least cost: each allowed pair costs at least
+   the sum of the prices of its row and its column, and each assigned pair exactly that sum. If
+   there are more columns than rows, no column's price is above 0, and an unassigned column's price
+   is 0; the same holds for rows if there are more rows. MCF_BLOCKED: no such assignment exists. The
+   prices mark with 1 rows and columns that cover all allowed pairs and are fewer than the smaller
+   side has, and with 0 all others. MCF_INVALID_INPUT: rows overlap or don't end within `length`, or
+   the absolute value of a cost is above 10^15. MCF_NOT_SHOWN decides nothing: call mcf_solve_pairs
+   then. MCF_NO_MEMORY and MCF_BUFFER_TOO_SMALL are possible, too. `column_of` is unchanged from
+   status 1 on, and the prices are from 2 on. */
+uint32_t mcf_assign_matrix(const struct mcf_matrix *matrix, uint32_t *column_of,
+                           size_t column_of_length, int64_t *row_prices, size_t row_prices_length,
+                           int64_t *column_prices, size_t column_prices_length);
+
+/* Judges an assignment with prices for a cost matrix, whoever made them. Returns 0 if the prices
+   show that the assignment has least cost, 1 if they don't or an array has a wrong length,
+   MCF_INVALID_INPUT or MCF_NO_MEMORY. */
+uint32_t mcf_check_matrix(const struct mcf_matrix *matrix, const uint32_t *column_of,
+                          size_t column_of_length, const int64_t *row_prices,
+                          size_t row_prices_length, const int64_t *column_prices,
+                          size_t column_prices_length);
 
 #ifdef __cplusplus
 }

@@ -1,5 +1,5 @@
 /* Calls each function of the library, and ends with the number of the first check that fails, or 0.
-   The words are instance texts, each after the status that is wanted of it. */
+   The words are instance texts, each after its expected status. */
 #include "mcf.h"
 
 #include <stdio.h>
@@ -29,7 +29,7 @@ static uint8_t *read_all(const char *path, size_t *length) {
     return bytes;
 }
 
-/* A text by each engine and rule, in each form, and judged. */
+/* Solves a text by each engine and rule, in each form, and judges the answers. */
 static int check_text(const char *path, uint32_t want) {
     size_t length, used = 77, again;
     uint8_t nothing = 0, *buffer;
@@ -117,8 +117,37 @@ static int check_arcs(void) {
     return 0;
 }
 
-/* A chain of more than 9223 arcs that cost 10^15 each and carry 1: the last price is below all that
- * 64 bits hold. */
+/* Solves matrices with more columns than rows, with more rows than columns and a forbidden pair,
+   without an assignment, and with a fault. */
+static int check_matrix(void) {
+    static const int64_t costs[7] = {4, 1, 3, 2, 0, 5, 77}, tall[4] = {5, -3, INT64_MAX, 2};
+    static const int64_t none[4] = {INT64_MAX, 1, INT64_MAX, 1},
+                         beyond[1] = {INT64_C(1000000000000001)};
+    static const struct mcf_matrix wide = {costs, 7, 2, 3, 3}, high = {tall, 4, 4, 1, 1},
+                                   without = {none, 4, 2, 2, 2}, faulty = {beyond, 1, 1, 1, 1},
+                                   overlapping = {costs, 7, 2, 3, 2};
+    uint32_t column_of[4];
+    int64_t rows[4], columns[3];
+    CHECK(51, mcf_assign_matrix(&wide, column_of, 2, rows, 2, columns, 3) == MCF_FLOW);
+    CHECK(52, column_of[0] == 1 && column_of[1] == 0);
+    CHECK(53, mcf_check_matrix(&wide, column_of, 2, rows, 2, columns, 3) == 0);
+    rows[0]++;
+    CHECK(54, mcf_check_matrix(&wide, column_of, 2, rows, 2, columns, 3) == 1);
+    CHECK(55, mcf_check_matrix(&wide, column_of, 2, rows, 1, columns, 3) == 1);
+    CHECK(56, mcf_assign_matrix(&high, column_of, 4, rows, 4, columns, 1) == MCF_FLOW);
+    CHECK(57, column_of[1] == 0 && column_of[0] > 0 && column_of[2] > 0 && column_of[3] > 0);
+    CHECK(58, mcf_assign_matrix(&without, column_of, 2, rows, 2, columns, 2) == MCF_BLOCKED);
+    CHECK(59, rows[0] == 0 && rows[1] == 0 && columns[0] == 0 && columns[1] == 1);
+    CHECK(60, mcf_assign_matrix(&faulty, column_of, 1, rows, 1, columns, 1) == MCF_INVALID_INPUT);
+    CHECK(61,
+          mcf_assign_matrix(&overlapping, column_of, 2, rows, 2, columns, 3) == MCF_INVALID_INPUT);
+    CHECK(62, mcf_check_matrix(&faulty, column_of, 1, rows, 1, columns, 1) == MCF_INVALID_INPUT);
+    CHECK(63, mcf_assign_matrix(&wide, column_of, 2, rows, 2, columns, 2) == MCF_BUFFER_TOO_SMALL);
+    return 0;
+}
+
+/* A chain of more than 9223 arcs that cost 10^15 each and carry 1: the last price is too low for 64
+ * bits. */
 static int check_wide(void) {
     enum { COUNT = 9224 };
     static struct mcf_arc arcs[COUNT];
@@ -167,6 +196,7 @@ int main(int count, char **words) {
     int place, status = check_arcs();
     if (status == 0) status = check_wide();
     if (status == 0) status = check_pairs();
+    if (status == 0) status = check_matrix();
     for (place = 1; status == 0 && place + 1 < count; place += 2)
         status = check_text(words[place + 1], (uint32_t)atoi(words[place]));
     return status;

@@ -1,8 +1,8 @@
-/* Hostile texts and arrays: whatever is lent lies at the edge of memory that may be touched, and
-   what is lent to be read can't be written; texts are noise, examples cut off or changed, and
-   arrays have numbers at the limits and past them. What comes back is held against the definitions,
-   which stand here once more. The first word is a number of rounds, and the others are instance
-   texts. Ends with 0, or names the line of the first check that fails. */
+/* Tests hostile texts and arrays. All arguments lie at the edge of accessible memory, and inputs
+   are read-only. Texts are noise, or examples that are cut off or changed; arrays have numbers at
+   the limits and beyond them. The test compares the answers with the definitions, which it
+   implements again. The first word is the number of rounds, and the others are instance texts. Ends
+   with 0, or names the line of the first check that fails. */
 #define _DEFAULT_SOURCE
 #include "mcf.h"
 
@@ -35,7 +35,7 @@ static uint64_t chance(uint64_t below) {
     return below == 0 ? 0 : (state >> 11) % below;
 }
 
-/* The end of at least so many bytes; what comes after them can't be touched. */
+/* The end of at least `size` new bytes. The memory after them is inaccessible. */
 static uint8_t *edge(size_t size) {
     size_t whole = (size + PAGE - 1) / PAGE * PAGE;
     uint8_t *begin = mmap(NULL, whole + PAGE, PROT_READ | PROT_WRITE,
@@ -48,7 +48,7 @@ static void *at_edge(uint8_t *end, const void *bytes, size_t length) {
     return memcpy(end - length, bytes, length);
 }
 
-/* So many bytes before an end can be read alone, or written again. */
+/* Makes the bytes before an end read-only, or writable again. */
 static void protect(uint8_t *end, size_t size, int how) {
     CHECK(mprotect(end - size, size, how) == 0);
 }
@@ -57,8 +57,8 @@ static void protect(uint8_t *end, size_t size, int how) {
 
 static uint8_t text[SIZE], *input_end, *room_end, *answer_end;
 
-/* A text is answered by any engine, the buffer has just the length that is lacking, and the checker
- * accepts the answer; others it judges. */
+/* Solves a text by any engine, with a buffer of just the needed length. The checker accepts the
+ * answer, and judges changed ones. */
 static void answer_text(const uint8_t *input, size_t length) {
     const struct mcf_choice any = {(uint32_t)chance(6), (uint32_t)chance(4), (uint32_t)chance(3),
                                    (uint32_t)chance(3)};
@@ -105,7 +105,7 @@ static size_t read_text(const char *path) {
     return length;
 }
 
-/* An example cut off, with bytes changed, or with a great number in it. */
+/* Tries an example that is cut off, has changed bytes, or has a large number in it. */
 static void try_changed(const char *path) {
     static const char *const numbers[] = {"-1",
                                           "0",
@@ -145,7 +145,7 @@ static void try_changed(const char *path) {
     try_text(length);
 }
 
-/* A million bytes drawn from an alphabet, behind a beginning. */
+/* Tries a beginning with random bytes of an alphabet after it, a million bytes in all. */
 static void try_noise(const char *begin, const char *alphabet) {
     size_t place = strlen(begin), count = strlen(alphabet);
     memcpy(text, begin, place);
@@ -214,7 +214,7 @@ static wide size_of(int64_t n) { return n < 0 ? -(wide)n : n; }
 
 static int is_up_to(int64_t limit, int64_t n) { return size_of(n) <= limit; }
 
-/* The first fault: its code and its place, or 0. */
+/* The code of the first fault, or 0; `place` gets its place. */
 static uint32_t first_fault(uint64_t *place) {
     wide total = 0, limit = (wide)BOUND * BOUND;
     size_t k;
@@ -237,7 +237,7 @@ static uint32_t first_fault(uint64_t *place) {
     return 0;
 }
 
-/* Whether a flow is feasible, has this cost, and is shown by the prices to be least. */
+/* Whether a flow is feasible and has this cost, and the prices show that no flow costs less. */
 static int is_right(const int64_t *flow, const int64_t *prices, wide claimed) {
     wide left[MANY], spent = 0;
     size_t k;
@@ -257,7 +257,7 @@ static int is_right(const int64_t *flow, const int64_t *prices, wide claimed) {
     return spent == claimed;
 }
 
-/* Whether the marked nodes must send, or take, more than they can. */
+/* Whether the marked nodes must send (or take) more than they can. */
 static int blocks(const int64_t *marks, uint32_t side, uint64_t count) {
     wide must = 0, can = 0;
     uint64_t marked = 0;
@@ -315,7 +315,7 @@ static void make_assignment(void) {
     }
 }
 
-/* The arrays that stand for the problem, each at its edge. */
+/* The arcs or pairs of the problem, at the edge of memory. */
 static const void *arcs_at_edge(void) {
     struct mcf_arc arcs[MANY];
     struct mcf_pair pairs[MANY];
@@ -334,7 +334,7 @@ static const void *arcs_at_edge(void) {
 
 static const void *lent_arcs;
 
-/* What is lent to be read, a flow that is judged among it, can be read alone, or written again. */
+/* Makes all inputs read-only, including the flow and prices to judge, or writable again. */
 static void protect_arrays(int is_judged, int how) {
     protect(supply_end, PAGE, how), protect(arc_end, PAGE, how);
     if (is_judged)
@@ -377,7 +377,7 @@ static wide number_of(const struct mcf_verdict *verdict) {
     return verdict->negative ? -size : size;
 }
 
-/* The checker says what the definitions say, of a flow that is right and of changed ones. */
+/* The checker agrees with the definitions on a correct flow and on changed ones. */
 static void try_judge(const int64_t *flow, const int64_t *prices, const struct mcf_verdict *found) {
     int64_t *other = at_edge(other_flow_end, flow, now.arcs * sizeof *flow),
             *others = at_edge(other_price_end, prices, now.nodes * sizeof *prices);
@@ -438,7 +438,7 @@ static void try_arrays(void) {
     CHECK(solve(&choice, flow, now.arcs, prices, now.nodes, &verdict) == MCF_INVALID_CHOICE);
 }
 
-/* Numbers of nodes and arcs at the limits and past them, in memory that nobody wrote to. */
+/* Tries numbers of nodes and arcs at the limits and beyond them, in memory that is all zero. */
 static void try_sizes(void) {
     enum { NODES = 1000001, ARCS = 10000001 };
     const void *zeros =
@@ -487,7 +487,7 @@ static void try_sizes(void) {
           verdict.code == MCF_SIZE);
 }
 
-/* What is only read may be lent twice: an arc is the supplies of four nodes, and a flow is its own
+/* Inputs may overlap: here an arc is also the supplies of four nodes, and a flow is also its
  * prices. */
 static void try_overlap(void) {
     const int64_t ends = INT64_C(0x200000001);

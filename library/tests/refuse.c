@@ -1,5 +1,6 @@
-/* Each allocation of each call refused in turn: the status says so, nothing is written, and nothing
-   is lost. The words are instance texts. Link with -Wl,--wrap=malloc,--wrap=realloc,--wrap=free. */
+/* Refuses each allocation of each call in turn. The status says so, the call writes nothing, and no
+   memory leaks. The words are instance texts. Link with -Wl,--wrap=malloc,--wrap=realloc,
+   --wrap=free. */
 #include "mcf.h"
 
 #include <stdio.h>
@@ -45,14 +46,17 @@ static uint8_t input[SIZE], buffer[SIZE], untouched[SIZE];
 static int64_t supplies[MANY], flow[MANY], prices[MANY], sevens[MANY];
 static struct mcf_arc arcs[MANY];
 static struct mcf_pair pairs[MANY];
+static int64_t costs[400];
+static uint32_t column_of[20];
 static size_t length, used, nodes, arc_count;
 static struct mcf_choice choice;
 static struct mcf_verdict verdict, before;
 
-/* The calls, by number; each writes only where its status says so. */
+/* The calls, by number. Each writes only what its status allows. */
 static uint32_t call(int number) {
     static struct mcf_flow_problem problem = {supplies, 0, arcs, 0};
     static const struct mcf_assignment assignment = {20, 20, pairs, 400};
+    static const struct mcf_matrix matrix = {costs, 400, 20, 20, 20};
     problem.nodes = nodes;
     problem.arc_count = arc_count;
     switch (number) {
@@ -66,17 +70,21 @@ static uint32_t call(int number) {
         return mcf_check_arcs(&problem, flow, arc_count, prices, nodes, &verdict);
     case 4:
         return mcf_solve_pairs(&assignment, &choice, flow, 400, prices, 40, &verdict);
-    default:
+    case 5:
         return mcf_check_pairs(&assignment, flow, 400, prices, 40, &verdict);
+    case 6:
+        return mcf_assign_matrix(&matrix, column_of, 20, flow, 20, prices, 20);
+    default:
+        return mcf_check_matrix(&matrix, column_of, 20, flow, 20, prices, 20);
     }
 }
 
-/* Refuses the first allocation of a call, and then the second, until one goes through. */
+/* Refuses the first allocation of a call, then the second, and so on, until a call succeeds. */
 static int refuse_each(int number) {
     long step;
     for (step = 0;; step++) {
         uint32_t status;
-        int solves = number == 2 || number == 4;
+        int solves = number == 2 || number == 4 || number == 6;
         memset(&verdict, 9, sizeof verdict);
         if (number == 0) memset(buffer, 7, sizeof buffer);
         if (solves) memset(flow, 7, sizeof flow), memset(prices, 7, sizeof prices);
@@ -101,7 +109,7 @@ static int refuse_each(int number) {
     }
 }
 
-/* A problem that looks like none in particular. */
+/* Makes a pseudorandom problem. */
 static void make_arrays(void) {
     uint32_t place, state = 12345;
     nodes = 30;
@@ -120,7 +128,7 @@ static void make_arrays(void) {
         state = state * 1103515245u + 12345u;
         pairs[place].row = 1 + place / 20;
         pairs[place].column = 1 + place % 20;
-        pairs[place].cost = (int64_t)((state >> 4) % 100);
+        pairs[place].cost = costs[place] = (int64_t)((state >> 4) % 100);
     }
 }
 
@@ -132,11 +140,16 @@ int main(int count, char **words) {
         for (choice.pricing = 0; choice.pricing < 4; choice.pricing++) {
             for (number = 2; number < 6; number++)
                 if (refuse_each(number)) return 1;
-            /* More is sent than there is room for. */
+            /* The supply exceeds the capacities. */
             supplies[0] += 1000, supplies[29] -= 1000;
             if (refuse_each(2)) return 1;
             supplies[0] -= 1000, supplies[29] += 1000;
         }
+    /* Call it with the same matrix, and with one that allows only one column. */
+    if (refuse_each(6) || refuse_each(7)) return 1;
+    for (place = 0; place < 400; place++)
+        if (place % 20 > 0) costs[place] = INT64_MAX;
+    if (refuse_each(6)) return 1;
     choice.pricing = 0;
     for (place = 1; place < count; place++) {
         FILE *file = fopen(words[place], "rb");

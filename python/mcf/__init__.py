@@ -1,9 +1,9 @@
 """Minimum-cost flow with proved answers.
 
-`solve` takes supplies and arcs, `linear_sum_assignment` a matrix, `SimpleMinCostFlow` has the shape
-of OR-tools' class, and `mcf.nx` takes the graphs of networkx: each flow is judged by the checker
-before it is shown, unless `check=False`. `solve_text` and `check_text` take texts in the DIMACS
-formats.
+`solve` takes supplies and arcs. `linear_sum_assignment` takes a cost matrix. `SimpleMinCostFlow`
+has the methods of OR-tools' class, and `mcf.nx` takes networkx graphs. The checker judges each
+answer before the package returns it, unless `check=False`. `solve_text` and `check_text` take
+texts in the DIMACS formats.
 """
 from typing import Optional, Tuple, Union
 
@@ -39,16 +39,16 @@ def solve_text(
     block: Optional[int] = None,
     form: Union[int, str] = "full",
 ) -> Tuple[str, bytes]:
-    """Answers an instance text in a DIMACS format.
+    """Solves an instance text in a DIMACS format.
 
     Parameters
     ----------
     text : bytes
     engine, pricing, block
-        As of `solve`; 'auto' is the library's own choice.
+        As for `solve`, but 'auto' lets the library choose.
     form : {'full', 'sparse'}
-        'sparse', or 2, for an answer that names only the arcs that don't carry their lower bound;
-        'full', or 1, for one that names each arc.
+        'full', or 1: the answer names every arc. 'sparse', or 2: it names only the arcs whose flow
+        differs from their lower bound.
 
     Returns
     -------
@@ -60,7 +60,7 @@ def solve_text(
     Raises
     ------
     TypeError, ValueError
-        The text isn't of bytes, or the options mean no choice.
+        The text isn't bytes, or an option has an unknown value.
 
     Examples
     --------
@@ -81,7 +81,7 @@ def check_text(text: bytes, answer: bytes) -> Verdict:
     Returns
     -------
     Verdict
-        It accepts exactly the right answers.
+        It accepts the answer exactly if the answer is correct.
 
     Examples
     --------

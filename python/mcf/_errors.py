@@ -1,4 +1,4 @@
-"""What the package raises of an instance."""
+"""The exceptions that the package raises for an instance."""
 from typing import Any, List, NamedTuple, Optional, Tuple, Type
 
 from ._limits import ARCS, BOUND, COST, NODES
@@ -15,13 +15,13 @@ LIMITS = {
 
 
 def _raised_again(kind: Type[BaseException], *words: Any) -> BaseException:
-    """An exception of a kind with its words alone, for copies and pickles, which then put its
-    data."""
+    """Makes an exception with its arguments alone. `copy` and `pickle` then restore its
+    attributes."""
     return kind.__new__(kind, *words)
 
 
 class MCFError(Exception):
-    """What this package raises of an instance. It can be copied and pickled, with all its data."""
+    """The base class of the package's exceptions. Copies and pickles keep all attributes."""
 
     def __reduce__(self) -> Tuple[Any, ...]:
         return (_raised_again, (type(self),) + self.args, self.__dict__)
@@ -40,20 +40,21 @@ class Refused(MCFError, ValueError):
     Attributes
     ----------
     arc, node
-        The place of the first fault, from 0, or its label: one of them, or none. Of a matrix, `arc`
-        is the place among all entries, row by row.
+        Where the first fault is: the index of an arc, from 0, or the index or label of a node. At
+        least one of them is None. For a matrix, `arc` is the index of the entry, row by row.
     reason : str
-        What is wrong: 'size', 'supply', 'node', 'bound', 'order', 'cost' or 'total', or 'unlimited'
-        where no answer is within 10^18 on an arc without limit.
+        What is wrong: 'size', 'supply', 'node', 'bound', 'order', 'cost' or 'total'; or
+        'unlimited', if an arc without capacity would have to carry more than 10^18.
     scale : int
-        What numbers of its kind were multiplied by, to be whole.
+        The factor that made numbers of this kind whole.
     value
-        The number that is past the limit, as it was given; of 'order' low and cap, of 'size' how
-        many nodes and arcs there are, of 'node' how many nodes, and else None.
+        The number that is beyond the limit, as the caller gave it. For 'order' it is the lower
+        bound and the capacity, for 'size' the numbers of nodes and arcs, for 'node' the number of
+        nodes, and otherwise None.
     ends
-        From where and to where the arc leads; of a matrix, the row and the column.
+        The tail and the head of the arc. For a matrix, the row and the column.
     limit : int or None
-        The greatest size of such a number, when it is whole.
+        The greatest absolute value that such a number may have once it is whole.
     """
 
     def __init__(
@@ -106,13 +107,13 @@ class Infeasible(MCFError):
     Attributes
     ----------
     nodes : list
-        The nodes that show it, by number or label.
+        The set of nodes that is the infeasibility certificate, by number or label.
     side : {'send', 'take'}
-        What they can't do enough of.
+        Whether the set can't send enough or can't take enough.
     must, can
-        What they must send or take, and what they can at most.
+        The amount that the set must send or take, and the most that it can.
     arcs : list of int
-        The places of the arcs that limit it.
+        The indices of the arcs that limit what the set can send or take.
     """
 
     def __init__(self, nodes: List[Any], side: str, must: Number, can: Number, arcs: List[int]):
@@ -123,12 +124,12 @@ class Infeasible(MCFError):
 
 
 class Unbounded(MCFError):
-    """Costs have no least value.
+    """The cost has no lower bound.
 
     Attributes
     ----------
     cycle : list of int
-        The places of the arcs of a cycle of negative cost without limits.
+        The indices of the arcs of a negative-cost cycle whose arcs have no capacity.
     """
 
     def __init__(self, cycle: List[int]):
@@ -137,5 +138,5 @@ class Unbounded(MCFError):
 
 
 class NotAccepted(MCFError):
-    """The checker doesn't accept the answer, so it isn't shown: that would be a bug outside the
-    proofs."""
+    """The checker rejected the answer, so the package doesn't return it. This would be a bug
+    outside the proofs."""

@@ -1,5 +1,5 @@
-"""libmcf in this process, by ctypes. Calls of several threads run at once: ctypes lets go of the
-interpreter's lock."""
+"""Calls libmcf in this process through ctypes. Several threads can call it at once, because ctypes
+releases the interpreter's lock."""
 import _thread
 import ctypes
 import ctypes.util
@@ -9,8 +9,19 @@ import threading
 from array import array
 from typing import Any, Dict, List, NamedTuple, Optional, Tuple, Union
 
-FLOW, BLOCKED, INVALID_INPUT, NO_MEMORY, BUFFER_TOO_SMALL, INVALID_CHOICE, PRICE_OVERFLOW = range(7)
-ENGINES = {"auto": 0, "cancel": 1, "simplex": 2, "scaling": 3, "sap": 4, "augment": 5}
+(
+    FLOW,
+    BLOCKED,
+    INVALID_INPUT,
+    NO_MEMORY,
+    BUFFER_TOO_SMALL,
+    INVALID_CHOICE,
+    PRICE_OVERFLOW,
+    NOT_SHOWN,
+) = range(8)
+# The entry of a cost matrix that forbids a pair.
+FORBIDDEN = 2**63 - 1
+ENGINES = {"auto": 0, "cancel": 1, "simplex": 2, "scaling": 3, "sap": 4, "fast": 5}
 PRICINGS = {"block": 0, "first": 1, "best": 2, "wide": 3}
 CODES = (
     "",
@@ -48,15 +59,16 @@ VERDICTS = (
     "rejected set",
 )
 SIDES = ("send", "take")
-# An answer text that names each arc, or those alone that don't carry their lower bound.
+# A full answer text names every arc; a sparse one names the arcs whose flow differs from their
+# lower bound.
 FORMS: Dict[Union[int, str], int] = {"full": 1, "sparse": 2, 1: 1, 2: 2}
-# What an answer text has, by the status of the call that gives it.
+# The kind of an answer text, by the status of the call.
 KINDS = ("flow", "blocked", "refusal")
 
 
-# What may last a tenth of a second can be interrupted: a text of more bytes, or arrays of more
-# arcs, where a node counts as 8 of them to solve, and 16 arcs as one to judge. What is shorter
-# isn't worth the thread.
+# A call that may take a tenth of a second can be interrupted: one with more bytes of text or more
+# arcs than this. For solving, a node counts as 8 arcs; for judging, 16 arcs count as one. A shorter
+# call isn't worth a thread.
 LASTING_ARCS, LASTING_BYTES = 2**16, 2**18
 
 
@@ -102,20 +114,30 @@ class Assignment(ctypes.Structure):
     ]
 
 
+class CostMatrix(ctypes.Structure):
+    _fields_ = [
+        ("costs", ctypes.c_void_p),
+        ("length", ctypes.c_size_t),
+        ("rows", ctypes.c_size_t),
+        ("columns", ctypes.c_size_t),
+        ("stride", ctypes.c_size_t),
+    ]
+
+
 class Verdict(NamedTuple):
-    """What the checker says.
+    """The checker's verdict on an answer.
 
     Attributes
     ----------
     accepted : bool
     kind : str
-        As `mcfcheck` prints it: 'accepted flow', 'accepted blocked' or 'accepted refusal', or what
-        is wrong with the answer, as 'rejected cost'.
+        The words that `mcfcheck` prints: 'accepted flow', 'accepted blocked' or 'accepted refusal',
+        or what is wrong with the answer, for example 'rejected cost'.
     number
-        Of an accepted flow its cost, of a set how many nodes it has, and else the place of which
-        the verdict speaks: `mcf.h` says which, for each kind.
+        The cost of an accepted flow, or the number of nodes of an accepted set. For other kinds it
+        is a line, an arc or a node: see `mcf.h`.
     code : str
-        What is wrong with the instance, of a refusal.
+        For a refusal, what is wrong with the instance.
     """
 
     accepted: bool
@@ -139,7 +161,7 @@ def _path() -> str:
     for path in [named] if named else beside:
         if os.sep not in path or os.path.exists(path):
             return path
-    # Asked last: it runs the linker's own programs.
+    # This comes last because find_library starts other programs.
     installed = None if named else ctypes.util.find_library("mcf")
     if installed:
         return installed
@@ -162,6 +184,9 @@ def _load() -> ctypes.CDLL:
     library.mcf_check_arcs.argtypes = [flow_problem] + rooms + [told]
     library.mcf_solve_pairs.argtypes = [assignment, choice] + rooms + [told]
     library.mcf_check_pairs.argtypes = [assignment] + rooms + [told]
+    lines: List[Any] = [ctypes.POINTER(CostMatrix), at, size, *rooms]
+    library.mcf_assign_matrix.argtypes = lines
+    library.mcf_check_matrix.argtypes = lines
     for function in (
         library.mcf_solve,
         library.mcf_check,
@@ -169,6 +194,8 @@ def _load() -> ctypes.CDLL:
         library.mcf_check_arcs,
         library.mcf_solve_pairs,
         library.mcf_check_pairs,
+        library.mcf_assign_matrix,
+        library.mcf_check_matrix,
     ):
         function.restype = word
     return library
@@ -189,7 +216,7 @@ def choice_of(
 
 
 def failed(status: int) -> Exception:
-    """What a status says that is no answer."""
+    """The exception for a status that isn't an answer."""
     if status == NO_MEMORY:
         return MemoryError("mcf")
     if status == PRICE_OVERFLOW:
@@ -198,7 +225,7 @@ def failed(status: int) -> Exception:
 
 
 def _run(function: Any, words: Any, kept: Any, ended: List[Any], done: Any) -> None:
-    """Calls the library in a thread. What the call reads and writes lives as long as this does."""
+    """Calls the library in a thread. `kept` keeps alive what the call reads and writes."""
     try:
         ended.append((function(*words), None))
     except BaseException as error:
@@ -208,11 +235,12 @@ def _run(function: Any, words: Any, kept: Any, ended: List[Any], done: Any) -> N
 
 
 def _called(function: Any, words: Any, kept: Any) -> Any:
-    """What a call of the library answers that may last.
+    """Runs a long call of the library so that a signal can interrupt it, and returns its result.
 
-    Python handles signals in the main thread, between its own steps. So the call runs in another
-    thread there, and what a handler raises, as KeyboardInterrupt, comes through at once. The call
-    ends by itself then, with all that it reads and writes kept until it does; nobody else has it.
+    Python handles signals in the main thread, between bytecode instructions. So if the caller is
+    the main thread, the call runs in another thread, and an exception that a handler raises, such
+    as KeyboardInterrupt, takes effect at once. The call then runs to its end in its thread. Until
+    then the thread keeps the memory that the call reads and writes, and nobody else uses it.
     """
     if (
         _thread.get_ident() != threading.main_thread().ident
@@ -226,7 +254,7 @@ def _called(function: Any, words: Any, kept: Any) -> Any:
     try:
         _thread.start_new_thread(_run, (function, words, kept, ended, done))
     except RuntimeError:
-        # There is no thread to be had, as at the interpreter's end.
+        # No thread can start, for example while the interpreter shuts down.
         return function(*words)
     while not done.acquire(True, 0.05):
         pass
@@ -237,12 +265,12 @@ def _called(function: Any, words: Any, kept: Any) -> Any:
 
 
 def _bytes(text: Any) -> bytes:
-    """A text as bytes, of anything that holds bytes."""
+    """The bytes of any object that holds bytes."""
     return text if isinstance(text, bytes) else memoryview(text).tobytes()
 
 
 def solve_text(text: bytes, choice: Choice) -> Tuple[int, bytes]:
-    """The status and the answer text of an instance text."""
+    """Solves an instance text, and returns the status and the answer text."""
     text = _bytes(text)
     used = ctypes.c_size_t()
     room = 4096 + 6 * len(text)
@@ -263,7 +291,7 @@ def solve_text(text: bytes, choice: Choice) -> Tuple[int, bytes]:
 
 
 def check_text(text: bytes, answer: bytes) -> Verdict:
-    """The verdict of the checker on an answer text."""
+    """The checker's verdict on an answer text."""
     text, answer = _bytes(text), _bytes(answer)
     told = Told()
     status = _lib.mcf_check(text, len(text), answer, len(answer), told)
@@ -273,7 +301,7 @@ def check_text(text: bytes, answer: bytes) -> Verdict:
 
 
 class Arrays:
-    """A problem in arrays, with rooms for its answer: `flow` by arc and `prices` by node."""
+    """A problem in arrays, with buffers for its answer: `flow` by arc and `prices` by node."""
 
     __slots__ = ("problem", "flow", "prices", "told", "_rooms", "_kept", "_solve", "_check")
     problem: Union[FlowProblem, Assignment]
@@ -284,7 +312,8 @@ class Arrays:
     _check: Any
 
     def solve(self, choice: Choice) -> int:
-        """The status: FLOW, BLOCKED or INVALID_INPUT, with what is told of it."""
+        """Solves the problem and returns the status: FLOW, BLOCKED or INVALID_INPUT. `told` has
+        the details."""
         size = len(self.flow) + 8 * len(self.prices)
         words = (self.problem, choice, *self._rooms, self.told)
         status = self._call(self._solve, words, size)
@@ -293,7 +322,7 @@ class Arrays:
         return int(status)
 
     def check(self) -> Verdict:
-        """The verdict of the checker on the flow, the prices and the cost that is told."""
+        """The checker's verdict on the flow, the prices and the cost in `told`."""
         told = Told(0, 0, self.told.negative, self.told.low, self.told.high)
         words = (self.problem, *self._rooms, told)
         status = self._call(self._check, words, len(self.flow) // 16)
@@ -312,7 +341,7 @@ class Arrays:
 
 
 def at(buffer: Any) -> int:
-    """Where a buffer lies; one without bytes needs only not to lie at 0."""
+    """The address of a buffer. An empty buffer only needs an address other than 0."""
     if isinstance(buffer, array):
         return int(buffer.buffer_info()[0]) or 8
     if isinstance(buffer, bytes):
@@ -344,6 +373,37 @@ class PairArrays(Arrays):
         self._room(pair_count, rows + columns)
 
 
+class MatrixArrays:
+    """A cost matrix, row by row, with buffers for the column of each row and for prices."""
+
+    __slots__ = ("matrix", "column_of", "row_prices", "column_prices", "_rooms", "_kept")
+
+    def __init__(self, costs: Any, rows: int, columns: int):
+        self._kept = costs
+        self.matrix = CostMatrix(at(costs), rows * columns, rows, columns, columns)
+        self.column_of = array("I", bytes(4 * rows))
+        self.row_prices = array("q", bytes(8 * rows))
+        self.column_prices = array("q", bytes(8 * columns))
+        rooms = ((self.column_of, rows), (self.row_prices, rows), (self.column_prices, columns))
+        self._rooms = tuple(word for room, size in rooms for word in (at(room), size))
+
+    def assign(self) -> int:
+        """Solves the matrix and returns the status: FLOW, BLOCKED, INVALID_INPUT or NOT_SHOWN."""
+        return self._call(_lib.mcf_assign_matrix)
+
+    def check(self) -> bool:
+        """Whether the checker accepts the assignment with its prices."""
+        return self._call(_lib.mcf_check_matrix) == 0
+
+    def _call(self, function: Any) -> int:
+        words = (self.matrix, *self._rooms)
+        lasts = self.matrix.length > LASTING_ARCS
+        status = _called(function, words, self) if lasts else function(*words)
+        if status in (NO_MEMORY, BUFFER_TOO_SMALL):
+            raise failed(status)
+        return int(status)
+
+
 def marked(marks: "array[int]") -> List[int]:
-    """The places that are marked."""
+    """The indices of the marks that are 1."""
     return [place for place, mark in enumerate(marks) if mark]

@@ -1,17 +1,17 @@
-"""Arcs without limit, and arcs whose limit is past what the library takes: which limits stand for
-theirs, and what an answer under these says of the problem that is given."""
+"""Arcs without capacity, or with a capacity beyond the library's limit: which capacities replace
+theirs, and what an answer with these means for the original problem."""
 from typing import Dict, List, NamedTuple, Optional, Sequence, Set, Tuple
 
 BOUND, COST, NODES, ARCS = 10**18, 10**15, 10**6, 10**7
 
-# The ends, low, cap and cost in whole numbers; a cap of None is none.
+# The tail, head, lower bound, capacity and cost as ints. A capacity of None means no limit.
 Arc = Tuple[int, int, int, Optional[int], int]
 Limited = Tuple[int, int, int, int, int]
 
 
 class Limits(NamedTuple):
-    """The arcs as the library takes them, the places of those that have another limit there, and
-    of those among them whose limit there may bind where theirs doesn't."""
+    """The arcs as the library takes them; the indices of the arcs whose capacity was replaced; and
+    those among them whose new capacity may bind where their own doesn't."""
 
     arcs: Sequence[Limited]
     opened: List[int]
@@ -19,8 +19,8 @@ class Limits(NamedTuple):
 
 
 def limited_arcs(supplies: Sequence[int], arcs: Sequence[Arc], beyond: float) -> Limits:
-    """Arcs with limits of 10^18 at most, but for those that are past `beyond`, which stay. An arc
-    without limit gets the least that no least flow needs, where that is in reach."""
+    """Limits capacities to 10^18, but keeps those above `beyond`. An arc without capacity gets one
+    that some least-cost flow doesn't reach, but at most 10^18."""
     opened = [k for k, a in enumerate(arcs) if a[3] is None or beyond and BOUND < a[3] <= beyond]
     short: Set[int] = set()
     if not opened:
@@ -37,12 +37,12 @@ def limited_arcs(supplies: Sequence[int], arcs: Sequence[Arc], beyond: float) ->
 
 
 def _room(supplies: Sequence[int], arcs: Sequence[Arc]) -> int:
-    """More than some least flow has on any arc without limit, above its lower bound, if there is a
-    least flow.
+    """An amount that some least-cost flow, if one exists, stays below on every arc without
+    capacity, counted above the arc's lower bound.
 
-    Above the lower bounds, a flow is made of paths from nodes that are left with a supply, and of
-    cycles, which cost less than 0 in some least flow. Each of these has an arc with a limit, and
-    one of negative cost.
+    Above the lower bounds, a flow consists of paths from nodes with remaining supply, and of
+    cycles. In some least-cost flow all these cycles have negative cost. Each of them has an arc
+    with a capacity and an arc of negative cost.
     """
     left, nodes = list(supplies), range(len(supplies))
     is_earning, earned, others = False, 0, 0
@@ -61,7 +61,8 @@ def _room(supplies: Sequence[int], arcs: Sequence[Arc]) -> int:
 
 
 def binding(limits: Limits, flow: Sequence[int], prices: Sequence[int]) -> List[int]:
-    """The arcs at a limit that isn't theirs, where the prices don't show that it costs nothing."""
+    """The arcs at a replaced capacity whose reduced cost is negative: there the prices don't show
+    that a larger capacity gains nothing."""
     arcs = limits.arcs
     return [
         k
@@ -73,8 +74,8 @@ def binding(limits: Limits, flow: Sequence[int], prices: Sequence[int]) -> List[
 def cycle_through(
     k: int, limits: Limits, unlimited: Sequence[int], flow: Sequence[int]
 ) -> List[int]:
-    """A cycle of an arc and of others without limits that carry something; none where it isn't
-    there."""
+    """A cycle of this arc and other arcs without capacity that carry flow; an empty list if there
+    is none."""
     arcs = limits.arcs
     out: Dict[int, List[int]] = {}
     for j in unlimited:
@@ -95,12 +96,12 @@ def cycle_through(
     return [k] + cycle[::-1] if end in came else []
 
 
-# An arc of the residual net: its ends, its cost, and its place among the arcs of the problem.
+# A residual arc: its tail, head and cost, and the index of its arc in the problem.
 Residual = Tuple[int, int, int, int]
 
 
 def residual_arcs(limits: Limits, flow: Sequence[int]) -> List[Residual]:
-    """Where a flow may still change, if the arcs that are given another limit had none."""
+    """The residual arcs of a flow if the arcs with a replaced capacity had none."""
     opened, found = set(limits.opened), []
     for k, ((u, v, low, cap, cost), f) in enumerate(zip(limits.arcs, flow)):
         if f < cap or k in opened:
@@ -111,8 +112,8 @@ def residual_arcs(limits: Limits, flow: Sequence[int]) -> List[Residual]:
 
 
 def lowered(prices: Sequence[int], arcs: Sequence[Residual]) -> Tuple[List[int], List[Residual]]:
-    """The greatest prices, none above those given, by which no arc costs less than 0; and, where
-    there are none, a cycle of negative cost."""
+    """The greatest prices, at most the given ones, that leave no arc a negative reduced cost. If
+    none exist, also a negative-cost cycle."""
     found = list(prices)
     into: Dict[int, List[Residual]] = {}
     for arc in arcs:
@@ -132,7 +133,8 @@ def lowered(prices: Sequence[int], arcs: Sequence[Residual]) -> Tuple[List[int],
 
 
 def _cycle_of(came: Dict[int, Residual], node: int, nodes: int) -> List[Residual]:
-    """The cycle to which the arcs lead by which prices fell, from a node of the last round."""
+    """The cycle that is reached from a node whose price fell in the last round, along the arcs
+    that lowered prices."""
     for _ in range(nodes):
         node = came[node][1]
     cycle = [came[node]]

@@ -1,4 +1,4 @@
-"""Numbers made whole, exactly: a float is the decimal that it prints as."""
+"""Scales numbers to whole numbers exactly. A float counts as the decimal that it prints as."""
 import math
 from fractions import Fraction
 from operator import index
@@ -8,25 +8,25 @@ Whole = Union[int, Fraction]
 
 
 def is_float(value: Any) -> bool:
-    """Whether it is a float, of numpy's kinds among them."""
+    """Whether a value is a float of Python or of numpy."""
     return isinstance(value, float) or getattr(getattr(value, "dtype", None), "kind", "") == "f"
 
 
 def listed(values: Any) -> Any:
-    """An array of numpy as a list, in which a float of whatever width is the decimal that it prints
-    as; another iterable as it is."""
+    """A numpy array as a list, in which a float of any width is the decimal that it prints as.
+    Other iterables stay as they are."""
     if not hasattr(values, "tolist"):
         return values
     dtype: Any = getattr(values, "dtype", None)
-    # Wider ones stay what they are, and print as themselves.
+    # Wider floats keep their value, and print it.
     if getattr(dtype, "kind", "") == "f" and dtype.itemsize < 8:
         return values.astype(str).astype(float).tolist()
     return values.tolist()
 
 
 def exact(value: Any) -> Whole:
-    """A number as an int or a Fraction. An exponent of more than three digits is past all limits,
-    and isn't multiplied out."""
+    """A number as an int or a Fraction. An exponent of more than three digits is beyond all limits,
+    so this doesn't expand it."""
     if type(value) is int:
         return value
     try:
@@ -49,7 +49,7 @@ def exact(value: Any) -> Whole:
 
 
 def scale_of(values: Iterable[Whole]) -> int:
-    """The least number that makes all of them whole."""
+    """The least factor that makes all values whole."""
     scale = 1
     for value in values:
         if type(value) is not int:
@@ -58,7 +58,7 @@ def scale_of(values: Iterable[Whole]) -> int:
 
 
 def unscaled(value: Any, scale: int) -> Union[int, float]:
-    """What a scaled number was."""
+    """The original value of a scaled number."""
     if scale == 1 and type(value) is int:
         return value
     number = Fraction(value, scale)
@@ -71,8 +71,8 @@ def unscaled(value: Any, scale: int) -> Union[int, float]:
 
 
 def said(value: Any) -> str:
-    """A number or a label in a message: a great power of ten as such, and what is long cut
-    short."""
+    """A number or a label as text for a message. Large powers of ten become `10^..`, and long text
+    is shortened."""
     if type(value) is int and abs(value) >= 10**15:
         digits = int(math.log10(abs(value)))
         for exponent in (digits, digits + 1):
@@ -85,6 +85,6 @@ def said(value: Any) -> str:
 
 
 def limited(value: int, limit: int) -> int:
-    """The number, or one just past its limit, which fits 64 bits and is refused for the same
-    reason."""
+    """The number, or one just beyond the limit instead: it fits 64 bits, and the library refuses it
+    for the same reason."""
     return value if -limit <= value <= limit else (limit + 1 if value > 0 else -limit - 1)

@@ -1,4 +1,4 @@
-"""Flow problems solved, and every answer judged."""
+"""Solves flow problems and has the checker judge every answer."""
 import reprlib
 import struct
 from array import array
@@ -8,7 +8,6 @@ from operator import index
 from typing import AbstractSet as Set
 from typing import (
     Any,
-    Callable,
     Dict,
     Generic,
     Hashable,
@@ -53,12 +52,9 @@ from ._limits import (
 from ._numbers import exact, is_float, limited, listed, scale_of, unscaled
 from ._types import Amount, Label, Number, Numbers, Prices, Real, Series, WholeArc
 
-# The greatest number of a node that the library can be handed.
+# The greatest node number, from 0, that fits an argument of the library.
 NODE = 2**32 - 2
 INFINITE = float("inf")
-# A flow problem of more nodes than this goes to the search that is judged: docs/BENCH.md, "What the
-# tools choose".
-LARGE = 2**14
 
 
 class Flow(Generic[Amount, Prices]):
@@ -67,14 +63,14 @@ class Flow(Generic[Amount, Prices]):
     Attributes
     ----------
     cost
-        What it costs.
+        The total cost.
     flow : list
-        What each arc carries.
+        The flow on each arc.
     prices : list or dict
-        A price for each node, in the order or by the labels of the supplies; they show that no flow
-        costs less.
+        A price for each node, in the order or by the labels of the supplies. The prices are a dual
+        certificate: they show that no feasible flow costs less.
     verdict : Verdict or None
-        What the checker said; None where it wasn't asked.
+        The checker's verdict; None if the checker wasn't asked.
     """
 
     __slots__ = ("cost", "flow", "verdict", "_prices", "_labels", "_scale")
@@ -101,7 +97,7 @@ class Flow(Generic[Amount, Prices]):
         return cast(Prices, found)
 
     def __repr__(self) -> str:
-        """The cost and the first amounts: one screen for a flow of any size."""
+        """The cost and the first amounts, which fit one screen for a flow of any size."""
         short = reprlib.Repr()
         short.maxlist = 12
         return "Flow(cost=%r, flow=%s)" % (self.cost, short.repr(self.flow))
@@ -113,23 +109,20 @@ class Flow(Generic[Amount, Prices]):
         mine, theirs = (self.cost, self.flow), (other.cost, other.flow)
         return mine == theirs and bool(self.prices == other.prices)
 
-    # A flow holds lists, which may be changed.
+    # A flow holds mutable lists.
     __hash__ = None  # type: ignore[assignment]
 
 
-def suited(
-    nodes: int, engine: str = "auto", pricing: Optional[str] = None, block: Optional[int] = None
+def flow_choice(
+    engine: str = "auto", pricing: Optional[str] = None, block: Optional[int] = None
 ) -> Choice:
-    """What solves a flow problem of so many nodes: what is asked, and by its size where nothing
-    is."""
+    """The engine and its options that the caller asks for, by default `fast`."""
     is_asked = engine != "auto" or pricing is not None or block is not None
-    return choice_of(
-        "augment" if nodes > LARGE and not is_asked else engine, pricing or "block", block
-    )
+    return choice_of(engine if is_asked else "fast", pricing or "block", block)
 
 
 def _packed(arcs: Sequence[Limited]) -> bytes:
-    """The arcs as the library has them; what is past a limit stays past it."""
+    """The arcs in the library's layout. A number beyond a limit stays beyond it."""
     try:
         numbers = [(u + 1, v + 1, low, cap, cost) for u, v, low, cap, cost in arcs]
         return struct.pack("=" + "IIqqq" * len(arcs), *chain.from_iterable(numbers))
@@ -157,7 +150,7 @@ def _supplied(supplies: Sequence[int]) -> "array[int]":
 def _must_and_can(
     supplies: Sequence[int], arcs: Sequence[Limited], nodes: List[int], side: str
 ) -> Tuple[int, int, List[int]]:
-    """What the set must send or take, what it can at most, and the arcs that limit it."""
+    """The amount that a set must send or take, the most that it can, and the arcs that limit it."""
     inside = set(nodes)
     sends = side == "send"
     must, can, limiting = sum(supplies[v] for v in inside), 0, []
@@ -174,7 +167,7 @@ def _must_and_can(
 
 
 def _refused(problem: ArcArrays, supplies: Sequence[int], limits: Limits) -> Refused:
-    """The first fault of the arrays."""
+    """The exception for the first fault in the arrays."""
     reason, place = CODES[problem.told.code], problem.told.number - 1
     if reason == "size":
         return Refused(None, None, reason, 1, (len(supplies), len(limits.arcs)))
@@ -192,7 +185,7 @@ def _refused(problem: ArcArrays, supplies: Sequence[int], limits: Limits) -> Ref
 
 
 def _limiting(place: int, arc: Arc) -> Refused:
-    """An arc that would have to carry more than 10^18."""
+    """The exception for an arc that would have to carry more than 10^18."""
     reason = "unlimited" if arc[3] is None else "bound"
     return Refused(place, None, reason, 1, arc[3], arc[:2])
 
@@ -200,7 +193,7 @@ def _limiting(place: int, arc: Arc) -> Refused:
 def _blocked(
     problem: ArcArrays, supplies: Sequence[int], given: Sequence[Arc], limits: Limits, check: bool
 ) -> MCFError:
-    """Why no flow is feasible, or none whose arcs carry 10^18 at most."""
+    """The exception that says why no flow is feasible, or none with at most 10^18 on each arc."""
     nodes, side = marked(problem.prices), SIDES[problem.told.code]
     must, can, limiting = _must_and_can(supplies, limits.arcs, nodes, side)
     if check and must <= can:
@@ -214,7 +207,8 @@ def _blocked(
 def _unbounded(
     limits: Limits, given: Sequence[Arc], flow: Sequence[int], bound: List[int]
 ) -> Unbounded:
-    """A cycle through one of the arcs that are bound by a limit that no least flow needs."""
+    """The exception for an unbounded cost. Its cycle contains an arc of `bound`: an arc at a
+    replaced capacity that no least-cost flow needs."""
     unlimited = [k for k in limits.opened if given[k][3] is None]
     for k in bound:
         cycle = cycle_through(k, limits, unlimited, flow)
@@ -224,8 +218,8 @@ def _unbounded(
 
 
 def _reprice(problem: ArcArrays, given: Sequence[Arc], limits: Limits) -> None:
-    """Finds prices by which a flow is least though an arc is at a limit of 10^18 that isn't its
-    own, or raises what says that it isn't least without that limit."""
+    """Handles a flow with arcs at a capacity of 10^18 that isn't their own. Finds prices which show
+    that the flow has least cost without these capacities too, or raises the reason why not."""
     prices, cycle = lowered(problem.prices, residual_arcs(limits, problem.flow))
     if not cycle:
         try:
@@ -243,7 +237,7 @@ def _reprice(problem: ArcArrays, given: Sequence[Arc], limits: Limits) -> None:
 
 
 def _judged(problem: ArcArrays) -> Verdict:
-    """The verdict of the checker, which accepts."""
+    """The checker's verdict. Raises NotAccepted if the checker rejects the answer."""
     verdict = problem.check()
     if not verdict:
         raise NotAccepted(repr(verdict))
@@ -253,13 +247,13 @@ def _judged(problem: ArcArrays) -> Verdict:
 def solve_whole(
     supplies: Sequence[int], arcs: Sequence[Arc], choice: Choice, check: bool, beyond: float = 0
 ) -> Tuple[ArcArrays, Optional[Verdict]]:
-    """Solves an instance of whole numbers whose nodes are numbered from 0; a cap of None is none,
-    and one past 10^18 is taken up to `beyond`.
+    """Solves an instance of whole numbers whose nodes are numbered from 0. A capacity of None means
+    no limit. A capacity above 10^18 counts as 10^18 if it is at most `beyond`.
 
-    An arc without limit gets the least that no least flow needs, but 10^18 at most. The prices tell
-    whether it mattered: where each such arc has a reduced cost of 0 or more, they show that the
-    flow is least without the limits too; and where one is below 0, there is a cycle of negative
-    cost without limits, unless 10^18 is what bound.
+    An arc without capacity gets one that some least-cost flow doesn't reach, but at most 10^18. The
+    prices tell whether this mattered. If all these arcs have reduced costs of at least 0, the
+    prices show that the flow has least cost without these capacities too. If one is below 0, there
+    is a negative-cost cycle of arcs without capacity, unless it was 10^18 that bound the flow.
     """
     limits = limited_arcs(supplies, arcs, beyond)
     problem = ArcArrays(_supplied(supplies), len(supplies), _packed(limits.arcs), len(arcs))
@@ -281,7 +275,8 @@ def solve_whole(
 def _numbered(
     supplies: Mapping[Hashable, Any], arcs: List[Tuple[Any, ...]]
 ) -> Tuple[List[Hashable], List[Any], List[Tuple[Any, ...]]]:
-    """Labels in the order in which they come, and the instance by their numbers."""
+    """The labels in order of first appearance, the supplies in that order, and the arcs by node
+    numbers."""
     number: Dict[Hashable, int] = {label: place for place, label in enumerate(supplies)}
     ends = [
         (number.setdefault(arc[0], len(number)), number.setdefault(arc[1], len(number)))
@@ -296,7 +291,7 @@ def _numbered(
 
 
 def _by_label(supplies: Any) -> Dict[Hashable, Any]:
-    """What is like a dict without being one, as a Series of pandas, as a dict."""
+    """A dict from an object with `items` that isn't a Mapping, such as a pandas Series."""
     labels, values = [], []
     for label, value in supplies.items():
         labels.append(label)
@@ -313,7 +308,7 @@ def _by_label(supplies: Any) -> Dict[Hashable, Any]:
 def _given(
     supplies: Any, arcs: List[Tuple[Any, ...]]
 ) -> Tuple[Optional[List[Hashable]], Any, List[Tuple[Any, ...]]]:
-    """Labels where supplies have them, the supplies, and the arcs by the numbers of nodes."""
+    """The labels, or None if the supplies have none; the supplies; and the arcs by node numbers."""
     if isinstance(supplies, Mapping):
         return _numbered(supplies, arcs)
     if hasattr(supplies, "items"):
@@ -324,12 +319,12 @@ def _given(
         return None, listed(supplies), arcs
     if supplies < 0:
         raise ValueError("there are no %d nodes" % supplies)
-    # One node more than there may be is refused as any number of them is.
+    # The library refuses one node beyond the limit just as it refuses any larger number.
     return None, [0] * min(supplies, NODES + 1), arcs
 
 
 def _row(arc: Any) -> Tuple[Any, ...]:
-    """An arc with a lower bound, which is 0 where none is given."""
+    """An arc with its lower bound, by default 0."""
     if type(arc) not in (tuple, list) and isinstance(arc, (Mapping, Set, str, bytes)):
         raise TypeError(
             "an arc is (from, to, cap, cost) or (from, to, low, cap, cost), not %r" % (arc,)
@@ -342,7 +337,7 @@ def _row(arc: Any) -> Tuple[Any, ...]:
 
 
 def _node(value: Any) -> int:
-    """The number of a node, which an array of floats has as a float."""
+    """The number of a node as an int. An array of floats has it as a float."""
     try:
         return int(value) if is_float(value) and float(value).is_integer() else index(value)
     except TypeError:
@@ -352,7 +347,7 @@ def _node(value: Any) -> int:
 
 
 def _are_whole(amounts: List[Any], rows: Sequence[Tuple[Any, ...]]) -> bool:
-    """Whether all are ints, but for caps of None."""
+    """Whether all numbers are ints, except for capacities of None."""
     columns = list(zip(*rows))
     caps = columns.pop(3) if columns else ()
     return set(map(type, caps)) <= {int, type(None)} and all(
@@ -363,7 +358,8 @@ def _are_whole(amounts: List[Any], rows: Sequence[Tuple[Any, ...]]) -> bool:
 def _scaled(
     amounts: List[Any], rows: Sequence[Tuple[Any, ...]]
 ) -> Tuple[List[int], List[Any], int, int]:
-    """Supplies and arcs in whole numbers, and how many times as great amounts and costs are."""
+    """Supplies and arcs in whole numbers, and the factors by which amounts and costs were
+    multiplied."""
     if _are_whole(amounts, rows):
         return amounts, list(rows), 1, 1
     exacts = [
@@ -390,7 +386,7 @@ def _scaled(
 
 
 def _restored(error: Refused, labels: Optional[Sequence[Any]], scales: Dict[str, int]) -> Refused:
-    """A refusal by the labels and the numbers that were given."""
+    """A refusal in the caller's labels and numbers."""
     named: Any = (lambda v: v) if labels is None else labels.__getitem__
     scale = scales.get(error.reason, 1)
     value = error.value
@@ -407,14 +403,14 @@ def solve_rows(
     labels: Optional[Sequence[Any]],
     given: Iterable[Any],
     rows: Sequence[Tuple[Any, ...]],
-    choice: Callable[[int], Choice],
+    choice: Choice,
     check: bool,
     beyond: float = 0,
 ) -> Flow[Any, Any]:
-    """Solves an instance of numbers of all kinds, whose nodes are numbered and may have labels."""
+    """Solves an instance with numbers of any type, whose nodes are numbered and may have labels."""
     amounts, exacts, units, costs = _scaled([exact(b) for b in given], rows)
     try:
-        problem, verdict = solve_whole(amounts, exacts, choice(len(amounts)), check, beyond)
+        problem, verdict = solve_whole(amounts, exacts, choice, check, beyond)
     except Infeasible as error:
         nodes = error.nodes if labels is None else [labels[v] for v in error.nodes]
         raise Infeasible(
@@ -509,45 +505,46 @@ def solve(
 ) -> Flow[Any, Any]:
     """Solves a minimum-cost flow problem.
 
-    Numbers that aren't whole are multiplied to be whole, exactly: a float is the decimal that it
-    prints as.
+    The function scales numbers that aren't whole to whole numbers, exactly. A float counts as the
+    decimal that it prints as.
 
     Parameters
     ----------
     supplies : sequence, mapping, Series or int
-        What each node sends, or takes where it is below 0: by node (nodes are 0, 1, ..), by label,
-        or as a number of nodes without supply. An array of numpy serves, too.
+        The supply of each node, which is negative for a demand. A sequence or a numpy array has
+        them by node (nodes are 0, 1, ..), a mapping by label. An int is the number of nodes, all
+        without supply.
     arcs : iterable
-        (from, to, cap, cost) or (from, to, low, cap, cost) of each arc, as an array of numpy, too.
-        A cap of None, or an infinite one, is none.
-    engine : {'auto', 'simplex', 'scaling', 'augment', 'sap', 'cancel'}
-        What solves it; 'auto' is what suits the size, where no rule or block is asked.
+        (from, to, cap, cost) or (from, to, low, cap, cost) for each arc, or a numpy array of such
+        rows. A cap that is None or infinite means no limit.
+    engine : {'auto', 'simplex', 'scaling', 'fast', 'sap', 'cancel'}
+        The algorithm. 'auto' is 'fast', unless `pricing` or `block` is given.
     pricing : {'block', 'first', 'best', 'wide'}, optional
         The pricing rule of the network simplex.
     block : int, optional
-        How many arcs a block of 'block' has.
+        The number of arcs in a block of the rule 'block'.
     check : bool
-        Whether the checker judges the answer before it is shown.
+        Whether the checker judges the answer before the function returns it.
 
     Returns
     -------
     Flow
-        A flow of least cost, with prices that show it. All its numbers are ints where all that are
-        given are.
+        A least-cost flow, with prices that show it. If all given numbers are ints, so are all its
+        numbers.
 
     Raises
     ------
     Infeasible
-        No flow meets the supplies: it names nodes that must send or take more than they can.
+        No flow is feasible. The exception names nodes that must send or take more than they can.
     Unbounded
-        A cycle of negative cost has no limit.
+        A negative-cost cycle has no limit.
     Refused
-        A number is past the limits: 10^18 for supplies and bounds, 10^15 for costs, 10^36 for the
-        sum of costs times bounds, when they are whole.
+        A scaled number is beyond the limits: 10^18 for supplies and bounds, 10^15 for costs, and
+        10^36 for the sum of costs times bounds.
     OverflowError
         A price doesn't fit 64 bits.
     TypeError, ValueError
-        What is given is no problem.
+        The arguments don't describe a flow problem.
 
     Examples
     --------
@@ -561,4 +558,4 @@ def solve(
     mcf.Infeasible: 1 node(s) must send 1 and can send 0
     """
     labels, given, rows = _given(supplies, [_row(arc) for arc in listed(arcs)])
-    return solve_rows(labels, given, rows, lambda n: suited(n, engine, pricing, block), check)
+    return solve_rows(labels, given, rows, flow_choice(engine, pricing, block), check)

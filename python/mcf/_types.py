@@ -1,4 +1,4 @@
-"""What callers hand in and get, for type checkers."""
+"""The types of arguments and results, for type checkers."""
 from typing import (
     Any,
     Collection,
@@ -13,47 +13,47 @@ from typing import (
     Union,
 )
 
-# Numbers of all kinds: int, float, Decimal, Fraction, and those of numpy.
+# Any real number: int, float, Decimal, Fraction, or a numpy number.
 Real = Union[SupportsFloat, SupportsIndex]
 Number = Union[int, float]
 Label = TypeVar("Label")
 Amount = TypeVar("Amount", bound=float, covariant=True)
 Prices = TypeVar("Prices", covariant=True)
-# An arc of whole numbers: its ends, the lower bound where it has one, capacity and cost.
+# An arc of whole numbers: its tail and head, an optional lower bound, its capacity and its cost.
 WholeArc = Union[
     Tuple[Label, Label, Optional[int], int],
     Tuple[Label, Label, int, Optional[int], int],
 ]
-# Whole numbers one after the other, an array of numpy among them.
+# A collection of whole numbers, for example a numpy array.
 Column = Collection[SupportsIndex]
 
 
 class Array(Protocol):
-    """An array of numpy, or what is like one."""
+    """A numpy array, or an object like one."""
 
     def __len__(self) -> int:
-        """How many rows it has."""
+        """The number of rows."""
 
     def tolist(self) -> Any:
-        """What it has, as lists."""
+        """The entries, as nested lists."""
 
 
 class Matrix(Protocol):
-    """What numpy makes an array of by itself."""
+    """An object that numpy can convert to an array."""
 
     def __array__(self) -> Any:
         """The array."""
 
 
 class Series(Protocol):
-    """Numbers by labels, as a Series of pandas."""
+    """Numbers by label, like a pandas Series."""
 
     @property
     def index(self) -> Any:
         """The labels."""
 
     def items(self) -> Iterable[Tuple[Any, Any]]:
-        """Labels with numbers."""
+        """Pairs of a label and its number."""
 
 
 Numbers = Union[Sequence[Real], Array]

@@ -1,4 +1,4 @@
-"""Assignments, as scipy.optimize.linear_sum_assignment gives them."""
+"""Least-cost assignments, with the interface of scipy.optimize.linear_sum_assignment."""
 import math
 import struct
 import sys
@@ -8,14 +8,16 @@ from itertools import chain
 from typing import Any, List, Optional, Sequence, Tuple, Union, overload
 
 from ._errors import Cell, Infeasible, NotAccepted, Refused
-from ._library import BLOCKED, CODES, FLOW, PairArrays, choice_of
+from ._library import BLOCKED, CODES, FLOW, FORBIDDEN, MatrixArrays, PairArrays, choice_of
 from ._limits import COST
 from ._numbers import exact, is_float, limited, listed, scale_of
-from ._solving import solve_whole, suited
+from ._solving import flow_choice, solve_whole
 from ._types import Matrix, Real
 
-# The bytes of the greatest template that is kept: at most eight are.
+# The largest template to keep, in bytes. At most eight are kept.
 KEPT = 2**20
+
+FORBIDDEN_BYTES = FORBIDDEN.to_bytes(8, sys.byteorder)
 
 
 @overload
@@ -43,38 +45,38 @@ def linear_sum_assignment(
 def linear_sum_assignment(
     cost_matrix: Any, maximize: bool = False, *, engine: str = "auto", check: bool = True
 ) -> Tuple[Any, Any]:
-    """Matches rows with columns at least cost, or at greatest.
+    """Matches rows with columns at least cost, or at greatest cost.
 
-    Entries that aren't whole are multiplied to be whole, exactly: a float is the decimal that it
-    prints as.
+    The function scales entries that aren't whole to whole numbers, exactly. A float counts as the
+    decimal that it prints as.
 
     Parameters
     ----------
     cost_matrix : sequence of sequences, or array
-        What it costs to match each row with each column. An infinite entry is a pair that can't be
-        matched.
+        The cost of matching each row with each column. An infinite entry forbids a pair.
     maximize : bool
-        Whether the greatest cost is wanted.
-    engine : {'auto', 'sap', 'simplex', 'scaling', 'augment', 'cancel'}
-        What solves it.
+        Whether to find the greatest cost instead of the least.
+    engine : {'auto', 'sap', 'simplex', 'scaling', 'fast', 'cancel'}
+        The algorithm. 'auto' searches the matrix directly, and uses 'sap' if the library accepts no
+        answer of that search.
     check : bool
-        Whether the checker judges the answer before it is shown.
+        Whether the checker judges the answer before the function returns it.
 
     Returns
     -------
     rows, columns
-        The rows that are matched, ascending, and the column of each: arrays of numpy where the
-        matrix is one, and else lists.
+        The matched rows, ascending, and the column of each. They are numpy arrays if the matrix is
+        one, and otherwise lists.
 
     Raises
     ------
     ValueError
-        No matching takes all rows, or all columns, without an infinite entry; or the matrix is
-        none.
+        No matching covers all rows or all columns without an infinite entry; or `cost_matrix` isn't
+        a matrix.
     Refused
-        An entry is past 10^15, when all are whole: so are floats of 16 digits.
+        A scaled entry is beyond 10^15. Floats of 16 digits are.
     TypeError
-        An entry is no number.
+        An entry isn't a number.
 
     Examples
     --------
@@ -95,7 +97,10 @@ def linear_sum_assignment(
 def _matched(
     cells: Any, height: int, width: int, engine: str, check: bool
 ) -> List[Tuple[int, int]]:
-    """The pairs, by row."""
+    """The matched pairs of row and column, by row."""
+    found = _by_matrix(cells, height, width, check) if engine == "auto" and cells else None
+    if found is not None:
+        return found
     if height == width:
         return list(enumerate(_square(cells, height, engine, check)))
     if height < width:
@@ -104,8 +109,36 @@ def _matched(
     return sorted((i, j) for j, i in _wide(turned, width, height, engine, check))
 
 
+def _has_forbidden(cells: "array[int]") -> bool:
+    """Whether an entry is the number that forbids a pair in the library. As a cost, that number is
+    beyond the limit."""
+    return cells.tobytes().find(FORBIDDEN_BYTES) >= 0 and FORBIDDEN in cells
+
+
+def _by_matrix(cells: Any, height: int, width: int, check: bool) -> Optional[List[Tuple[int, int]]]:
+    """Searches the matrix directly for the pairs. Returns None if the library accepts no answer of
+    the search, or if an entry is beyond the limit."""
+    try:
+        costs = cells
+        if not isinstance(cells, array):
+            costs = array("q", [FORBIDDEN if c is None else limited(c, COST) for c in cells])
+        elif _has_forbidden(cells):
+            return None
+    except (TypeError, OverflowError):
+        return None
+    problem = MatrixArrays(costs, height, width)
+    status = problem.assign()
+    if status == BLOCKED:
+        raise ValueError("cost matrix is infeasible")
+    if status != FLOW:
+        return None
+    if check and not problem.check():
+        raise NotAccepted("an assignment isn't shown to be least")
+    return [(row, column) for row, column in enumerate(problem.column_of) if column < width]
+
+
 def _at_cell(error: Refused, cells: Any, width: int, maximize: bool) -> Refused:
-    """A refusal by the place in the matrix of the first entry that is past the limit."""
+    """A refusal that names the row and the column of the first entry beyond the limit."""
     if error.reason != "cost":
         return error
     place, cost = next((k, c) for k, c in enumerate(cells) if c is not None and abs(c) > COST)
@@ -114,8 +147,8 @@ def _at_cell(error: Refused, cells: Any, width: int, maximize: bool) -> Refused:
 
 
 def _cells(matrix: Any, maximize: bool) -> Tuple[Any, int, int, Any]:
-    """The entries row by row in whole numbers, None where one is infinite; how many rows and
-    columns; numpy where the answer is its."""
+    """The entries in whole numbers, row by row, None for an infinite one; the numbers of rows and
+    columns; and the module numpy if the answer should be numpy arrays."""
     numpy = sys.modules.get("numpy") if hasattr(matrix, "__array__") else None
     if numpy is not None:
         table = numpy.asarray(matrix)
@@ -141,17 +174,17 @@ def _cells(matrix: Any, maximize: bool) -> Tuple[Any, int, int, Any]:
             raise ValueError("expected a matrix: its rows have one length")
         flat = list(chain.from_iterable(rows))
     try:
-        # Three times as fast as array("q", flat), which before Python 3.10 also takes a Decimal,
-        # without what is after its point.
+        # This is three times as fast as array("q", flat), which before Python 3.10 also takes a
+        # Decimal and drops its decimals.
         cells = array("q", struct.pack("%dq" % len(flat), *flat))
-        # Turned round as they are here: a number of numpy may wrap.
+        # Negate Python's ints here, because a numpy int may wrap around.
         return array("q", [-c for c in cells]) if maximize else cells, height, width, numpy
     except (TypeError, OverflowError, struct.error):
         return _whole(flat, maximize, width), height, width, numpy
 
 
 def _whole(flat: List[Any], maximize: bool, width: int) -> List[Optional[int]]:
-    """The entries in whole numbers, and None where one is infinite."""
+    """The entries in whole numbers, with None for an infinite one."""
     if set(map(type, flat)) == {float} and all(map(float.is_integer, flat)):
         flat = list(map(int, flat))
     else:
@@ -183,8 +216,8 @@ _kept_template = lru_cache(maxsize=8)(_template)
 
 
 def _pairs(n: int) -> "array[int]":
-    """The pairs of a square matrix of n rows, to be filled with costs. Those of a small matrix are
-    kept for the next call."""
+    """The pairs of a square matrix of n rows, with costs of 0 for the caller to fill in. The pairs
+    of a small matrix are kept for the next call."""
     return _kept_template(n)[:] if 16 * n * n <= KEPT else _template(n)
 
 
@@ -232,13 +265,13 @@ def _why(status: int, problem: PairArrays, n: int) -> Exception:
 
 
 def _wide(cells: Any, n: int, m: int, engine: str, check: bool) -> List[Tuple[int, int]]:
-    """The pairs of n rows with more columns: each row sends 1, and each column passes on 1 at most
-    to a last node."""
+    """The matched pairs of n rows and more columns. In the network each row sends 1 unit, and each
+    column passes on at most 1 unit to an extra node."""
     where = [place for place, c in enumerate(cells) if c is not None]
     arcs = [(place // m, n + place % m, 0, 1, cells[place]) for place in where]
     arcs += [(n + column, n + m, 0, 1, 0) for column in range(m)]
     try:
-        problem, _ = solve_whole([1] * n + [0] * m + [-n], arcs, suited(n + m + 1, engine), check)
+        problem, _ = solve_whole([1] * n + [0] * m + [-n], arcs, flow_choice(engine), check)
     except Infeasible:
         raise ValueError("cost matrix is infeasible") from None
     return [divmod(place, m) for place, f in zip(where, problem.flow) if f]

@@ -1,13 +1,13 @@
-"""Drop-ins for networkx' functions of minimum-cost flow: the same arguments and results.
+"""Drop-ins for the minimum-cost flow functions of networkx, with the same arguments and results.
 
-Where several flows have the least cost, another one may come than networkx gives. Exceptions are of
-networkx' kinds. Some have more to tell than their words: of an unfeasible graph `nodes`, `side`,
-`must` and `can`, and of an unbounded one the `cycle`.
+If several flows have the least cost, these functions may return another one than networkx. They
+raise the exceptions of networkx. Some have extra attributes: `nodes`, `side`, `must` and `can` for
+an infeasible graph, and `cycle` for an unbounded one.
 
-What networkx takes and this doesn't raises NetworkXRefused: numbers that are past the limits of
-mcf, which are 10^18 for demands and 10^15 for weights, when they are multiplied to be whole. So
-floats of 16 digits, as 1/3 has, are refused. A capacity that is past 10^18 is taken, as
-sys.maxsize, unless more than 10^18 would have to flow there.
+NetworkXRefused means that a scaled number is beyond the limits of mcf, though networkx takes it:
+10^18 for demands and 10^15 for weights. So floats of 16 digits, such as 1/3, are refused. A
+capacity above 10^18, such as sys.maxsize, is allowed unless more than 10^18 would have to flow
+there.
 """
 from typing import Any, Dict, List, Sequence, Tuple
 
@@ -16,7 +16,7 @@ import networkx as nx
 from . import _errors
 from ._errors import Infeasible, Unbounded
 from ._numbers import exact
-from ._solving import INFINITE, Flow, solve_rows, suited
+from ._solving import INFINITE, Flow, flow_choice, solve_rows
 from ._types import Number
 
 __all__ = [
@@ -32,7 +32,7 @@ Flows = Dict[Any, Dict[Any, Any]]
 
 
 class NetworkXRefused(nx.NetworkXException, _errors.Refused):  # type: ignore[misc]
-    """Numbers of a graph are beyond the limits of mcf; it has what mcf.Refused has."""
+    """Numbers of a graph are beyond the limits of mcf. The attributes are those of mcf.Refused."""
 
 
 def _solve(
@@ -42,10 +42,10 @@ def _solve(
     engine: str,
     check: bool,
 ) -> Flow[Any, Any]:
-    """Cost and flows; caps may be infinite, and ends are numbers of nodes."""
+    """Solves rows whose ends are node numbers and whose capacities may be infinite."""
     supplies = [-d for d in demands]
     try:
-        return solve_rows(nodes, supplies, rows, lambda n: suited(n, engine), check, INFINITE)
+        return solve_rows(nodes, supplies, rows, flow_choice(engine), check, INFINITE)
     except _errors.Refused as error:
         raise NetworkXRefused(
             error.arc, error.node, error.reason, error.scale, error.value, error.ends
@@ -53,7 +53,7 @@ def _solve(
 
 
 def _exacts(values: Sequence[Any]) -> List[Any]:
-    """Numbers without loss; what is infinite stays."""
+    """The exact values of numbers. Infinite ones stay as they are."""
     if set(map(type, values)) <= {int}:
         return list(values)
     try:
@@ -70,7 +70,7 @@ def _require_directed(G: Any) -> None:
 def _require_finite(
     nodes: List[Any], demands: List[Any], edges: List[Any], costs: List[Any]
 ) -> None:
-    """Raises what networkx raises of a graph before it solves anything."""
+    """Raises the exceptions that networkx raises before it solves a graph."""
     for u, d in zip(nodes, demands):
         if abs(d) == INFINITE:
             raise nx.NetworkXError(f"node {u!r} has infinite demand")
@@ -90,29 +90,30 @@ def network_simplex(
     engine: str = "auto",
     check: bool = True,
 ) -> Tuple[Number, Flows]:
-    """networkx.network_simplex, solved by mcf, each answer judged by its checker.
+    """networkx.network_simplex, solved by mcf, whose checker judges each answer.
 
     Parameters
     ----------
     G : networkx.DiGraph or networkx.MultiDiGraph
     demand, capacity, weight : str
-        The attributes that have the demand of a node, and the capacity and the cost of an edge.
+        The names of the attributes for the demand of a node, and for the capacity and the cost of
+        an edge.
     engine : str
-        What solves it: 'auto', 'simplex', 'scaling', 'augment', 'sap' or 'cancel'.
+        The algorithm: 'auto', 'simplex', 'scaling', 'fast', 'sap' or 'cancel'.
     check : bool
         Whether the checker judges the answer.
 
     Returns
     -------
     cost, flows
-        The least cost, and the flow by tail and head, and by key where there are several edges.
+        The least cost, and the flow by tail and head, in a multigraph also by key.
 
     Raises
     ------
     NetworkXError, NetworkXNotImplemented, NetworkXUnfeasible, NetworkXUnbounded
-        Where networkx raises them.
+        As networkx raises them.
     NetworkXRefused
-        Where numbers are beyond the limits of mcf.
+        A number is beyond the limits of mcf.
 
     Examples
     --------
@@ -156,8 +157,7 @@ def network_simplex(
 
 
 def _by_edge(G: Any, nodes: List[Any], edges: List[Any], flow: Sequence[Number]) -> Flows:
-    """The flows as networkx has them: by tail, by head, and by key where there are several
-    edges."""
+    """The flows as networkx returns them: by tail, by head, and in a multigraph by key."""
     flows: Flows = {u: {} for u in nodes}
     if G.is_multigraph():
         for e, f in zip(edges, flow):
@@ -193,8 +193,8 @@ def min_cost_flow(
 def maximum_flow_value(
     G: Any, s: Any, t: Any, capacity: str = "capacity", *, engine: str = "auto", check: bool = True
 ) -> Number:
-    """The greatest flow from s to t: the least cost, turned round, where an arc from t to s earns 1
-    a unit."""
+    """The maximum flow value from s to t. It is the flow on an extra arc from t to s that costs -1
+    a unit, in a least-cost circulation."""
     if G.is_multigraph():
         raise nx.NetworkXError("MultiGraph and MultiDiGraph not supported (yet).")
     for v in (s, t):

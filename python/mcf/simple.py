@@ -1,25 +1,25 @@
-"""The shape of OR-tools' SimpleMinCostFlow, answered by mcf."""
+"""A class with the methods of OR-tools' SimpleMinCostFlow, solved by mcf."""
 from operator import index
 from typing import Any, Iterable, List, Optional, SupportsIndex, Tuple
 
 from ._errors import Infeasible, MCFError, Refused
 from ._limits import NODES
-from ._solving import Flow, solve_rows, suited
+from ._solving import Flow, flow_choice, solve_rows
 from ._types import Column
 
-# The greatest capacity: what is past 10^18 is one that may not bind.
+# The greatest capacity. If one above 10^18 might bind, mcf refuses the problem.
 INT64 = 2**63 - 1
 
 
 def _together(*columns: Column) -> Iterable[Tuple[SupportsIndex, ...]]:
-    """The rows of columns of one length."""
+    """The rows of columns, which must have the same length."""
     if len(set(map(len, columns))) != 1:
         raise ValueError("the sequences have one length")
     return zip(*columns)
 
 
 def _node(node: SupportsIndex) -> int:
-    """The number of a node that may be."""
+    """Checks a node number and returns it as an int."""
     number = index(node)
     if not 0 <= number < NODES:
         raise ValueError("a node has a number from 0 to %d, and not %d" % (NODES - 1, number))
@@ -27,8 +27,8 @@ def _node(node: SupportsIndex) -> int:
 
 
 class SimpleMinCostFlow:
-    """Collects arcs and supplies by number, and solves them, as
-    ortools.graph.python.min_cost_flow.SimpleMinCostFlow does. A call that raises has added nothing.
+    """Collects arcs and supplies by number and solves the problem, like
+    ortools.graph.python.min_cost_flow.SimpleMinCostFlow. A call that raises adds nothing.
 
     >>> smcf = SimpleMinCostFlow()
     >>> arcs = smcf.add_arcs_with_capacity_and_unit_cost([0, 0, 1], [1, 2, 2], [4, 3, 4], [1, 5, 1])
@@ -64,7 +64,7 @@ class SimpleMinCostFlow:
         capacity: SupportsIndex,
         unit_cost: SupportsIndex,
     ) -> int:
-        """Adds an arc, and tells its number."""
+        """Adds an arc and returns its number."""
         return self.add_arcs_with_capacity_and_unit_cost([tail], [head], [capacity], [unit_cost])[0]
 
     def add_arcs_with_capacity_and_unit_cost(
@@ -74,7 +74,7 @@ class SimpleMinCostFlow:
         capacities: Column,
         unit_costs: Column,
     ) -> List[int]:
-        """Adds arcs, from columns of one length, and tells their numbers."""
+        """Adds arcs from columns of the same length and returns their numbers."""
         arcs = [
             (_node(u), _node(v), index(cap), index(cost))
             for u, v, cap, cost in _together(tails, heads, capacities, unit_costs)
@@ -85,29 +85,29 @@ class SimpleMinCostFlow:
         return list(range(len(self._arcs) - len(arcs), len(self._arcs)))
 
     def set_node_supply(self, node: SupportsIndex, supply: SupportsIndex) -> None:
-        """Says what a node sends, or takes where it is below 0."""
+        """Sets the supply of a node. A negative supply is a demand."""
         self.set_nodes_supplies([node], [supply])
 
     def set_nodes_supplies(self, nodes: Column, supplies: Column) -> None:
-        """Says what nodes send, from columns of one length."""
+        """Sets the supplies of nodes from columns of the same length."""
         for node, supply in [(_node(v), index(b)) for v, b in _together(nodes, supplies)]:
             self._reach(node)
             self._supplies[node] = supply
 
     def num_nodes(self) -> int:
-        """How many nodes there are."""
+        """The number of nodes."""
         return len(self._supplies)
 
     def num_arcs(self) -> int:
-        """How many arcs there are."""
+        """The number of arcs."""
         return len(self._arcs)
 
     def tail(self, arc: int) -> int:
-        """Where an arc begins."""
+        """The node where an arc begins."""
         return self._arcs[arc][0]
 
     def head(self, arc: int) -> int:
-        """Where an arc ends."""
+        """The node where an arc ends."""
         return self._arcs[arc][1]
 
     def capacity(self, arc: int) -> int:
@@ -115,21 +115,22 @@ class SimpleMinCostFlow:
         return self._arcs[arc][2]
 
     def unit_cost(self, arc: int) -> int:
-        """What a unit costs on an arc."""
+        """The cost of a unit on an arc."""
         return self._arcs[arc][3]
 
     def supply(self, node: int) -> int:
-        """What a node sends."""
+        """The supply of a node."""
         return self._supplies[node]
 
     def solve(self) -> int:
-        """The status; `error` then tells which nodes block, or what was refused."""
+        """Solves the problem and returns the status. If there is no flow, `error` has the exception
+        that says why."""
         self._answer = self.error = None
         if sum(self._supplies) != 0:
             return self.UNBALANCED
         try:
             rows = [(u, v, 0, cap, cost) for u, v, cap, cost in self._arcs]
-            self._answer = solve_rows(None, self._supplies, rows, suited, True, INT64)
+            self._answer = solve_rows(None, self._supplies, rows, flow_choice(), True, INT64)
         except Infeasible as error:
             self.error = error
             return self.INFEASIBLE
@@ -148,19 +149,19 @@ class SimpleMinCostFlow:
         return self._answer
 
     def optimal_cost(self) -> int:
-        """The cost of the flow that was found."""
+        """The cost of the last flow."""
         return int(self._solved().cost)
 
     def maximum_flow(self) -> int:
-        """What all nodes send in the flow that was found."""
+        """The sum of the supplies that the last flow sends."""
         self._solved()
         return sum(b for b in self._supplies if b > 0)
 
     def flow(self, arc: int) -> int:
-        """What an arc carries."""
+        """The flow on an arc."""
         return int(self._solved().flow[arc])
 
     def flows(self, arcs: Iterable[int]) -> List[int]:
-        """What arcs carry."""
+        """The flows on arcs."""
         flow = self._solved().flow
         return [int(flow[arc]) for arc in arcs]

@@ -5,7 +5,7 @@ use Rattle.mcf_c.specs.declared.choosing.McfChoice.{McfChoice}
 use Rattle.mcf_choice.specs.BlockSizes.{block_limit, standard_block}
 use Rattle.mcf_choice.specs.declared.choice.Choice.{Choice}
 use Rattle.mcf_choice.specs.declared.choice.EngineChoice.{EngineChoice}
-use Rattle.mcf_choice.specs.declared.choice.EngineChoice.TheVariants.{Auto, Cancel, Simplex, Scaling, Sap, Augment}
+use Rattle.mcf_choice.specs.declared.choice.EngineChoice.TheVariants.{Auto, Cancel, Simplex, Scaling, Sap, Fast}
 use Rattle.mcf_choice.specs.declared.choice.Form.{Form}
 use Rattle.mcf_choice.specs.declared.choice.Form.TheVariants.{One, Two}
 use Rattle.mcf_choice.specs.declared.choice.PricingChoice.{PricingChoice}
@@ -14,7 +14,7 @@ use Rattle.mcf_choice.specs.declared.choice.PricingChoice.TheVariants.{First, Be
 -- the engine with a number
 abbrev pub engine_of : ℕ → Option EngineChoice
 engine_of n =
-    if n == 0 then Some Auto else (if n == 1 then Some Cancel else (if n == 2 then Some Simplex else (if n == 3 then Some Scaling else (if n == 4 then Some Sap else (if n == 5 then Some Augment else None)))))
+    if n == 0 then Some Auto else (if n == 1 then Some Cancel else (if n == 2 then Some Simplex else (if n == 3 then Some Scaling else (if n == 4 then Some Sap else (if n == 5 then Some Fast else None)))))
 
 -- the pricing rule with a number
 abbrev pub pricing_of : ℕ → Option PricingChoice

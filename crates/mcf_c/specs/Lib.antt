@@ -3,11 +3,17 @@ pub use Rattle.mcf_checker.specs.Judging
 pub use Rattle.mcf_instance.specs.Arrays
 pub use Rattle.mcf_flows.specs.Blocking
 pub use Rattle.mcf_instance.specs.Memory
+pub use Rattle.mcf_matrix.specs.Costs
+pub use Rattle.mcf_matrix.specs.Covers
+pub use Rattle.mcf_matrix.specs.Matchings
+pub use Rattle.mcf_matrix.specs.MatrixPrices
+pub use Rattle.mcf_matrix.specs.Tables
 pub use Rattle.mcf_solver.specs.Answering
 pub use Rattle.mcf_solver.specs.Making
 pub mod Calls
 pub mod Choices
 pub mod Handing
 pub mod Judged
+pub mod Matrices
 pub mod Problems
 pub mod Verdicts

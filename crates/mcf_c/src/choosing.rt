@@ -1,10 +1,10 @@
-//! What the numbers of a call choose.
+//! The choice that the numbers of a call mean.
 ghost use Rattle.std.specs.Prelude.{◌≡◌};
 ghost use Rattle.mcf_c.specs.Choices.{block_of, choice_of, engine_of, form_of, pricing_of};
 
 use mcf_solver::{BlockSize, Choice, EngineChoice, Form, PricingChoice};
 
-/// How an instance is solved and answered, in numbers. Each is 0 for what is chosen where nothing is named.
+/// How to solve and answer an instance, in numbers. Each is 0 for the default.
 #[repr(C)]
 #[derive(Clone, Copy)]
 pub struct McfChoice {
@@ -24,7 +24,7 @@ fn engine_of(number: u32) -> Option<EngineChoice>
         2 => Some(EngineChoice::Simplex),
         3 => Some(EngineChoice::Scaling),
         4 => Some(EngineChoice::Sap),
-        5 => Some(EngineChoice::Augment),
+        5 => Some(EngineChoice::Fast),
         _ => None,
     }
 }
@@ -42,7 +42,7 @@ fn pricing_of(number: u32) -> Option<PricingChoice>
     }
 }
 
-// The size of blocks that a number means: the standard one for 0.
+// The size of blocks with a number: the default for 0.
 fn block_of(number: u32) -> Option<BlockSize>
     ensures { result ≡ block_of number }
 {

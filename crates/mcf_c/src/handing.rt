@@ -1,4 +1,4 @@
-//! Answers to instances, handed out in arrays.
+//! Answers to instances, returned in arrays.
 ghost use Rattle.std.specs.Prelude.{◌≡◌, ◌≢◌, ◌≤◌, ◌<◌, ◌⊎◌, ◌↔◌, FitsSigned, IfOk, List, Ok, OnErr, length, map, set, true, false, ℤ, ℕ, pos};
 ghost use Rattle.std.specs.Int.{w64};
 ghost use Rattle.std.specs.List.{All};
@@ -42,14 +42,14 @@ fn store(room: &mut [i64], place: usize, n: i128) -> bool
     true
 }
 
-// What an arc carries.
+// The flow of an arc.
 fn flow_of(sent: &Sent) -> i128
     ensures { result ≡ sent.now.flow }
 {
     sent.flow
 }
 
-// Writes what the arcs carry into a room for it.
+// Writes the flows of arcs into a buffer.
 fn put_flow(sent: &[Sent], room: &mut [i64])
     requires same { length room.old ≡ length sent.now }
     requires fits { FitWords (amounts sent.now) }
@@ -60,7 +60,7 @@ fn put_flow(sent: &[Sent], room: &mut [i64])
     }
 }
 
-// Writes prices into a room for them, unless one doesn't fit.
+// Writes prices into a buffer, unless one doesn't fit.
 fn put_prices(prices: &[i128], room: &mut [i64]) -> bool
     requires { length room.old ≡ length prices.now }
     ensures written { result ≡ true → room.new ≡ prices.now }
@@ -75,7 +75,7 @@ fn put_prices(prices: &[i128], room: &mut [i64]) -> bool
     true
 }
 
-// Hands out a flow.
+// Returns a flow.
 fn hand_flow(
     answer: &FlowAnswer,
     flow: &mut [i64],
@@ -107,8 +107,8 @@ fn mark_of(is_in: bool) -> i64
     if is_in { 1 } else { 0 }
 }
 
-// Writes the marks of a set's nodes into a room for them.
-fn put_marks(table: &[bool], marks: &mut [i64])
+/// Writes the marks of a set's nodes into a room for them.
+pub(crate) fn put_marks(table: &[bool], marks: &mut [i64])
     requires { length marks.old ≡ length table.now }
     ensures { marks.new ≡ map mark_of table.now }
 {
@@ -117,7 +117,7 @@ fn put_marks(table: &[bool], marks: &mut [i64])
     }
 }
 
-// Hands out a node set that blocks an instance.
+// Returns a node set that blocks an instance.
 fn hand_set(
     alloc: Global,
     instance: &Instance,
@@ -142,8 +142,8 @@ fn hand_set(
     BLOCKED
 }
 
-/// Answers an instance in arrays: its flow by arc and its prices by node, or the marks of a node set that blocks in the
-/// place of the prices.
+/// Answers an instance in arrays: its flow by arc and its prices by node, or, instead of the
+/// prices, the marks of a blocking set.
 pub(crate) fn answer_instance(
     alloc: Global,
     instance: &Instance,
@@ -176,7 +176,7 @@ pub(crate) fn answer_instance(
     }
 }
 
-// The choice with the first form.
+// The choice with the full form.
 fn in_one_form(choice: Choice) -> Choice
     ensures { result ≡ in_one_form choice }
 {

@@ -1,11 +1,11 @@
-//! Safe Rust over `libmcf.a`. No export of the library has a condition on its arguments beyond what their types say, so
-//! each of these calls is allowed with any arguments.
+//! Safe Rust over `libmcf.a`. The library's exports have no conditions on their arguments beyond
+//! the types of this crate, so each of these calls is safe with any arguments.
 
 mod raw;
 
 pub use raw::{Arc, Choice, Pair};
 
-/// What an answer holds.
+/// The kind of an answer.
 #[derive(Clone, Copy, Debug, PartialEq, Eq)]
 pub enum Kind {
     Flow,
@@ -17,10 +17,12 @@ pub enum Kind {
 #[derive(Clone, Copy, Debug, PartialEq, Eq)]
 pub enum Error {
     NoMemory,
-    /// The numbers of the choice mean none.
+    /// A number of the choice has no meaning.
     InvalidChoice,
     /// A price of the flow doesn't fit 64 bits.
     PriceOverflow,
+    /// The search in a cost matrix found no answer that the judge accepts.
+    NotShown,
 }
 
 /// The side by which a node set blocks.
@@ -33,15 +35,27 @@ pub enum Side {
 /// The answer to arrays.
 #[derive(Clone, Debug, PartialEq, Eq)]
 pub enum Answer {
-    /// A flow by arc that no feasible flow undercuts, its cost, and prices by node that show it.
+    /// A least-cost flow by arc, its cost, and prices by node that show it.
     Flow { cost: i128, flow: Vec<i64>, prices: Vec<i64> },
     /// Nodes, from 1, that must send or take more than they can.
     Blocked { side: Side, nodes: Vec<usize> },
-    /// The first fault: its code, as `mcf.h` has it, and the node or arc, from 1, or 0.
+    /// The first fault: its code in `mcf.h`, and the node or arc, from 1, or 0.
     Refused { code: u32, place: u64 },
 }
 
-/// A verdict in numbers, as `mcf.h` has them.
+/// The answer to a cost matrix.
+#[derive(Clone, Debug, PartialEq, Eq)]
+pub enum Assigned {
+    /// The column of each row that has one, and prices of rows and columns which show that the
+    /// assignment has least cost.
+    Least { column_of: Vec<Option<usize>>, row_prices: Vec<i64>, column_prices: Vec<i64> },
+    /// Rows and columns that cover all allowed pairs and are fewer than the smaller side has.
+    Infeasible { rows: Vec<usize>, columns: Vec<usize> },
+    /// The number of costs isn't rows times columns, or a cost is beyond the limit.
+    Refused,
+}
+
+/// A verdict in the numbers of `mcf.h`.
 #[derive(Clone, Copy, Debug, PartialEq, Eq)]
 pub struct Verdict {
     pub accepted: bool,
@@ -79,8 +93,8 @@ pub fn solve_arcs(supplies: &[i64], arcs: &[Arc], choice: Choice) -> Result<Answ
     answer_of(status, flow, prices, told)
 }
 
-/// The answer to the assignment problem of so many rows and columns and of these pairs: its nodes are the rows and then the
-/// columns, and its arcs the pairs.
+/// The answer to an assignment problem with these pairs. Its nodes are the rows and then the
+/// columns, and its arcs are the pairs.
 pub fn solve_pairs(rows: u32, columns: u32, pairs: &[Pair], choice: Choice) -> Result<Answer, Error> {
     let nodes = rows as usize + columns as usize;
     let (mut flow, mut prices, mut told) = (vec![0; pairs.len()], vec![0; nodes], raw::Told::default());
@@ -88,7 +102,25 @@ pub fn solve_pairs(rows: u32, columns: u32, pairs: &[Pair], choice: Choice) -> R
     answer_of(status, flow, prices, told)
 }
 
-/// The verdict on a flow by arc, prices by node and a cost, or `None` where the arrays have a fault or other lengths.
+/// The least-cost assignment of a cost matrix that is stored row by row. Rows and columns count
+/// from 0, and `i64::MAX` forbids a pair.
+pub fn assign_matrix(costs: &[i64], rows: usize, columns: usize) -> Result<Assigned, Error> {
+    let (mut column_of, mut row_prices, mut column_prices) = (vec![0; rows], vec![0; rows], vec![0; columns]);
+    let marked = |marks: &[i64]| (0..marks.len()).filter(|i| marks[*i] == 1).collect();
+    match raw::assign_matrix(costs, (rows, columns), &mut column_of, &mut row_prices, &mut column_prices) {
+        0 => {
+            let column_of = column_of.iter().map(|j| Some(*j as usize).filter(|j| *j < columns)).collect();
+            Ok(Assigned::Least { column_of, row_prices, column_prices })
+        }
+        1 => Ok(Assigned::Infeasible { rows: marked(&row_prices), columns: marked(&column_prices) }),
+        raw::INVALID_INPUT => Ok(Assigned::Refused),
+        raw::NOT_SHOWN => Err(Error::NotShown),
+        _ => Err(Error::NoMemory),
+    }
+}
+
+/// The verdict on a flow by arc, prices by node and a cost, or `None` if the arrays have a fault or
+/// wrong lengths.
 pub fn check_arcs(supplies: &[i64], arcs: &[Arc], flow: &[i64], prices: &[i64], cost: i128) -> Result<Option<Verdict>, Error> {
     let mut told = raw::Told::of(cost);
     match raw::check_arcs(supplies, arcs, flow, prices, &mut told) {

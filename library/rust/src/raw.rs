@@ -1,11 +1,13 @@
-//! The exports, as `mcf.h` declares them, each behind a function that lends it what its types ask.
+//! The exports that `mcf.h` declares. Each has a function here that passes it valid pointers.
 
 pub const INVALID_INPUT: u32 = 2;
 pub const NO_MEMORY: u32 = 3;
 pub const BUFFER_TOO_SMALL: u32 = 4;
 pub const PRICE_OVERFLOW: u32 = 6;
+pub const NOT_SHOWN: u32 = 7;
 
-/// How an instance is solved and answered, in the numbers of `mcf.h`; all 0 is what suits.
+/// How to solve an instance and which form the answer has, in the numbers of `mcf.h`. All zeros are
+/// the defaults.
 #[repr(C)]
 #[derive(Clone, Copy, Debug, Default)]
 pub struct Choice {
@@ -26,7 +28,7 @@ pub struct Arc {
     pub cost: i64,
 }
 
-/// A pair that may be assigned, with rows and columns from 1.
+/// An allowed pair, with rows and columns from 1.
 #[repr(C)]
 #[derive(Clone, Copy, Debug)]
 pub struct Pair {
@@ -85,8 +87,18 @@ struct Assignment {
     pair_count: usize,
 }
 
+/// A cost matrix, as `mcf.h` has it.
+#[repr(C)]
+struct Matrix {
+    costs: *const i64,
+    length: usize,
+    rows: usize,
+    columns: usize,
+    stride: usize,
+}
+
 mod exports {
-    use super::{Assignment, Choice, FlowProblem, Told};
+    use super::{Assignment, Choice, FlowProblem, Matrix, Told};
 
     #[rustfmt::skip]
     unsafe extern "C" {
@@ -98,11 +110,14 @@ mod exports {
             flow: *const i64, flow_length: usize, prices: *const i64, prices_length: usize, told: *mut Told) -> u32;
         pub fn mcf_solve_pairs(problem: *const Assignment, choice: *const Choice,
             flow: *mut i64, flow_length: usize, prices: *mut i64, prices_length: usize, told: *mut Told) -> u32;
+        pub fn mcf_assign_matrix(matrix: *const Matrix, column_of: *mut u32, column_of_length: usize,
+            row_prices: *mut i64, row_prices_length: usize, column_prices: *mut i64, column_prices_length: usize) -> u32;
     }
 }
 
-// SAFETY, of each call below: the declarations are those of `mcf.h`, and the pointers and lengths are those of slices and references that
-// live through the call, of which those that are written are distinct from all others.
+// SAFETY of each call below: the declarations are those of `mcf.h`. The pointers and lengths are
+// those of slices and references that live through the call. Memory that the call writes overlaps
+// no other argument.
 
 pub fn solve(input: &[u8], choice: &Choice, room: &mut [u8]) -> (u32, usize) {
     let mut used = 0;
@@ -127,4 +142,12 @@ pub fn check_arcs(supplies: &[i64], arcs: &[Arc], flow: &[i64], prices: &[i64], 
 pub fn solve_pairs(sides: (u32, u32), pairs: &[Pair], choice: &Choice, flow: &mut [i64], prices: &mut [i64], told: &mut Told) -> u32 {
     let problem = Assignment { rows: sides.0, columns: sides.1, pairs: pairs.as_ptr(), pair_count: pairs.len() };
     unsafe { exports::mcf_solve_pairs(&problem, choice, flow.as_mut_ptr(), flow.len(), prices.as_mut_ptr(), prices.len(), told) }
+}
+
+pub fn assign_matrix(costs: &[i64], sides: (usize, usize), column_of: &mut [u32], row_prices: &mut [i64], column_prices: &mut [i64]) -> u32 {
+    let matrix = Matrix { costs: costs.as_ptr(), length: costs.len(), rows: sides.0, columns: sides.1, stride: sides.1 };
+    unsafe {
+        exports::mcf_assign_matrix(&matrix, column_of.as_mut_ptr(), column_of.len(),
+            row_prices.as_mut_ptr(), row_prices.len(), column_prices.as_mut_ptr(), column_prices.len())
+    }
 }

@@ -1,4 +1,4 @@
-use mcf::{check, check_arcs, solve, solve_arcs, solve_pairs, Answer, Arc, Choice, Error, Kind, Pair, Side};
+use mcf::{assign_matrix, check, check_arcs, solve, solve_arcs, solve_pairs, Answer, Arc, Assigned, Choice, Error, Kind, Pair, Side};
 
 const TEXT: &[u8] = b"p min 3 3\nn 1 4\nn 3 -4\na 1 2 0 3 1\na 2 3 0 3 -1\na 1 3 0 9 5\n";
 
@@ -46,6 +46,15 @@ fn assignments() {
     let pairs = [(1, 1, 4), (1, 2, 1), (2, 1, 2), (2, 2, -3)].map(|(row, column, cost)| Pair { row, column, cost });
     let Ok(Answer::Flow { cost, flow, .. }) = solve_pairs(2, 2, &pairs, Choice::default()) else { panic!() };
     assert_eq!((cost, &flow[..]), (1, &[1, 0, 0, 1][..]));
+}
+
+#[test]
+fn matrices() {
+    let Ok(Assigned::Least { column_of, .. }) = assign_matrix(&[4, 1, 3, 2, 0, 5], 2, 3) else { panic!() };
+    assert_eq!(column_of, [Some(1), Some(0)]);
+    let none = assign_matrix(&[i64::MAX, 1, i64::MAX, 1], 2, 2);
+    assert_eq!(none, Ok(Assigned::Infeasible { rows: vec![], columns: vec![1] }));
+    assert_eq!(assign_matrix(&[1], 1, 2), Ok(Assigned::Refused));
 }
 
 #[test]

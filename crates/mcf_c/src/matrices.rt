@@ -1,0 +1,188 @@
+//! Least assignments of cost matrices in arrays, and their judge.
+ghost use Rattle.std.specs.Prelude.{◌≡◌, ◌≢◌, ◌≤◌, ◌⊎◌, ◌↔◌, ◌+◌, ℕ, List, length, true, false};
+ghost use Rattle.mcf_matrix.specs.Covers.{IsShortCover};
+ghost use Rattle.mcf_matrix.specs.Matchings.{IsLeastMatching, IsMatching};
+ghost use Rattle.mcf_matrix.specs.MatrixPrices.{IsShownMatching};
+ghost use Rattle.mcf_matrix.specs.Tables.{IsMatrix, whole_costs};
+ghost use Rattle.mcf_c.specs.Matrices.{HandsCover, costs_of, table_of};
+
+use crate::handing::put_marks;
+use crate::statuses::{
+    ACCEPTED, BLOCKED, BUFFER_TOO_SMALL, FLOW, INVALID_INPUT, NO_MEMORY, NOT_SHOWN, REJECTED,
+};
+use mcf_matrix::{Matrix, judge_assignment};
+use mcf_matrix_solver::{Assigned, Assignment, Cover, assign};
+use std::alloc::Global;
+
+/// A cost matrix in an array: the cost of row i and column j stands at i * stride + j, both from 0;
+/// the greatest number of 64 bits forbids the pair.
+#[repr(C)]
+#[derive(Clone, Copy)]
+pub struct McfMatrix<'a> {
+    pub costs: &'a [i64],
+    pub rows: usize,
+    pub columns: usize,
+    pub stride: usize,
+}
+
+// Whether arrays for the rows and for the columns have these lengths.
+fn are_lines(
+    matrix: &McfMatrix<'_>,
+    column_of: &[u32],
+    row_prices: &[i64],
+    column_prices: &[i64],
+) -> bool
+    ensures yes { result ≡ true → (length column_of.now ≡ matrix.now.rows) × (length row_prices.now ≡ matrix.now.rows) × (length column_prices.now ≡ matrix.now.columns) }
+    ensures no { result ≡ false → (length column_of.now ≢ matrix.now.rows) ⊎ (length row_prices.now ≢ matrix.now.rows) ⊎ (length column_prices.now ≢ matrix.now.columns) }
+{
+    column_of.len() == matrix.rows
+        && row_prices.len() == matrix.rows
+        && column_prices.len() == matrix.columns
+}
+
+/// Finds a least assignment of a cost matrix, and writes the column of each row, or a number that
+/// is no column's, and prices of rows and columns that show it.
+///
+/// The status is 0 for an assignment, 1 where there is none, and rows and columns, fewer than
+/// either side has, meet all allowed pairs: the prices then mark these by 1 and all others by 0; 2
+/// where rows overlap or don't end within the costs, or a cost is more than 10^15 from 0; 3 where
+/// memory is wanting, 4 where a room hasn't the length of the rows or columns, and 7 where nothing
+/// was shown. From 2 on all rooms stay, and at 1 the columns do.
+#[unsafe(no_mangle)]
+pub extern "C" fn mcf_assign_matrix(
+    alloc: Global,
+    matrix: &McfMatrix<'_>,
+    column_of: &mut [u32],
+    row_prices: &mut [i64],
+    column_prices: &mut [i64],
+) -> u32
+    ensures statuses { (result ≤ 4) ⊎ (result ≡ 7) }
+    ensures shown { result ≡ 0 → IsShownMatching (costs_of matrix.now) column_of.new row_prices.new column_prices.new }
+    ensures least { result ≡ 0 → IsLeastMatching (costs_of matrix.now) column_of.new }
+    ensures cover { result ≡ 1 → HandsCover (costs_of matrix.now) row_prices.new column_prices.new }
+    ensures none { result ≡ 1 → (x : List ℕ) → ¬ IsMatching (costs_of matrix.now) x }
+    ensures within { result ≤ 1 → IsMatrix (table_of matrix.now) }
+    ensures fault { result ≡ 2 → ¬ IsMatrix (table_of matrix.now) }
+    ensures memory { result ≡ 3 → 1 ≤ matrix.now.rows + matrix.now.columns }
+    ensures room { result ≡ 4 → (length column_of.old ≢ matrix.now.rows) ⊎ (length row_prices.old ≢ matrix.now.rows) ⊎ (length column_prices.old ≢ matrix.now.columns) }
+    ensures columns_stay { 1 ≤ result → column_of.new ≡ column_of.old }
+    ensures row_prices_stay { 2 ≤ result → row_prices.new ≡ row_prices.old }
+    ensures column_prices_stay { 2 ≤ result → column_prices.new ≡ column_prices.old }
+{
+    if !are_lines(matrix, column_of, row_prices, column_prices) {
+        return BUFFER_TOO_SMALL;
+    }
+    let McfMatrix {
+        costs,
+        rows,
+        columns,
+        stride,
+    } = *matrix;
+    let Ok(matrix) = Matrix::of(costs, rows, columns, stride) else {
+        return INVALID_INPUT;
+    };
+    assign_lines(alloc, &matrix, column_of, row_prices, column_prices)
+}
+
+// Finds a least assignment, where the rooms have their lengths.
+fn assign_lines(
+    alloc: Global,
+    matrix: &Matrix<'_>,
+    column_of: &mut [u32],
+    row_prices: &mut [i64],
+    column_prices: &mut [i64],
+) -> u32
+    requires columns { length column_of.old ≡ matrix.now.rows }
+    requires row_prices { length row_prices.old ≡ matrix.now.rows }
+    requires column_prices { length column_prices.old ≡ matrix.now.columns }
+    ensures statuses { (result ≤ 1) ⊎ (result ≡ 3) ⊎ (result ≡ 7) }
+    ensures shown { result ≡ 0 → IsShownMatching (whole_costs matrix.now) column_of.new row_prices.new column_prices.new }
+    ensures least { result ≡ 0 → IsLeastMatching (whole_costs matrix.now) column_of.new }
+    ensures cover { result ≡ 1 → HandsCover (whole_costs matrix.now) row_prices.new column_prices.new }
+    ensures none { result ≡ 1 → (x : List ℕ) → ¬ IsMatching (whole_costs matrix.now) x }
+    ensures memory { result ≡ 3 → 1 ≤ matrix.now.rows + matrix.now.columns }
+    ensures columns_stay { 1 ≤ result → column_of.new ≡ column_of.old }
+    ensures row_prices_stay { 2 ≤ result → row_prices.new ≡ row_prices.old }
+    ensures column_prices_stay { 2 ≤ result → column_prices.new ≡ column_prices.old }
+{
+    match assign(alloc, matrix) {
+        Ok(Assigned::Least(found)) => {
+            put_assignment(matrix, &found, column_of, row_prices, column_prices);
+            FLOW
+        }
+        Ok(Assigned::Infeasible(cover)) => {
+            put_cover(matrix, &cover, row_prices, column_prices);
+            BLOCKED
+        }
+        Ok(Assigned::NotShown) => NOT_SHOWN,
+        Err(_) => NO_MEMORY,
+    }
+}
+
+// Writes an assignment with its prices.
+fn put_assignment(
+    matrix: &Matrix<'_>,
+    found: &Assignment,
+    column_of: &mut [u32],
+    row_prices: &mut [i64],
+    column_prices: &mut [i64],
+)
+    requires shown { IsShownMatching (whole_costs matrix.now) found.now.column_of.items found.now.row_prices.items found.now.column_prices.items }
+    requires columns { length column_of.old ≡ matrix.now.rows }
+    requires row_prices { length row_prices.old ≡ matrix.now.rows }
+    requires column_prices { length column_prices.old ≡ matrix.now.columns }
+    ensures columns { column_of.new ≡ found.now.column_of.items }
+    ensures row_prices { row_prices.new ≡ found.now.row_prices.items }
+    ensures column_prices { column_prices.new ≡ found.now.column_prices.items }
+{
+    column_of.copy_from_slice(found.column_of.as_slice());
+    row_prices.copy_from_slice(found.row_prices.as_slice());
+    column_prices.copy_from_slice(found.column_prices.as_slice());
+}
+
+// Writes the marks of a cover.
+fn put_cover(matrix: &Matrix<'_>, cover: &Cover, row_marks: &mut [i64], column_marks: &mut [i64])
+    requires cover { IsShortCover (whole_costs matrix.now) cover.now.rows.items cover.now.columns.items }
+    requires rows { length row_marks.old ≡ matrix.now.rows }
+    requires columns { length column_marks.old ≡ matrix.now.columns }
+    ensures { HandsCover (whole_costs matrix.now) row_marks.new column_marks.new }
+{
+    put_marks(cover.rows.as_slice(), row_marks);
+    put_marks(cover.columns.as_slice(), column_marks);
+}
+
+/// Judges an assignment with prices for a cost matrix, whoever made them.
+///
+/// The status is 0 where the prices show the assignment least, 1 where they don't or an array
+/// hasn't the length of the rows or columns, 2 where the matrix has a fault, and 3 where memory is
+/// wanting.
+#[unsafe(no_mangle)]
+pub extern "C" fn mcf_check_matrix(
+    alloc: Global,
+    matrix: &McfMatrix<'_>,
+    column_of: &[u32],
+    row_prices: &[i64],
+    column_prices: &[i64],
+) -> u32
+    ensures statuses { result ≤ 3 }
+    ensures exact { result ≤ 1 → (result ≡ 0) ↔ IsShownMatching (costs_of matrix.now) column_of.now row_prices.now column_prices.now }
+    ensures least { result ≡ 0 → IsLeastMatching (costs_of matrix.now) column_of.now }
+    ensures within { result ≤ 1 → IsMatrix (table_of matrix.now) }
+    ensures fault { result ≡ 2 → ¬ IsMatrix (table_of matrix.now) }
+    ensures memory { result ≡ 3 → 1 ≤ matrix.now.columns }
+{
+    let McfMatrix {
+        costs,
+        rows,
+        columns,
+        stride,
+    } = *matrix;
+    let Ok(matrix) = Matrix::of(costs, rows, columns, stride) else {
+        return INVALID_INPUT;
+    };
+    match judge_assignment(alloc, &matrix, column_of, row_prices, column_prices) {
+        Ok(true) => ACCEPTED,
+        Ok(false) => REJECTED,
+        Err(_) => NO_MEMORY,
+    }
+}

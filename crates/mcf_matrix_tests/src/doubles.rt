@@ -1,0 +1,137 @@
+//! What the bits of doubles stand for, and which lists of them are matrices.
+use mcf_matrix_doubles::{
+    DoubleFault, DoubleMatrix, INFINITY, Scaled, are_small_prices, none_below,
+};
+use std::test::Fail;
+
+// The bits of a double, and its mantissa and shift: 0.0, -0.0, the least double above 0, the
+// greatest subnormal, the least normal double, 1.0, -2.5 and the greatest double.
+static VALUES: [(u64, i64, u32); 8] = [
+    (0, 0, 0),
+    (0x8000_0000_0000_0000, 0, 0),
+    (1, 1, 0),
+    (0x000F_FFFF_FFFF_FFFF, 0xF_FFFF_FFFF_FFFF, 0),
+    (0x0010_0000_0000_0000, 0x10_0000_0000_0000, 0),
+    (0x3FF0_0000_0000_0000, 0x10_0000_0000_0000, 1022),
+    (0xC004_0000_0000_0000, -0x14_0000_0000_0000, 1023),
+    (0x7FEF_FFFF_FFFF_FFFF, 0x1F_FFFF_FFFF_FFFF, 2045),
+];
+
+#[test]
+fn bits_are_read(rt: HostRuntime) -> Result<(), Fail> {
+    for (bits, mantissa, shift) in &VALUES {
+        let value = Scaled::of(*bits);
+        assert!(rt; value.mantissa == *mantissa && value.shift == *shift);
+    }
+    Ok(())
+}
+
+// A whole number, the bits of a double, and whether it is at least that number: -3, -2, 1, 2, 5
+// beside -2.5 and 1.0.
+static SUMS: [(i8, u64, bool); 6] = [
+    (-3, 0xC004_0000_0000_0000, true),
+    (-2, 0xC004_0000_0000_0000, false),
+    (1, 0x3FF0_0000_0000_0000, true),
+    (2, 0x3FF0_0000_0000_0000, false),
+    (5, 0x7FEF_FFFF_FFFF_FFFF, true),
+    (0, 0x8000_0000_0000_0000, true),
+];
+
+#[test]
+fn sums_are_compared(rt: HostRuntime) -> Result<(), Fail> {
+    for (sum, bits, reaches) in &SUMS {
+        assert!(rt; Scaled::of(*bits).is_at_least(i128::from(*sum), 1074) == *reaches);
+    }
+    Ok(())
+}
+
+// What is wrong with a matrix of a row of two entries.
+fn fault_of(entries: &[u64]) -> Option<DoubleFault> {
+    match DoubleMatrix::of(entries, 1, 2, 2) {
+        Ok(_) => None,
+        Err(fault) => Some(fault),
+    }
+}
+
+// Two entries, and what is wrong with them.
+static ENTRIES: [(&[u64], Option<DoubleFault>); 4] = [
+    (&[1, INFINITY], None),
+    (&[1], Some(DoubleFault::Shape)),
+    (
+        &[1, 0xFFF0_0000_0000_0000],
+        Some(DoubleFault::NoNumber { row: 0, column: 1 }),
+    ),
+    (
+        &[0x7FF8_0000_0000_0000, 1],
+        Some(DoubleFault::NoNumber { row: 0, column: 0 }),
+    ),
+];
+
+#[test]
+fn entries_are_judged(rt: HostRuntime) -> Result<(), Fail> {
+    for (entries, fault) in &ENTRIES {
+        assert!(rt; fault_of(entries) == *fault);
+    }
+    Ok(())
+}
+
+// Whether a matrix of two rows reads as it stands.
+fn reads_its_rows(entries: &[u64]) -> bool {
+    let Ok(matrix) = DoubleMatrix::of(entries, 2, 1, 2) else {
+        return false;
+    };
+    if matrix.rows() != 2 || matrix.columns() != 1 {
+        return false;
+    }
+    let second = matrix.row(1);
+    second.len() == 1 && second[0] == 8 && matrix.entry(0, 0) == 7
+}
+
+#[test]
+fn rows_are_read(rt: HostRuntime) -> Result<(), Fail> {
+    assert!(rt; reads_its_rows(&[7, 0, 8]));
+    Ok(())
+}
+
+// Prices of two rows and two columns in units of 1, beside entries of 1.0, +infinity, -2.5 and 1.0,
+// and whether no reduced cost is below 0.
+static PRICES: [(&[i128], &[i128], bool); 4] = [
+    (&[1, -3], &[0, 0], true),
+    (&[1, -2], &[0, 0], false),
+    (&[2, -3], &[-1, 4], true),
+    (&[1, -3], &[0, i128::MAX], false),
+];
+
+// Whether no reduced cost is below 0.
+fn has_none_below(row_prices: &[i128], column_prices: &[i128]) -> bool {
+    let entries = [
+        0x3FF0_0000_0000_0000,
+        INFINITY,
+        0xC004_0000_0000_0000,
+        0x3FF0_0000_0000_0000,
+    ];
+    let Ok(matrix) = DoubleMatrix::of(&entries, 2, 2, 2) else {
+        return false;
+    };
+    if row_prices.len() != matrix.rows() {
+        return false;
+    }
+    if column_prices.len() != matrix.columns() {
+        return false;
+    }
+    if !are_small_prices(row_prices) {
+        return false;
+    }
+    if !are_small_prices(column_prices) {
+        return false;
+    }
+    none_below(&matrix, row_prices, column_prices, 1074)
+}
+
+#[test]
+fn reduced_costs_are_judged(rt: HostRuntime) -> Result<(), Fail> {
+    for (row_prices, column_prices, holds) in &PRICES {
+        assert!(rt; has_none_below(row_prices, column_prices) == *holds);
+    }
+    Ok(())
+}
