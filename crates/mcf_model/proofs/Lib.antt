@@ -1,0 +1,18 @@
+mod Ways
+mod Lists
+mod Routes
+mod Plans
+mod Cuts
+mod Raised
+mod Unlimited
+mod Narrow
+mod Finer
+mod Exact
+mod Filling
+mod Reading
+mod RowSteps
+mod Reaches
+mod FaultTests
+mod Proper
+mod Capped
+pub mod Planners

@@ -1,0 +1,12 @@
+pub use Rattle.mcf_instance.specs.Network
+pub use Rattle.mcf_instance.specs.Flow
+pub use Rattle.mcf_instance.specs.Blocking
+pub mod Model
+pub mod Arcs
+pub mod Bottlenecks
+pub mod Faults
+pub mod Laws
+pub mod Planning
+pub mod Reach
+pub mod Scaling
+pub mod Tables

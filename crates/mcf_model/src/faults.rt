@@ -1,0 +1,196 @@
+//! What is wrong with a model.
+ghost use Rattle.std.specs.Prelude.{◌≡◌, ◌≤◌, Some, None, int_lt, pos, drop, length, not, ◌&&◌, ◌||◌};
+ghost use Rattle.mcf_model.specs.Faults.{applies, earns, falls, first_cost, is_below, is_place, is_wrong_both_ways, model_fault, row_fault, some_earn, takes_below};
+ghost use Rattle.mcf_model.specs.Tables.{own_steps, route_of};
+
+use crate::rows::{RouteRow, Step, own_steps};
+
+/// What is wrong with a route, in the order in which it is looked for.
+#[derive(Clone, Copy, Debug, PartialEq, Eq)]
+pub enum RouteFault {
+    /// An end is no place.
+    Place,
+    /// It names steps beyond the table.
+    Steps,
+    /// A step takes less than 0.
+    Room,
+    /// A step costs less than the one before it.
+    FallingCost,
+    /// It is used both ways, with a least other than 0 or a cost below 0.
+    BothWays,
+    /// It has no limit, while some cost of the model is below 0.
+    NoLimit,
+}
+
+/// A route of a model, counted from 1, and the first thing that is wrong with it.
+#[derive(Clone, Copy, Debug, PartialEq, Eq)]
+pub struct ModelFault {
+    pub route: usize,
+    pub what: RouteFault,
+}
+
+// Whether it is the number of a place.
+fn is_place(places: usize, place: u32) -> bool
+    ensures { result ≡ is_place places place }
+{
+    1 <= place && place as usize <= places
+}
+
+// Whether the cost of a step is below 0.
+fn step_earns(step: Step) -> bool
+    ensures { result ≡ int_lt step.cost (pos 0) }
+{
+    step.cost < 0
+}
+
+// Whether a cost is below 0.
+fn earns(own: &[Step], last_cost: i64) -> bool
+    ensures { result ≡ earns own.now last_cost }
+{
+    for place in 0..own.len() {
+        let found = step_earns(own[place]);
+        if found {
+            return true;
+        }
+    }
+    last_cost < 0
+}
+
+// Whether a limit is below 0.
+fn is_below(most: Option<i64>) -> bool
+    ensures { result ≡ is_below most }
+{
+    match most {
+        Some(most) => most < 0,
+        None => false,
+    }
+}
+
+// Whether a step takes less than 0.
+fn step_is_below(step: Step) -> bool
+    ensures { result ≡ int_lt step.most (pos 0) }
+{
+    step.most < 0
+}
+
+// Whether a step takes less than 0; the last may, if it is the only one of a route one way.
+fn takes_below(own: &[Step], both: bool, last_most: Option<i64>) -> bool
+    ensures { result ≡ takes_below own.now both last_most }
+{
+    for place in 0..own.len() {
+        let found = step_is_below(own[place]);
+        if found {
+            return true;
+        }
+    }
+    (both || !own.is_empty()) && is_below(last_most)
+}
+
+// The cost of the step at a place, or of the last step.
+fn cost_at(own: &[Step], place: usize, last_cost: i64) -> i64
+    requires { place ≤ length own.now }
+    ensures { result ≡ first_cost (drop place own.now) last_cost }
+{
+    if place < own.len() {
+        own[place].cost
+    } else {
+        last_cost
+    }
+}
+
+// Whether a cost is below that of a step.
+fn costs_less(next: i64, step: Step) -> bool
+    ensures { result ≡ int_lt next step.cost }
+{
+    next < step.cost
+}
+
+// Whether a step costs less than the one before it.
+fn falls(own: &[Step], last_cost: i64) -> bool
+    ensures { result ≡ falls own.now last_cost }
+{
+    for place in 0..own.len() {
+        let next = cost_at(own, place + 1, last_cost);
+        let found = costs_less(next, own[place]);
+        if found {
+            return true;
+        }
+    }
+    false
+}
+
+// Whether a route is used both ways that may not be.
+fn is_wrong_both_ways(own: &[Step], row: RouteRow) -> bool
+    ensures { result ≡ is_wrong_both_ways own.now row }
+{
+    let earning = earns(own, row.last_cost);
+    row.both && (row.least != 0 || earning)
+}
+
+// The first thing that is wrong with a route.
+fn row_fault(places: usize, steps: &[Step], earning: bool, row: RouteRow) -> Option<RouteFault>
+    ensures { result ≡ row_fault places steps.now earning row }
+{
+    let own = own_steps(steps, row);
+    let tail_is_place = is_place(places, row.tail);
+    let head_is_place = is_place(places, row.head);
+    if !(tail_is_place && head_is_place) {
+        return Some(RouteFault::Place);
+    }
+    if row.first_step as usize + row.step_count as usize > steps.len() {
+        return Some(RouteFault::Steps);
+    }
+    if takes_below(own, row.both, row.last_most) {
+        return Some(RouteFault::Room);
+    }
+    if falls(own, row.last_cost) {
+        return Some(RouteFault::FallingCost);
+    }
+    if is_wrong_both_ways(own, row) {
+        return Some(RouteFault::BothWays);
+    }
+    if earning && row.last_most.is_none() {
+        return Some(RouteFault::NoLimit);
+    }
+    None
+}
+
+// Whether a cost of a route is below 0.
+fn row_earns(steps: &[Step], row: RouteRow) -> bool
+    ensures { result ≡ earns (own_steps steps.now row) row.last_cost }
+{
+    let own = own_steps(steps, row);
+    earns(own, row.last_cost)
+}
+
+// Whether some cost of some route is below 0.
+fn some_earn(steps: &[Step], rows: &[RouteRow]) -> bool
+    ensures { result ≡ some_earn steps.now rows.now }
+{
+    for place in 0..rows.len() {
+        let found = row_earns(steps, rows[place]);
+        if found {
+            return true;
+        }
+    }
+    false
+}
+
+// The first route with which something is wrong, and what.
+pub(crate) fn model_fault(places: usize, steps: &[Step], rows: &[RouteRow]) -> Option<ModelFault>
+    ensures { result ≡ model_fault places steps.now rows.now }
+{
+    let earning = some_earn(steps, rows);
+    for place in 0..rows.len() {
+        match row_fault(places, steps, earning, rows[place]) {
+            Some(what) => {
+                return Some(ModelFault {
+                    route: place + 1,
+                    what,
+                });
+            }
+            None => {}
+        }
+    }
+    None
+}

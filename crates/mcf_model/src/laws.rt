@@ -1,0 +1,45 @@
+//! Laws of models and of their networks, each the contract of a function that does nothing.
+ghost use Rattle.mcf_model.specs.Laws.{BottlenecksHaveNoPlan, FinerPlansUndercutNone, ShownFlowsCostTheSame};
+ghost use Rattle.mcf_model.specs.Laws.{BlockedModelsHaveNoPlan, BlockingSetsAreBottlenecks, FlowsArePlans, PlansAreFlows, ShownFlowsGiveLeastPlans};
+
+/// Each plan of a model is a feasible flow of its network, at the same cost.
+pub fn plans_are_flows()
+    ensures { PlansAreFlows }
+{}
+
+/// Each feasible flow of the network gives a plan of no greater cost.
+pub fn flows_are_plans()
+    ensures { FlowsArePlans }
+{}
+
+/// A feasible flow that some prices show gives a plan that no plan undercuts, though routes have no
+/// limit.
+pub fn shown_flows_give_least_plans()
+    ensures { ShownFlowsGiveLeastPlans }
+{}
+
+/// Where a node set blocks the network, the model has no plan, though routes have no limit.
+pub fn blocked_models_have_no_plan()
+    ensures { BlockedModelsHaveNoPlan }
+{}
+
+/// A node set that blocks the network is a set of places that must send, or take, more than they
+/// can.
+pub fn blocking_sets_are_bottlenecks()
+    ensures { BlockingSetsAreBottlenecks }
+{}
+
+/// The plan of a shown flow costs what the flow costs.
+pub fn shown_flows_cost_the_same()
+    ensures { ShownFlowsCostTheSame }
+{}
+
+/// No plan in finer units undercuts the plan of a shown flow.
+pub fn finer_plans_undercut_none()
+    ensures { FinerPlansUndercutNone }
+{}
+
+/// Where some places are a bottleneck there is no plan.
+pub fn bottlenecks_have_no_plan()
+    ensures { BottlenecksHaveNoPlan }
+{}

@@ -1,0 +1,101 @@
+//! Models that are right.
+ghost use Rattle.std.specs.Prelude.{◌≡◌, ◌↔◌, IfOk, is_ok, length, map, true};
+ghost use Rattle.mcf_model.specs.Faults.{AreListed, made_of_tables};
+ghost use Rattle.mcf_model.specs.Laws.{IsProper};
+ghost use Rattle.mcf_model.specs.Tables.{model_of, route_of};
+
+use crate::faults::{ModelFault, model_fault};
+use crate::rows::{RouteRow, Step};
+use std::marker::Model;
+
+/// Places that send or take, and routes between them, with nothing wrong: each route joins places,
+/// its costs don't fall, its steps take something or nothing, and a route without a limit stands
+/// only where no cost is below 0.
+///
+/// Places and routes count from 1. A clause sees what each place sends (above 0) or takes (below
+/// 0), and the routes in order, each with its steps.
+#[derive(Drop)]
+pub struct PlanModel {
+    supplies: Vec<i64>,
+    steps: Vec<Step>,
+    rows: Vec<RouteRow>,
+}
+
+impl Model for PlanModel {
+    ghost use Rattle.mcf_model.specs.Laws.{IsProper};
+    ghost use Rattle.mcf_model.specs.Model.{Model as PlannedModel};
+    ghost use Rattle.mcf_model.specs.Tables.{model_of};
+
+    ghost Value = { PlannedModel };
+
+    ghost view = { λ m. model_of m.supplies.items m.steps.items m.rows.items };
+
+    ghost invariant = { λ m. IsProper (model_of m.supplies.items m.steps.items m.rows.items) };
+}
+
+// The two tables of a model.
+#[derive(Clone, Copy)]
+pub(crate) struct Tables<'m> {
+    pub(crate) steps: &'m [Step],
+    pub(crate) rows: &'m [RouteRow],
+}
+
+impl PlanModel {
+    /// The model of what each place sends or takes, of the table of steps and of the routes, in
+    /// order.
+    ///
+    /// # Errors
+    /// The first route with which something is wrong, and what.
+    pub fn of(
+        supplies: Vec<i64>,
+        steps: Vec<Step>,
+        rows: Vec<RouteRow>,
+    ) -> Result<PlanModel, ModelFault>
+        ensures exact { result ≡ made_of_tables supplies.items steps.items rows.items }
+        ensures proper { (is_ok result ≡ true) ↔ (IsProper (model_of supplies.items steps.items rows.items) × AreListed steps.items rows.items) }
+    {
+        match model_fault(supplies.len(), &steps, &rows) {
+            Some(fault) => Err(fault),
+            None => Ok(PlanModel {
+                supplies,
+                steps,
+                rows,
+            }),
+        }
+    }
+
+    /// What each place sends, or takes if it is below 0, in order.
+    pub fn supplies(&self) -> &[i64]
+        ensures value { result.now ≡ self.now.supplies }
+        ensures proper { IsProper self.now }
+    {
+        &self.supplies
+    }
+
+    /// How many places there are.
+    pub fn place_count(&self) -> usize
+        ensures value { result ≡ length self.now.supplies }
+        ensures proper { IsProper self.now }
+    {
+        self.supplies.len()
+    }
+
+    /// How many routes there are.
+    pub fn route_count(&self) -> usize
+        ensures value { result ≡ length self.now.routes }
+        ensures proper { IsProper self.now }
+    {
+        self.rows.len()
+    }
+
+    // The steps and the routes as they are stored.
+    pub(crate) fn tables(&self) -> Tables<'_>
+        ensures value { map (route_of result.steps.now) result.rows.now ≡ self.now.routes }
+        ensures proper { IsProper self.now }
+    {
+        Tables {
+            steps: &self.steps,
+            rows: &self.rows,
+        }
+    }
+}

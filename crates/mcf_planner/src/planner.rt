@@ -1,0 +1,105 @@
+//! The solver of the suite, as models ask for it.
+ghost use Rattle.std.specs.Prelude.{◌≡◌, ◌≤◌, ◌⊎◌, IfOk, Ok, OnErr, length};
+ghost use Rattle.std.specs.List.{All};
+ghost use Rattle.mcf_checker.specs.Correct.{amounts};
+ghost use Rattle.mcf_flows.specs.Limits.{limits};
+ghost use Rattle.mcf_flows.specs.Network.{Network, node_count};
+ghost use Rattle.mcf_flows.specs.WellFormed.{IsUpTo};
+ghost use Rattle.mcf_model.specs.Planning.{IsPlanned, IsSolved};
+ghost use Rattle.mcf_flows.specs.declared.problem.Problem.TheVariants.{Min};
+ghost use Rattle.mcf_solver.specs.Answering.{IsOwed};
+ghost use Rattle.mcf_solver.specs.Forms.{HasForm};
+ghost use Rattle.mcf_solver.specs.Making.{meant};
+ghost use Rattle.mcf_choice.specs.declared.choice.EngineChoice.TheVariants.{Simplex};
+
+use mcf_answer::{Answer, Sent};
+use mcf_choice::{Choice, Form};
+use mcf_flows::{Instance, Side};
+use mcf_model::{Bottleneck, PlanModel, Planned, ShownFlow, Solved, Solves, plan};
+use mcf_solver::solve_instance;
+use mcf_text::NoMemory;
+use std::alloc::Global;
+
+/// The engine that a choice means, with its pricing rule. The choice's form doesn't matter.
+#[derive(Clone, Copy, Debug, PartialEq, Eq)]
+pub struct Planner {
+    pub choice: Choice,
+}
+
+// What an arc carries, in 64 bits.
+fn carried(sent: Sent) -> i64
+    requires { IsUpTo limits.bound sent.flow }
+    ensures { result ≡ sent.flow }
+{
+    sent.flow as i64
+}
+
+// What the arcs carry, in their order, in 64 bits.
+fn flow_of(alloc: Global, sent: &[Sent]) -> Result<Vec<i64>, NoMemory>
+    requires { All (IsUpTo limits.bound) (amounts sent.now) }
+    ensures value { IfOk result (λ flow. flow.items ≡ amounts sent.now) }
+    ensures wants { OnErr result (1 ≤ length sent.now) }
+{
+    let mut flow = Vec::with_capacity(alloc, sent.len())?;
+    for place in 0..sent.len() {
+        flow.push(carried(sent[place]))?;
+    }
+    Ok(flow)
+}
+
+// The answer of the solver, in the first form, as models take it.
+fn taken(alloc: Global, instance: &Instance, answer: Answer) -> Result<Solved, NoMemory>
+    requires owed { IsOwed (Ok instance.now) answer }
+    requires formed { HasForm Form.One (Ok instance.now) answer }
+    ensures solved { IfOk result (IsSolved instance.now) }
+    ensures wants { OnErr result (1 ≤ node_count instance.now) }
+{
+    let _arcs = instance.arc_count();
+    match answer {
+        Answer::Flow(answer) => {
+            let flow = flow_of(alloc, answer.sent.as_slice())?;
+            Ok(Solved::Flow(ShownFlow {
+                flow,
+                prices: answer.prices.into_vec(),
+                cost: answer.cost,
+            }))
+        }
+        Answer::Blocked(answer) => Ok(Solved::Blocked(Bottleneck {
+            places: answer.nodes.into_vec(),
+            side: answer.side,
+        })),
+        Answer::Sparse(_) | Answer::Refused(_) => Ok(Solved::Blocked(Bottleneck {
+            places: Vec::new(alloc),
+            side: Side::Send,
+        })),
+    }
+}
+
+impl Solves for Planner {
+    ghost use Rattle.mcf_planner.specs.Wanting.{MayWant};
+
+    ghost Wants = { λ p g. MayWant p.choice g };
+
+    fn solve(&mut self, alloc: Global, instance: &Instance) -> Result<Solved, NoMemory> {
+        let choice = Choice {
+            form: Form::One,
+            ..self.choice
+        };
+        let answer = solve_instance(alloc, instance, choice)?;
+        taken(alloc, instance, answer)
+    }
+}
+
+/// A least plan of a model with its cost, by the engine that is chosen; or that it has none, with
+/// places that must send, or take, more than they can; or the first fault of its network: a number
+/// beyond the limits, or a least above what a route takes.
+///
+/// # Errors
+/// `NoMemory` only if there are places, or if the network simplex is meant.
+pub fn plan_with(alloc: Global, choice: Choice, model: &PlanModel) -> Result<Planned, NoMemory>
+    ensures planned { IfOk result (IsPlanned model.now) }
+    ensures wants { OnErr result ((1 ≤ length model.now.supplies) ⊎ (meant choice.engine Min ≡ meant Simplex Min)) }
+{
+    let mut planner = Planner { choice };
+    plan(alloc, &mut planner, model)
+}
