@@ -1,7 +1,7 @@
 // @ts-check
-// Numbers as tables have them: whole or with decimals, after a point or a comma, with or without
-// marks between thousands. All are exact: a number is a whole one of so many decimals, and has none
-// at its end that is 0.
+// Numbers as tables write them: whole or with decimals, after a point or a comma, with or without
+// marks between thousands. All numbers are exact. Each is a whole number and a count of decimals,
+// without zeros at the end of the decimals.
 import { at, shown } from './faults.js';
 
 /**
@@ -12,20 +12,21 @@ import { at, shown } from './faults.js';
 const BLANK = "[ \\u00a0\\u2009\\u202f'’_]";
 const WHOLE = /^[+-]?[0-9]{1,1000}$/;
 const SPACED = new RegExp(`^([+-]?[0-9]{1,3}(?:${BLANK}[0-9]{3})+)([.,][0-9]{1,1000})?$`);
-// One mark with three digits after it, which may stand between thousands or before decimals.
+// A cell with one mark and three digits after it. The mark may stand between thousands or before
+// decimals.
 const EITHER = /^[+-]?[1-9][0-9]{0,2}[.,][0-9]{3}$/;
 const ONE_MARK = /^[+-]?[0-9]*([.,])[0-9]+$/;
 const EXPONENT = /^[+-]?[0-9]+(?:[.,][0-9]*)?[eE][+-]?[0-9]+$/;
 /** @type {Record<string, string>} */
 const OTHER = { ',': '.', '.': ',' };
-// What stands for a minus in print: hyphens, dashes no longer than a digit, and the sign itself.
+// Characters that print as a minus: hyphens, dashes no longer than a digit, and the minus sign.
 const MINUS = /^[\u2010-\u2013\u2212\ufe63\uff0d](?=[.,]?[0-9])/;
 /** @type {string[]} */
 export const NO_LIMIT = ['', 'inf', '∞'];
 /** @type {Exact} */
 export const ZERO = { digits: 0n, decimals: 0 };
 
-// A number with the minus of a keyboard.
+// This function replaces a printed minus with the minus of a keyboard.
 /** @type {(cell: string) => string} */
 const plainMinus = (cell) => cell.replace(MINUS, '-');
 /** @type {(cell: string) => string} */
@@ -33,8 +34,8 @@ const withoutBlanks = (cell) => (
   SPACED.test(cell) ? cell.replace(new RegExp(BLANK, 'g'), '') : cell
 );
 
-// The mark before decimals, if a cell settles it; blanks between thousands leave a mark no other
-// meaning.
+// This function returns the mark before decimals if the cell settles it. If spaces stand between
+// thousands, a mark can only stand before decimals.
 /** @type {(text: string) => string | null} */
 function markIn(text) {
   const cell = plainMinus(text);
@@ -58,7 +59,8 @@ const VALUES = Object.fromEntries(
   })
 );
 
-// The value of a cell whose decimals stand after a mark; null where it is no such number.
+// This function returns the value of a cell whose decimals follow `mark`, or null if the cell is no
+// such number.
 /** @type {(cell: string, mark: string) => Exact | null} */
 export function valueOf(cell, mark) {
   const plain = withoutBlanks(plainMinus(cell));
@@ -69,7 +71,7 @@ export function valueOf(cell, mark) {
   return { digits: whole.startsWith('-') ? -digits : digits, decimals: count };
 }
 
-// A number in parts of which 10^decimals make one.
+// This function returns the number as a count of units, of which 10^decimals make one.
 /** @type {(number: Exact, decimals: number) => bigint} */
 export const scaled = (number, decimals) =>
   number.digits * 10n ** BigInt(decimals - number.decimals);
@@ -83,8 +85,8 @@ export function compare(one, two) {
   return a < b ? -1 : a > b ? 1 : 0;
 }
 
-// How the numbers of some tables are written: which mark stands before decimals, as was said or as
-// cells show.
+// The way in which some tables write numbers. The reading says which mark stands before decimals,
+// or the cells show it.
 export class Numbers {
   /** @param {string | null} [mark] */
   constructor(mark = null) {
@@ -95,7 +97,7 @@ export class Numbers {
     this.settled = null;
   }
 
-  // Looks which mark the cells of some columns show.
+  // This method finds out which mark the cells of some columns show.
   /** @type {(table: Table, columns: number[]) => void} */
   look(table, columns) {
     for (const { line, cells } of table.rows) {
@@ -108,7 +110,7 @@ export class Numbers {
     }
   }
 
-  // Settles the mark, where cells show one and nothing else was said.
+  // This method settles the mark if the cells show one and the reading names none.
   /** @type {(faults: Faults) => void} */
   settle(faults) {
     if (!this.mark && this.shownBy.size === 2) {
@@ -124,7 +126,7 @@ export class Numbers {
     this.mark = this.mark || [...this.shownBy.keys()][0] || null;
   }
 
-  // The number that a cell has.
+  // This method reads the number in a cell.
   /**
    * @param {Table} table
    * @param {number} line
@@ -158,7 +160,8 @@ export class Numbers {
     return value;
   }
 
-  // What is wrong with a cell that should be a number: its kind, and a text.
+  // This method describes what is wrong with a cell that should be a number: the kind of fault and
+  // a text.
   /** @type {(cell: string) => [kind: string, text: string]} */
   fault(cell) {
     if (!cell) return ['empty', 'the number is empty; write 0 for none'];
@@ -182,7 +185,7 @@ export class Numbers {
     return ['no number', `${shown(cell)} is no number`];
   }
 
-  // A line on how a number was read that could be read otherwise, where there is one.
+  // This method says in a line how a number was read if another reading is possible.
   told() {
     if (!this.settled) return [];
     const by = this.shownBy.get(this.mark);
@@ -194,7 +197,7 @@ export class Numbers {
   }
 }
 
-// Where a place stands: a number that may have decimals.
+// This function reads a coordinate of a place: a number that may have decimals.
 /**
  * @param {Table} table
  * @param {number} line
@@ -217,7 +220,8 @@ export function coordinateIn(table, line, head, cell, faults) {
   return number;
 }
 
-// A number of parts of which 10^decimals make one, as text without zeros at its end.
+// This function writes a count of units, of which 10^decimals make one, as text without zeros at
+// its end.
 /** @type {(number: bigint, decimals: number) => string} */
 export function decimalText(number, decimals) {
   if (!decimals) return String(number);
@@ -226,8 +230,8 @@ export function decimalText(number, decimals) {
   return (number < 0n ? '-' : '') + digits.slice(0, -decimals) + (part && `.${part}`);
 }
 
-// What whole numbers of an instance are in the units of the tables. Costs may be told with another
-// sign than they have there.
+// This class converts the whole numbers of an instance to the units of the tables. The sign of
+// costs may differ from the tables'.
 export class Units {
   /**
    * @param {number} amounts
@@ -239,7 +243,7 @@ export class Units {
     this.sign = sign;
   }
 
-  // An amount, as text; no limit is empty.
+  // This method writes an amount as text. No limit is the empty text.
   /** @type {(number: bigint | null) => string} */
   amount(number) { return number === null ? '' : decimalText(number, this.amounts); }
 
@@ -256,7 +260,7 @@ export class Units {
   }
 }
 
-// The same in sentences: with the tables' mark before decimals.
+// This class writes the same numbers for sentences, with the tables' mark before decimals.
 export class Said {
   /**
    * @param {Units} units

@@ -1,5 +1,5 @@
-// Headless browsers, driven as they are: Chromium over its pipe, Firefox by Marionette. No package
-// is needed. CHROMIUM and FIREFOX name other programs. A page has run(expression),
+// This file drives headless browsers directly: Chromium over its pipe, Firefox by Marionette. It
+// needs no package. CHROMIUM and FIREFOX name other programs. A page has run(expression),
 // until(expression), shot(file), key(name, code), close() and troubles.
 import { spawn } from 'node:child_process';
 import fs from 'node:fs';
@@ -7,14 +7,15 @@ import net from 'node:net';
 import os from 'node:os';
 import path from 'node:path';
 
-// The program that a variable names, or the first of some that is on the path.
+// This function returns the program that an environment variable names, else the first of `names`
+// on the path.
 function programOf(variable, names) {
   if (process.env[variable]) return process.env[variable];
   const folders = process.env.PATH.split(':');
   return names.find((name) => folders.some((folder) => fs.existsSync(path.join(folder, name))));
 }
 
-// The browsers that are there, by name; null for those that aren't.
+// This function returns a way to open each browser, by name; null if the browser isn't installed.
 export function browsers() {
   return {
     chromium: programOf('CHROMIUM', ['chromium', 'chromium-browser', 'google-chrome'])
@@ -26,7 +27,7 @@ export function browsers() {
 
 const pause = (time) => new Promise((resolve) => { setTimeout(resolve, time); });
 
-// Asks until an expression holds.
+// This function repeats the expression until it is true.
 const waiter = (run) => async (expression, seconds = 60) => {
   for (const end = Date.now() + 1000 * seconds; Date.now() < end; await pause(20)) {
     const value = await run(expression);
@@ -114,7 +115,7 @@ async function chromium(url, { width = 1360, height = 1000, dark = false } = {})
   return { run, until: waiter(run), shot, key, call, close, troubles };
 }
 
-// Ends a browser, and takes its folder away.
+// This function ends a browser and removes its folder.
 async function gone(child, home) {
   await Promise.race([new Promise((resolve) => { child.once('exit', resolve); }), pause(5000)]);
   child.kill('SIGKILL');
@@ -181,7 +182,7 @@ async function firefox(url) {
   return { run, until: waiter(run), shot, key, close, troubles: [] };
 }
 
-// A connection to a port that is soon open.
+// This function connects to a port that will open soon.
 async function reached(port, seconds = 60) {
   for (const end = Date.now() + 1000 * seconds; Date.now() < end; await pause(200)) {
     const socket = net.connect(port, '127.0.0.1');

@@ -1,14 +1,17 @@
 #!/bin/bash
-# Builds bin/mcf.wasm, the module of the page, from the proved crate mcf_c: of what the crate exports, mcf_solve and mcf_check.
+# This script builds bin/mcf.wasm, the module of the page, from the proved crate mcf_c. Of the
+# crate's exports it keeps mcf_solve and mcf_check.
 #
-# The compiler of the kit makes one LLVM module of the crate and all below it, and hands it to clang for x86-64. This script keeps a
-# copy of that module, refuses it where it has code that is for x86-64 alone, and compiles it for wasm64 with the same clang; then
-# Binaryen lowers addresses to 32 bits, so that browsers without memory64 run it. heap.c stands in the place of the C library's heap,
-# and the functions that compiled code calls by name (the product of 128 bits and the like) come from LLVM's own library.
+# The kit's compiler turns the crate and all crates below it into one LLVM module, and passes that
+# to clang for x86-64. This script keeps a copy of the module, refuses it if it has code that only
+# runs on x86-64, and compiles it for wasm64 with the same clang. Binaryen then lowers addresses to
+# 32 bits, so that browsers without memory64 run it. heap.c replaces the heap of the C library.
+# LLVM's own library has the functions that compiled code calls by name (the product of 128 bits and
+# the like).
 #
-# It needs rt on the path, wasm-opt (Debian: binaryen) and libclang_rt.builtins-wasm64.a (Debian: libclang-rt-dev-wasm64; BUILTINS
-# names another place); with --needs it says what of that isn't there, and does no more. What isn't proved and built is proved first
-# (scripts/static.sh).
+# It needs rt on the path, wasm-opt (Debian: binaryen) and libclang_rt.builtins-wasm64.a (Debian:
+# libclang-rt-dev-wasm64; BUILTINS names another file). With --needs it only says which of these is
+# missing. It first proves and builds what isn't yet proved and built (scripts/static.sh).
 set -euo pipefail
 cd "$(dirname "$0")/.."
 stop() { echo "page: $1" >&2; exit 3; }
@@ -22,7 +25,7 @@ kit=$(dirname "$(rt doc)") scratch=$(mktemp -d)
 trap 'rm -rf "$scratch"' EXIT
 mkdir -p bin
 
-# A toolchain whose clang keeps a copy of the LLVM module that it is given.
+# This toolchain has a clang that keeps a copy of the LLVM module that it compiles.
 mkdir -p "$scratch/toolchain/bin"
 ln -s "$kit/toolchain/lib" "$scratch/toolchain/lib"
 for name in rattle-x64 ld.lld llvm-ar; do ln -s "$(realpath "$kit/toolchain/bin/$name")" "$scratch/toolchain/bin/$name"; done
@@ -36,7 +39,8 @@ chmod +x "$scratch/toolchain/bin/clang"
 scripts/static.sh "$scratch/toolchain" "$scratch/libmcf_c.a" || stop "the crate isn't built"
 test -f "$scratch/module.bc" || stop "the kit's compiler handed no LLVM module to clang; see bin/mcf_c.log"
 
-# The same module for wasm64: other names of triple, layout and processor, and no stack probes, since the stack lies lowest.
+# This step changes the module's target to wasm64: triple, layout and processor. It also removes the
+# stack probes, since the stack has the lowest addresses.
 clang=$kit/toolchain/bin/clang
 "$clang" --target=x86_64-unknown-linux-gnu -S -emit-llvm -x ir -Xclang -disable-llvm-passes "$scratch/module.bc" -o "$scratch/module.ll"
 if grep -nE '@llvm\.x86\.|\basm (sideeffect|inteldialect|alignstack|")|x86_(fp80|amx)' "$scratch/module.ll" >&2; then

@@ -1,6 +1,6 @@
-// Clicks through the page in headless Chromium, as a planner would, and in Firefox where that is
-// there: make page-test. With SHOTS=1 it takes the screenshots of docs/ instead. SLACK multiplies
-// the times that it allows, for a busy machine.
+// This file clicks through the page in headless Chromium, as a planner would, and in Firefox if it
+// is installed: make page-test. With SHOTS=1 it takes the screenshots of docs/ instead. SLACK
+// multiplies the time limits, for a busy machine.
 import fs from 'node:fs';
 import path from 'node:path';
 import { execFileSync } from 'node:child_process';
@@ -13,7 +13,7 @@ const slack = Number(process.env.SLACK ?? 1);
 let wrong = 0;
 const expect = (ok, what) => { console.log(`${ok ? 'ok   ' : 'WRONG'} ${what}`); wrong += !ok; };
 
-// What a planner does with a page.
+// This function returns a planner's actions on a page.
 function hands(page) {
   const set = (id, text) =>
     page.run(`(() => {
@@ -53,7 +53,7 @@ function hands(page) {
 
 const plain = (text) => text.replace(/\u202f/g, '').replace(/\u2212/g, '-');
 
-// The stored plans: what mcf_plan says stands in the page, too.
+// This function runs the stored plans: the page shows what mcf_plan says.
 async function plans(page, { example }) {
   for (const name of fs.readdirSync(path.join(top, 'examples', 'plans'))
     .filter((one) => fs.existsSync(path.join(top, 'examples', 'plans', one, 'expected')))) {
@@ -202,10 +202,10 @@ async function planner(page, { set, act, go, kind, example, ended }) {
   await set('dimacs', fs.readFileSync(path.join(top, 'examples', 'transport.min'), 'utf8'));
   ({ text } = await go());
   expect(text.includes('Least cost: 14') && text.includes('accepted flow 14'), 'a text');
-  await set('engine', 'augment');
+  await set('engine', 'fast');
   ({ text } = await go());
   expect(
-    await page.run("document.getElementById('engine').value") === 'augment'
+    await page.run("document.getElementById('engine').value") === 'fast'
       && text.includes('accepted flow 14'),
     'a text by another engine'
   );
@@ -213,8 +213,8 @@ async function planner(page, { set, act, go, kind, example, ended }) {
   await ended();
 }
 
-// Names that would be marks or scripts, spots as far as numbers go, and a separator that a line
-// names: all are texts, and a change is read again.
+// This function tests names that look like markup or scripts, extreme coordinates, and a separator
+// that a line names. All are plain text, and the page can reread a changed table.
 async function hostile(page, { set, act, go, kind }) {
   const names = [
     '<img src=x onerror="document.title=1">',
@@ -263,7 +263,8 @@ async function hostile(page, { set, act, go, kind }) {
   expect(true, 'a folder that was dropped is told');
 }
 
-// Large ones: within their bounds, alive meanwhile, and stopped.
+// This function tests large instances: the page keeps the time limits, responds meanwhile, and
+// stops on demand.
 async function large(page, { set, go, kind, ended }) {
   let seed = 7;
   const draw = (count) => {

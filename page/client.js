@@ -1,5 +1,5 @@
 // @ts-check
-// The solver as the page has it: calls of the worker, which is ended where it is to stop.
+// The page's access to the solver. It calls a worker, and ends the worker to stop a run.
 import { NoAnswer } from './solving.js';
 
 /** @typedef {{ resolve(result: any): void, reject(error: Error): void }} Waiting */
@@ -10,7 +10,7 @@ const bytesOf = (text) => (
 );
 
 export class Client {
-  // The source of the worker, and the module in gzip and base64.
+  // `source` is the source of the worker; `module` is the module in gzip and base64.
   /**
    * @param {string} source
    * @param {string} module
@@ -62,7 +62,7 @@ export class Client {
     this.wake();
   }
 
-  // A text, or its bytes. The answer comes as a text and as bytes.
+  // This method takes a text or its bytes. The result has the answer as text and as bytes.
   /** @type {(text: string | Uint8Array, engine: string) => Promise<Result>} */
   async solve(text, engine) {
     const bytes = bytesOf(text), result = await this.ask({ bytes, engine }, bytes.buffer);

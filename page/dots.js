@@ -1,5 +1,5 @@
 // @ts-check
-// The picture of many places, as SVG: dots, with as many names and amounts as fit.
+// This file draws a picture of many places as SVG: dots, with as many names and amounts as fit.
 import {
   COLOURS,
   PAGE,
@@ -18,14 +18,14 @@ import { Room } from './room.js';
 
 /** @type {Record<SceneNode['kind'], string>} */
 const DOTS = { sends: '#5b9a52', takes: '#4d7fb3', passes: '#8a949e' };
-// The edge of a dot that blocks.
+// The edge of a dot in a bottleneck.
 const BLOCKING = ` stroke="${COLOURS.limits}" stroke-width="2"`;
-// How great a dot is, how far dots of a block stand apart, and between blocks how far at most and
-// at least; how many names and amounts are tried.
+// The radius of a dot, the distance of dots within a block, the greatest and the least distance
+// between blocks, and how many names and amounts the picture tries to place.
 const ROUND = 3.4, STEP = 16, FAR = 220, CLOSE = 90, TRIED = 1000;
 
-// Dots on a map, or in blocks by how far they are from those that send; routes that matter are
-// arrows.
+// This function draws dots on a map, or in blocks by their distance from the places that send.
+// Routes that matter are arrows.
 /** @type {(scene: Scene) => string} */
 export function dotsSvg(scene) {
   const links = scene.links.filter((link) => !isQuiet(link));
@@ -55,7 +55,8 @@ export function dotsSvg(scene) {
   );
 }
 
-// How great places are: those that block before all others, then by how wide their routes are.
+// This function weighs the places: those in bottlenecks come first, then those with the widest
+// routes.
 /** @type {(scene: Scene, links: SceneLink[], blocking: Set<number>) => number[]} */
 function weightsOf({ nodes }, links, blocking) {
   const weights = nodes.map((_, k) => (blocking.has(k) ? 1e9 : 0));
@@ -66,7 +67,7 @@ function weightsOf({ nodes }, links, blocking) {
   return weights;
 }
 
-// An arrow between two dots, with a bar before its head where the route is full.
+// This function draws an arrow between two dots. A full route has a bar before the arrowhead.
 /**
  * @param {Pick<SceneLink, 'kind' | 'title'>} link
  * @param {number} width
@@ -99,8 +100,9 @@ function dotRoute({ kind, title }, width, begin, end) {
     + ` fill-opacity="0.75"><title>${xmlText(title)}</title></path>`;
 }
 
-// The names of the greatest places and the amounts of the greatest routes, in turn, where they
-// cover no dot and no other label; and the edges of all.
+// This function places the names of the greatest places and the amounts of the greatest routes, in
+// turn, wherever they cover no dot and no other label. It returns the labels and the edges of the
+// whole.
 /**
  * @param {SceneNode[]} nodes
  * @param {SceneLink[]} links
@@ -135,7 +137,8 @@ function dotLabels(nodes, links, weights, spots) {
   return [lines, room.bounds()];
 }
 
-// Where the amount of a route may stand that is long enough for the arrow to be seen.
+// This function returns spots for the amount of a route, if the route is long enough to show its
+// arrow.
 /** @type {(from: Spot, to: Spot, size: Size) => Spot[]} */
 function spotsBetween([ax, ay], [bx, by], [wide]) {
   return Math.hypot(bx - ax, by - ay) < wide + 20
@@ -143,14 +146,13 @@ function spotsBetween([ax, ay], [bx, by], [wide]) {
     : PARTS.map((part) => [ax + (bx - ax) * part, ay + (by - ay) * part]);
 }
 
-// Where the name of a dot may stand: to the right, the left, above and below.
+// This function returns spots for the name of a dot: right, left, above and below.
 /** @type {(spot: Spot, size: Size) => Spot[]} */
 function spotsBeside([x, y], [wide, high]) {
   const aside = ROUND + 1 + wide / 2, over = ROUND + high / 2;
   return [[x + aside, y], [x - aside, y], [x, y - over], [x, y + over]];
 }
 
-// Where the dots stand.
 /** @type {(scene: Scene, weights: number[]) => Spot[]} */
 function dotSpots(scene, weights) {
   const { nodes } = scene;
@@ -162,8 +164,8 @@ function dotSpots(scene, weights) {
   return mapBoxes(task, (PAGE - 200) / Math.sqrt(nodes.length)).map(({ x, y }) => [x, y]);
 }
 
-// The numbers of the places by how far they are from those that send. The greatest of a block stand
-// at its right, where names have room.
+// This function groups the places by their distance from the places that send. Within a block the
+// greatest come last, at its right, where names have room.
 /** @type {(scene: Scene, weights: number[]) => number[][]} */
 function levelBlocks({ nodes, links }, weights) {
   const starts = nodes.map((_, k) => k).filter((k) => nodes[k].kind === 'sends');
@@ -177,7 +179,7 @@ function levelBlocks({ nodes, links }, weights) {
   return blocks;
 }
 
-// Where dots in blocks stand.
+// This function returns the spots of dots in blocks.
 /** @type {(blocks: number[][]) => Spot[]} */
 function blockSpots(blocks) {
   const count = blocks.reduce((sum, block) => sum + block.length, 0);
@@ -186,7 +188,7 @@ function blockSpots(blocks) {
   const left = PAGE - wides.reduce((sum, wide) => sum + wide, 0);
   const between = Math.min(FAR, Math.max(CLOSE, left / Math.max(1, blocks.length)));
   const total = wides.reduce((sum, wide) => sum + wide + between, 0);
-  // Rows stand apart as names are high, which are greater in a wider picture.
+  // Rows are as far apart as names are high. Names are larger in a wider picture.
   const down = STEP * growthOf([0, 0, total, 0]);
   /** @type {Spot[]} */
   const spots = [];
@@ -200,13 +202,13 @@ function blockSpots(blocks) {
   return spots;
 }
 
-// A dot of a kind, or one that blocks, for the legend.
+// This function draws a dot for the legend: of a kind, or in a bottleneck.
 /** @type {Swatch} */
 function dotSwatch(kind, x) {
   const [fill, edge] = kind === 'blocks' ? [DOTS.passes, BLOCKING] : [DOTS[kind], ''];
   return `<circle cx="${f(x + 11)}" cy="-4" r="5" fill="${fill}"${edge}/>`;
 }
 
-// An arrow of a kind, for the legend.
+// This function draws an arrow of a kind for the legend.
 /** @type {(kind: SceneLink['kind'], x: number) => string} */
 const dotSample = (kind, x) => dotRoute({ kind, title: '' }, 2.5, [x, -4], [x + 42, -4]);

@@ -1,5 +1,5 @@
 // @ts-check
-// Parts of pictures, as SVG: colours, texts, arrows, the frame and the legend.
+// This file draws the parts of pictures as SVG: colours, texts, arrows, the frame and the legend.
 import { countOf } from './faults.js';
 import { edgesOf, samples } from './layout.js';
 
@@ -20,9 +20,9 @@ export const COLOURS = {
 /** @type {Record<SceneNode['kind'], string>} */
 const FILLS = { sends: '#dff0dc', takes: '#dbe8f7', passes: '#ffffff' };
 const BLOCKS = 'places that must send or take more than they can';
-// In wider pictures headings and legends are greater.
+// A picture wider than this has larger headings and legends.
 export const PAGE = 1400;
-// Letters that are as wide as high.
+// Letters that are as wide as they are high.
 const FULL_WIDTH = new RegExp(
   '[\\u1100-\\u115f\\u2e80-\\ua4cf\\uac00-\\ud7a3\\uf900-\\ufaff\\ufe30-\\ufe6f\\uff00-\\uff60'
     + '\\uffe0-\\uffe6]'
@@ -37,7 +37,7 @@ export const xmlText = (text) =>
     .replace(/&/g, '&amp;')
     .replace(/</g, '&lt;')
     .replace(/>/g, '&gt;');
-// About how wide a text is, in pixels.
+// This function estimates the width of a text in pixels.
 /** @type {(text: string, size: number) => number} */
 export const textWidth = (text, size) =>
   [...text].reduce((sum, letter) => sum + (FULL_WIDTH.test(letter) ? 1 : 0.62), 0) * size;
@@ -49,11 +49,12 @@ export const textAt = (x, y, size, text, more = 'text-anchor="middle"') =>
 
 // ---- Places and routes
 
-// Routes that matter less.
+// This function says whether a route matters less.
 /** @type {(link: { kind: SceneLink['kind'] }) => boolean} */
 export const isQuiet = ({ kind }) => kind === 'idle' || kind === 'other';
 
-// The numbers of links as they are drawn: those that matter less first, then the widest.
+// This function returns the numbers of links in drawing order: those that matter less first, then
+// the widest.
 /** @type {(links: SceneLink[]) => number[]} */
 export function orderOf(links) {
   const quiet = (/** @type {number} */ k) => Number(isQuiet(links[k]));
@@ -77,7 +78,8 @@ export function boxAt({ x, y, width, height }, kind, blocks = false, more = '') 
 export const pathOf = ([begin, ...points]) =>
   `M${begin.map(f)} C${points.map((point) => point.map(f)).join(' ')}`;
 
-// The curve of a route, its arrowhead, and the bar before it where the route is full.
+// This function draws the curve of a route and its arrowhead. A full route has a bar before the
+// arrowhead.
 /** @type {(link: Pick<SceneLink, 'kind' | 'width' | 'title'>, points: Curve) => string} */
 export function arrow({ kind, width, title }, points) {
   const colour = COLOURS[kind];
@@ -111,20 +113,20 @@ export function arrow({ kind, width, title }, points) {
     + `<polygon points="${tips}" fill="${colour}"/>${bar}</g>`;
 }
 
-// A level line from a spot, as a curve.
+// This function returns a horizontal line from a spot, as a curve.
 /** @type {(x: number, y: number, to: number) => Curve} */
 export const lineBetween = (x, y, to) => [0, 1, 2, 3].map((part) => [x + (to - x) * part / 3, y]);
 
-// The width and the height of a label.
+// This function returns the width and the height of a label.
 /** @type {(text: string, size?: number) => Size} */
 export const labelSize = (text, size = 1) => [(textWidth(text, 11) + 6) * size, 15 * size];
 
-// The label of a route.
+// This function draws the label of a route.
 /** @type {(link: SceneLink, x: number, y: number, size?: number) => string} */
 export const labelAt = ({ kind, label }, x, y, size = 1) =>
   tagAt(label, x, y, size, `class="${kind}" fill="${COLOURS[kind]}" font-weight="bold"`);
 
-// A text on a ground of its own.
+// This function draws a text on its own background.
 /** @type {(text: string, x: number, y: number, size: number, more: string) => string} */
 export function tagAt(text, x, y, size, more) {
   const [wide, high] = labelSize(text, size);
@@ -135,7 +137,7 @@ export function tagAt(text, x, y, size, more) {
 
 // ---- The whole
 
-// What a picture is called, and what is said of it, where it isn't seen.
+// This function returns the title and the description of a picture for readers who can't see it.
 /** @type {(scene: Scene) => string[]} */
 function namesOf({ caption, heading, nodes, links }) {
   const title = `${caption && caption.title ? `${caption.title}: ` : ''}${heading}`;
@@ -147,8 +149,8 @@ function namesOf({ caption, heading, nodes, links }) {
   ];
 }
 
-// A whole picture: its frame, its heading, what stands in it and the legend below. Its kind is a
-// class of the page's style.
+// This function draws a whole picture: the frame, the heading, the body and the legend below.
+// `kind` is a class in the page's style.
 /**
  * @param {Spot[]} points
  * @param {Scene} scene
@@ -178,11 +180,12 @@ export function framed(points, scene, body, [lines, across], kind = 'boxes') {
   ].join('\n');
 }
 
-// How much greater texts are in a picture that is wider than a page.
+// This function returns the factor by which texts grow in a picture wider than a page.
 /** @type {(edges: Edges) => number} */
 export const growthOf = ([left, , right]) => Math.max(1, (right - left) / PAGE);
 
-// What stands above a picture, and how wide that is: the title, the heading, the tables.
+// This function draws the headings of a picture (title, heading, tables) and returns them with
+// their width.
 /** @type {(scene: Scene) => Legend} */
 function headingsOf({ heading, caption }) {
   const texts = (caption ? [caption.title, heading, caption.source] : [heading]).filter(Boolean);
@@ -195,7 +198,7 @@ function headingsOf({ heading, caption }) {
   ];
 }
 
-// What is drawn around 0, 0, elsewhere and greater.
+// This function moves a drawing from 0, 0 to another spot and scales it.
 /** @type {(x: number, y: number, size: number, lines: string[]) => string} */
 const placed = (x, y, size, lines) => [
   `<g transform="translate(${f(x)} ${f(y)})${size === 1 ? '' : ` scale(${size.toFixed(2)})`}">`,
@@ -203,9 +206,10 @@ const placed = (x, y, size, lines) => [
   '</g>',
 ].join('\n');
 
-// What the colours and the marks mean, and where that ends. A swatch draws a kind of places, or
-// "blocks", and a route one of routes; more entries have how wide a drawing is, the drawing by
-// where it begins, and words.
+// This function draws the legend, which explains colours and marks, and returns it with its width.
+// `swatch(kind, x)` draws a kind of place, or "blocks" for bottlenecks; `route` draws a kind of
+// route. An entry in `more` has the width of its drawing, the drawing as a function of its left
+// edge, and its words.
 /**
  * @param {Scene} scene
  * @param {Swatch} swatch
@@ -229,19 +233,19 @@ export function legendOf({ notes, groups }, swatch, route = sample, more = []) {
   return [lines, x];
 }
 
-// A route of a kind, for the legend.
+// This function draws a route of a kind for the legend.
 /** @type {(kind: SceneLink['kind'], x: number) => string} */
 const sample = (kind, x) =>
   arrow({ kind, width: kind === 'limits' ? 2.6 : 5, title: '' }, lineBetween(x, -4, x + 42));
 
-// A box of a kind, or the shade behind those that block, for the legend.
+// This function draws for the legend a box of a kind, or the shade behind bottlenecks.
 /** @type {Swatch} */
 export const boxSwatch = (kind, x) =>
   kind === 'blocks'
     ? shadeAt({ x: x + 12, y: -4, width: 24, height: 16 }, 6)
     : boxAt({ x: x + 11, y: -4, width: 22, height: 14 }, kind);
 
-// The shade behind a box.
+// This function draws the shade behind a box.
 /** @type {(box: Box, round: number) => string} */
 export const shadeAt = ({ x, y, width, height }, round) =>
   `<rect class="shade" x="${f(x - width / 2)}" y="${f(y - height / 2)}" width="${f(width)}"`

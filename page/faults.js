@@ -1,12 +1,13 @@
 // @ts-check
-// The faults of tables by their kinds, which are told together before anything is run, and some
-// words.
+// This file collects the faults of tables by kind, so that the page reports them together before it
+// solves anything. It also has helpers for sentences.
 
-// How many cells of one kind are named beside the first, and how many names a sentence has.
+// A fault names this many cells of its kind after the first. A sentence has at most TOLD_NAMES
+// names.
 const TOLD_CELLS = 4;
 export const TOLD_NAMES = 8;
 
-// What ends a run without a plan: tables that can't be read as meant.
+// This class ends a run without a plan, because tables can't be read as meant.
 export class BadTable extends Error {
   /** @param {string[]} lines */
   constructor(lines) {
@@ -15,15 +16,15 @@ export class BadTable extends Error {
   }
 }
 
-// Where a cell stands: its table, its line, and its column by its head or by its number from 1; or
-// a whole line.
+// This function locates a cell by its table, its line and its column; the column is a head, or a
+// number from 1. Without a column, it locates a whole line.
 /** @type {(table: import('./tables.js').Table, line: number, column?: string | number) => Where} */
 export const at = (table, line, column = '') => ({ table, line, column });
 
-// What can't be printed, or looks like a blank and is none.
+// A character that can't be printed, or that looks like a blank but isn't one.
 const UNPRINTED = /^(?:[\p{C}\p{Zl}\p{Zp}]|(?! )\p{Zs})$/u;
 
-// A cell between quotes, short, with what can't be printed spelt out.
+// This function quotes a cell, shortens it, and spells out characters that can't be printed.
 /** @type {(cell: string) => string} */
 export function shown(cell) {
   const letters = [...cell];
@@ -39,7 +40,7 @@ export class Faults {
     this.kinds = new Map();
   }
 
-  // Notes what is wrong somewhere in a table: one line for each kind.
+  // This method notes a fault in a table. Faults of one kind share one line.
   /** @type {(where: Where, kind: string, text: string, cell?: string) => void} */
   add({ table, line, column }, kind, text, cell = '') {
     const key = JSON.stringify([table.name, kind, typeof column === 'string' ? column : null]);
@@ -78,7 +79,7 @@ function told({ text, count, more }) {
   return `${text} (${count} such cells; also ${cells.join(', ')})`;
 }
 
-// Some texts with commas between them, and how many more there are.
+// This function joins texts with commas, and says how many more there are.
 /** @type {(texts: string[], most?: number) => string} */
 export function listed(texts, most = TOLD_NAMES) {
   const more = texts.length - most;

@@ -1,5 +1,5 @@
 // @ts-check
-// The network of places and routes, and what a plan says of each of them.
+// The network of places and routes, and the results of a plan for each of them.
 import { Lines, Network, partsOf } from './network.js';
 import { size } from './model.js';
 
@@ -7,12 +7,12 @@ import { size } from './model.js';
 
 export const STAYS = '(stays)', MISSING = '(missing)', THROUGH = '(through)';
 
-// Node k is the k-th place, and arc k the k-th route, or its first step; all that is more comes
-// after them. A place with bounds is two nodes with an arc between them: node k has what comes in
-// and what is sent there, the other what goes out and what is taken. Where amounts may stay or be
-// short there is one node more, the hub, which takes what stays, gives what is missing, and has
-// what lacks for a balance as its supply. A use of an arc is its kind, the number from 0 of its
-// route or place, and 1, or -1 for a route's other way.
+// Node k is the k-th place. Arc k is the k-th route, or its first step. All further nodes and arcs
+// follow. A place with bounds becomes two nodes and an arc between them: node k receives what
+// enters and the place's supply; the other node has what leaves and the demand. If supplies may
+// stay or demands may be short, one more node, the hub, takes what stays and gives what is missing;
+// its supply balances the network. A use of an arc is its kind, the number from 0 of its route or
+// place, and 1, or -1 for the route's opposite direction.
 export class FlowNet extends Network {
   /**
    * @param {Problem} problem
@@ -41,7 +41,7 @@ export class FlowNet extends Network {
         cost: bounds.cost,
       });
     });
-    // No sum of costs along a way without repetition is beyond this.
+    // No path without repeated nodes costs more than this.
     this.bound = this.arcs.reduce((sum, arc) => sum + size(arc.cost), 0n);
     const total = this.total();
     if (
@@ -59,7 +59,7 @@ export class FlowNet extends Network {
     this.uses.push({ kind, number, sign });
   }
 
-  // Makes a place two nodes.
+  // This method splits a place into two nodes.
   /** @type {(number: number, place: Place) => void} */
   split(number, { supply }) {
     this.supplies.push(supply < 0n ? supply : 0n);
@@ -68,7 +68,8 @@ export class FlowNet extends Network {
     this.placeOf.push(number);
   }
 
-  // Adds the routes, each with its first step, then further steps and other ways.
+  // This method adds the first step of each route, then the further steps and the opposite
+  // directions.
   addRoutes() {
     const reach = this.problem.reach();
     /** @type {[number: number, sign: number, arc: Arc][]} */
@@ -76,7 +77,7 @@ export class FlowNet extends Network {
     this.problem.routes.forEach((route, number) => {
       let rest = route.least;
       const arcs = route.steps.map((step, k) => {
-        // Costs rise, so that what has to be carried fills one step after the other.
+        // Costs rise from step to step, so the least amount fills one step after the other.
         const least = k === route.steps.length - 1 || rest < step.most ? rest : step.most;
         const arc = {
           tail: this.outs[route.tail - 1],
@@ -101,7 +102,7 @@ export class FlowNet extends Network {
   addHub(supply) {
     this.supplies.push(supply);
     this.hub = this.supplies.length;
-    // A unit short costs more than any other way of a unit, both there and back.
+    // The penalty for a missing unit exceeds the cost of any path there and back.
     const penalty = 1n + 2n * this.bound;
     this.problem.places.forEach((place, k) => {
       if (place.supply > 0n && this.policy.unused) this.add(
@@ -119,7 +120,7 @@ export class FlowNet extends Network {
     });
   }
 
-  // The network as text, with where its lines come from.
+  // This method writes the network as text, with the origin of each line.
   instance() {
     const made = new Lines('min'), { problem } = this;
     made.add(['c node k is the k-th place, arc k the k-th route', problem.units.comment(),
@@ -137,7 +138,7 @@ export class FlowNet extends Network {
     return made;
   }
 
-  // Where an arc comes from.
+  // This method returns the place in the tables that an arc comes from.
   /** @type {(use: Use) => Origin} */
   origin({ kind, number }) {
     const { problem } = this, place = problem.places[number];
@@ -161,7 +162,7 @@ export class FlowNet extends Network {
   /** @type {(node: number) => string} */
   nodeName(node) { return this.problem.places[this.placeOf[node - 1]].name; }
 
-  // The names of an arc's ends.
+  // This method returns the names of an arc's ends.
   /** @type {(k: number) => string[]} */
   ends(k) {
     const { kind, number, sign } = this.uses[k];
@@ -173,7 +174,8 @@ export class FlowNet extends Network {
     return { stays: [name, STAYS], missing: [MISSING, name], through: [name, THROUGH] }[kind];
   }
 
-  // The least or the most of some arcs, the steps of a route together: with the first arc of each.
+  // This method sums the least or the most of some arcs over the steps of each route. Each sum
+  // comes with the first arc.
   /** @type {(arcs: number[], bound: 'least' | 'most') => [arc: number, amount: bigint][]} */
   amounts(arcs, bound) {
     const found = new Map();
@@ -186,12 +188,12 @@ export class FlowNet extends Network {
     return [...found.values()];
   }
 
-  // The node of a place where one unit more is sent, or is taken.
+  // This method returns the node at which a place sends or takes one more unit.
   /** @type {(number: number) => number} */
   home(number) { return this.problem.places[number].supply > 0n ? number + 1 : this.outs[number]; }
 }
 
-// The columns of a route, or of a place, that the words of a refusal mean.
+// This function returns the columns of a route or of a place that the words of a refusal refer to.
 /** @type {(bounds: Bounds | Route) => Record<string, string>} */
 function columnsOf({ least, most }) {
   return {
@@ -202,10 +204,10 @@ function columnsOf({ least, most }) {
   };
 }
 
-// What a plan says of each route and each place: of a route, or of what passes through a place, how
-// much, what that costs, the room that is left (null: without a limit), what one more unit of room
-// saves, and whether just that; of a place minus its price, in which group that is exact, how much
-// stays there or is missing, and what passes through it, where that has bounds.
+// The results of a plan. For a route, or for what passes through a place: the amount, its cost, the
+// residual capacity (null: no limit), what one more unit of capacity saves, and whether that saving
+// is exact. For a place: minus its price, the group within which that is exact, the amount that
+// stays there or is missing, and, if it has bounds, what passes through it.
 export class FlowPlan {
   /**
    * @param {FlowNet} net
@@ -244,7 +246,7 @@ export class FlowPlan {
           place.bounds && this.result(arcsOf.get(`through ${number}`), place.bounds.most, false),
       };
     });
-    // The penalty is there to have little missing: it's no cost.
+    // The cost leaves out the penalty, which only keeps the missing amounts small.
     this.cost =
       cost
       - net.uses.reduce(
@@ -253,8 +255,8 @@ export class FlowPlan {
       );
   }
 
-  // What one more unit of room on an arc would save at most: by so much the prices undercut its
-  // cost.
+  // This method bounds what one more unit of capacity on an arc saves: the amount by which its
+  // reduced cost is below 0.
   /** @type {(k: number) => bigint} */
   saves(k) {
     const { tail, head, cost } = this.net.arcs[k];
@@ -262,10 +264,10 @@ export class FlowPlan {
     return saved > 0n ? saved : 0n;
   }
 
-  // What the plan says of the arcs of a route, or of a place: the room that could be more is that
-  // of the last step, either way. One more unit of room saves just so much where, if it saves, a
-  // unit can go on from the arc's end to its beginning within a group, whose nodes are joined by
-  // arcs that carry amounts between their least and their most.
+  // This method returns the results for the arcs of a route or of a place. More capacity widens the
+  // last step, in one direction. The saving of one more unit is exact if the arc's head and tail
+  // are in one group: a unit can then return from the head to the tail. Arcs that carry amounts
+  // strictly between their least and their most join the nodes of a group.
   /** @type {(arcs: number[], most: bigint | null, both: boolean) => RouteResult} */
   result(arcs, most, both) {
     const { net, flows } = this;
@@ -285,7 +287,8 @@ export class FlowPlan {
     };
   }
 
-  // What one more unit saves or costs, as text: where it is but the penalty, in words.
+  // This method writes what one more unit saves or costs. If the penalty is part of it, a few words
+  // replace the number.
   /** @type {(number: bigint) => string} */
   rate(number) {
     return this.net.policy.short && number > this.net.bound
@@ -293,11 +296,11 @@ export class FlowPlan {
       : this.problem.units.rate(number);
   }
 
-  // Whether a route carries as much as it may, and that is something.
+  // This method says whether a route carries its most, and that isn't 0.
   /** @type {(number: number) => boolean} */
   isFull(number) { return this.routes[number].free === 0n && this.routes[number].carries !== 0n; }
 
-  // The places where something stays (or is missing), with the amounts.
+  // This method returns the places where something stays (or is missing), with the amounts.
   /** @type {(isSupply: boolean) => [place: Place, amount: bigint][]} */
   unmet(isSupply) {
     /** @type {[Place, bigint][]} */

@@ -1,13 +1,13 @@
 // @ts-check
-// Tables of which the rows in sight alone are made, so that a hundred thousand scroll. A sheet has
-// a title, columns with a head, what it means, whether it has numbers and, where its cells may be
-// changed, the head of the input; a count, and row(k), which gives the kind and the cells of the
-// k-th row as texts.
+// Tables that only create the rows in sight, so that a hundred thousand rows scroll. A sheet has a
+// title, columns, a count, and row(k), which returns the kind and the cells of the k-th row as
+// texts. A column has a head, its meaning, whether it holds numbers and, if its cells may be
+// changed, the head of the input.
 import { ZERO, compare, decimalText, decimalsOf, scaled, valueOf } from './amounts.js';
 import { el, grouped } from './view.js';
 
 /**
- * How a sheet is looked at: by which column it is sorted (null: as it comes), and so on.
+ * The state of a sheet: the column that sorts it (null: the original order), and so on.
  * @typedef {object} GridState
  * @property {number | null} by
  * @property {boolean} down
@@ -17,13 +17,13 @@ import { el, grouped } from './view.js';
  * @typedef {(sheet: Sheet, row: number, head: string, text: string) => void} Changing
  */
 
-// How high a row is, how many are made beyond those in sight, and of how many a table is printed.
+// The height of a row, how many rows are created beyond those in sight, and up to how many rows a
+// table is printed whole.
 const HIGH = 31, BEYOND = 12, PRINTED = 5000;
-// More rows than this are beyond what browsers scroll.
+// Browsers can't scroll more rows than this.
 const MOST_ROWS = 500000;
 
-// What was sorted, filtered and scrolled, by the titles of sheets: it stays when a plan is made
-// anew.
+// The sorting, filter and scroll position of each sheet, by title. They survive a new plan.
 /** @type {Map<string, GridState>} */
 const kept = new Map();
 
@@ -128,7 +128,7 @@ export class Grid {
     this.arrange();
   }
 
-  // Which rows are shown, and in which order.
+  // This method selects the rows to show and sorts them.
   arrange() {
     const { sheet, state } = this, words = state.filter.toLowerCase().split(/\s+/).filter(Boolean);
     let order = Array.from({ length: Math.min(sheet.count, MOST_ROWS) }, (_, k) => k);
@@ -161,13 +161,13 @@ export class Grid {
     this.fill(false);
   }
 
-  // Puts the scrolling back to where it was, once the table is in the page.
+  // This method restores the scroll position once the table is in the page.
   settle() {
     this.box.scrollTop = this.state.top;
     this.fill(true);
   }
 
-  // Makes the rows in sight, or all of a table that is printed.
+  // This method creates the rows in sight, or all rows for print.
   /** @type {(anew: boolean, all?: boolean) => void} */
   fill(anew, all = false) {
     const seen = Math.ceil((this.box.clientHeight || 700) / HIGH);
@@ -234,8 +234,8 @@ export class Grid {
   }
 }
 
-// What stands below the rows in sight: the totals of the sheet, or their own where some are left
-// out, with how many they are.
+// This function returns the line below the rows: the totals of the sheet or, if a filter hides
+// rows, the totals and the number of the rows shown.
 /** @type {(sheet: Sheet, order: number[], lines: string) => string[]} */
 export function totalsOf(sheet, order, lines) {
   if (!sheet.totals || order.length === sheet.count) return sheet.totals || [];
@@ -250,7 +250,7 @@ function sumOf(texts) {
   return decimalText(numbers.reduce((sum, number) => sum + scaled(number, decimals), 0n), decimals);
 }
 
-// Rows by the texts of a column: numbers by what they are worth, what is empty last.
+// This function sorts rows by the texts of a column: numbers by their values, empty cells last.
 /**
  * @param {number[]} order
  * @param {(k: number) => string} text

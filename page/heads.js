@@ -1,11 +1,12 @@
 // @ts-check
-// Heads that aren't the tool's own: those that nearly are, and those that are carried along.
+// Heads that the tool doesn't know: those that nearly match a known head, and those of columns that
+// it copies to the results.
 import { at, listed, shown } from './faults.js';
 import { cellAt } from './tables.js';
 
 /** @typedef {import('./tables.js').Table} Table */
 
-// What the columns of bounds are called elsewhere.
+// Other names for the columns of bounds.
 const OTHER_WORDS = new Map([
   ['min', 'least'],
   ['minimum', 'least'],
@@ -17,11 +18,11 @@ const BOUNDS = ['least', 'most', 'cost'];
 export const FLOW_RESULTS = ['carries', 'total', 'free', 'one_more_saves', 'exact'];
 export const PLACE_RESULTS = ['one_more_costs', 'group'];
 export const THROUGH_RESULTS = ['passes', 'passing_costs', 'free', 'one_more_saves', 'exact'];
-// How many columns are named that are carried along.
+// A sentence names at most so many of the columns that the results copy.
 const NAMED = 24;
 
-// The heads that a table may have, some of which are read together or not at all; and most 2, cost
-// 2 and so on, where it has steps.
+// The heads that a table may have. Some are read together or not at all. If the table has steps,
+// most 2, cost 2 and so on are heads, too.
 export class Heads {
   /**
    * @param {string[]} known
@@ -33,7 +34,7 @@ export class Heads {
     this.hasSteps = hasSteps;
   }
 
-  // The heads of the steps beyond the first.
+  // This method returns the heads of the steps after the first.
   /** @type {(table: Table) => string[]} */
   steps({ heads }) {
     const found = [];
@@ -43,7 +44,8 @@ export class Heads {
     return found;
   }
 
-  // Notes the heads that nearly are known: what stands below them would be left out.
+  // This method notes the heads that nearly match a known head, since the columns below them would
+  // be ignored.
   /** @type {(table: Table, faults: import('./faults.js').Faults) => void} */
   check(table, faults) {
     const steps = this.steps(table), read = new Set([...this.known, ...steps, '']);
@@ -57,8 +59,8 @@ export class Heads {
     });
   }
 
-  // The column that a head nearly is, or null. By one letter it is only nearly one that isn't
-  // there.
+  // This method returns the column that a head nearly matches, or null. A head that differs in one
+  // letter only matches a column that the table lacks.
   /** @type {(head: string, there: string[]) => string | null} */
   meant(head, there) {
     const [, letters, digits] = /^(.*?)([0-9]{0,2})$/.exec(head.replace(/[^\p{L}\p{N}]/gu, ''));
@@ -71,7 +73,7 @@ export class Heads {
     return near.find((meant) => !there.includes(meant)) || null;
   }
 
-  // The head of a step, or of what has none.
+  // This method returns the head of a step, or the plain head if there are no steps.
   /** @type {(base: string, digits: string) => string} */
   numbered(base, digits) {
     return this.hasSteps && base !== 'least' && Number(digits || 1) > 1
@@ -79,8 +81,8 @@ export class Heads {
       : base;
   }
 
-  // The columns that are carried along, and not used: those of earlier results aren't, since they
-  // are written anew.
+  // This method returns the columns that the results copy and nothing else uses. Columns of earlier
+  // results are left out, since new results replace them.
   /** @type {(table: Table) => string[]} */
   carried(table) {
     const used = new Set([...this.known, ...this.steps(table)]);
@@ -93,7 +95,7 @@ export class Heads {
   }
 }
 
-// A line on the columns that are carried along, where there are some.
+// This function returns a line that lists the copied columns, if there are any.
 /** @type {(columns: string[]) => string[]} */
 export function carriedLines(columns) {
   return columns.length
@@ -101,12 +103,13 @@ export function carriedLines(columns) {
     : [];
 }
 
-// A head in a sentence: short, with what can't be printed spelt out.
+// This function writes a head for a sentence: shortened, with characters that can't be printed
+// spelt out.
 /** @type {(title: string) => string} */
 const plainHead = (title) => shown(title).slice(1, -1);
 
-// Whether a letter more, a letter less, another letter, or two exchanged make one text of the
-// other.
+// This function says whether two texts differ by one added, missing or changed letter, or by two
+// exchanged letters.
 /** @type {(one: string, other: string) => boolean} */
 function isOneLetter(one, other) {
   const [short, long] = [[...one], [...other]].sort((a, b) => a.length - b.length);

@@ -1,18 +1,18 @@
 // @ts-check
-// Where boxes and curves stand in a picture: on a map by x and y, else in columns by how far places
-// are from those that send.
+// This file places boxes and curves in a picture: on a map by x and y, else in columns by the
+// distance of each place from the places that send.
 
-// How far the places of a map stand apart; what boxes keep between them, and in how many rounds
-// that is sought.
+// The distance between places on a map, the gap between boxes, and the number of rounds that move
+// boxes apart.
 const SPREAD = 235, APART = 14, ROUNDS = 60;
-// How often the order within columns is made anew.
+// The number of times that the order within columns is improved.
 const SWEEPS = 6;
-// Which parts of its way along a link its label may stand at.
+// The parts of a link at which its label may stand.
 export const PARTS = [0.45, 0.55, 0.35, 0.65, 0.25, 0.75, 0.15, 0.85];
 
-// A task has the sizes of boxes, spots on a map or null, links by their nodes from 0, and the nodes
-// that send. A layout has boxes by their centres, for each link its curve of cubic pieces, and the
-// spots where its label may stand, the best first.
+// This function lays out a picture. A task has the sizes of the boxes, their spots on a map or
+// null, the links by their nodes from 0, and the nodes that send. A layout has the boxes by their
+// centres and, for each link, its curve of cubic pieces and the spots for its label, best first.
 /** @type {(task: LayoutTask) => Layout} */
 export function laidOut(task) {
   const boxes = task.spots ? parted(mapBoxes(task, SPREAD)) : columnBoxes(task);
@@ -20,10 +20,10 @@ export function laidOut(task) {
   return { boxes, curves, labels: curves.map(spotsAlong) };
 }
 
-// Boxes on a map, y going up.
+// This function returns boxes on a map; y points up.
 /** @type {(task: Pick<LayoutTask, 'sizes' | 'spots'>, spread: number) => Box[]} */
 export function mapBoxes({ sizes, spots }, spread) {
-  // Halves, whose differences are no greater than a number can be.
+  // Half coordinates, so that no difference overflows.
   const xs = spots.map(([x]) => x / 2), ys = spots.map(([, y]) => y / 2);
   const [left, right, low, high] = [least(xs), most(xs), least(ys), most(ys)];
   const wide = spread * Math.sqrt(xs.length) + 200;
@@ -43,14 +43,14 @@ const least = (numbers) => numbers.reduce((a, b) => Math.min(a, b), Infinity);
 /** @type {(numbers: number[]) => number} */
 const most = (numbers) => numbers.reduce((a, b) => Math.max(a, b), -Infinity);
 
-// The least and the greatest x and y of points.
+// This function returns the least and the greatest x and y of points.
 /** @type {(points: Spot[]) => Edges} */
 export function edgesOf(points) {
   const [xs, ys] = [0, 1].map((axis) => (points.length ? points.map((point) => point[axis]) : [0]));
   return [least(xs), least(ys), most(xs), most(ys)];
 }
 
-// The same boxes, moved apart where they overlap.
+// This function moves overlapping boxes apart.
 /** @type {(boxes: Box[]) => Box[]} */
 function parted(boxes) {
   for (let round = 0, moved = true; round < ROUNDS && moved; round++) {
@@ -72,8 +72,8 @@ function parted(boxes) {
   return boxes;
 }
 
-// For each node how many links lead to it from the nearest start; what isn't reached begins anew,
-// first where no link leads to.
+// This function counts for each node the links from the nearest start. A node that no start reaches
+// begins a new search: first the nodes without incoming links, then the rest.
 /** @type {(count: number, links: Ends[], starts: number[]) => number[]} */
 export function levelsOf(count, links, starts) {
   /** @type {number[][]} */
@@ -97,8 +97,8 @@ export function levelsOf(count, links, starts) {
   return levels;
 }
 
-// The nodes in columns, ordered so that links cross little: each after the middle of those that it
-// is linked with in the column before or after.
+// This function orders the nodes in columns so that few links cross. Each node follows the mean
+// position of its neighbours in the columns before or after.
 /** @type {(task: LayoutTask) => number[][]} */
 function orderedColumns({ sizes, links, starts }) {
   const levels = levelsOf(sizes.length, links, starts);
@@ -137,7 +137,7 @@ function orderedColumns({ sizes, links, starts }) {
   return columns;
 }
 
-// Boxes in columns.
+// This function returns boxes in columns.
 /** @type {(task: LayoutTask) => Box[]} */
 function columnBoxes(task) {
   const { sizes } = task, columns = orderedColumns(task);
@@ -161,7 +161,8 @@ function columnBoxes(task) {
   return boxes;
 }
 
-// Lines between boxes, which are bowed where several join the same ones.
+// This function returns straight links between boxes. Several links between the same boxes are
+// bowed.
 /** @type {(boxes: Box[], links: Ends[]) => Curve[]} */
 function straight(boxes, links) {
   /** @type {Map<number, number>} */
@@ -178,7 +179,8 @@ function straight(boxes, links) {
   });
 }
 
-// How far a link between two boxes, one above the other, goes round those between them.
+// This function returns how far a link between two boxes, one above the other, bends around the
+// boxes between them.
 /** @type {(boxes: Box[], a: Box, b: Box) => number} */
 function around(boxes, a, b) {
   const between = boxes.filter((box) =>
@@ -189,14 +191,15 @@ function around(boxes, a, b) {
     : 0;
 }
 
-// The curve of a link from a box to itself, at its right upper corner.
+// This function returns the curve of a link from a box to itself, at the upper right corner.
 /** @type {(box: Box) => Curve} */
 function loopAt({ x, y, width, height }) {
   const right = x + width / 2, top = y - height / 2;
   return [[right - 14, top], [right - 14, top - 34], [right + 34, top + 10], [right, top + 10]];
 }
 
-// A curve from one box to another that stands off the straight line by `bow` in its middle.
+// This function returns a curve between two boxes whose middle is `bow` away from the straight
+// line.
 /** @type {(tail: Box, head: Box, bow: number) => Curve} */
 function bowed(tail, head, bow) {
   const dx = head.x - tail.x, dy = head.y - tail.y, far = Math.hypot(dx, dy) || 1;
@@ -209,7 +212,8 @@ function bowed(tail, head, bow) {
   return [begin, towards(begin), towards(end), end];
 }
 
-// Where the line from the middle of a box to a point leaves the box.
+// This function returns the point where the line from the centre of a box to another point leaves
+// the box.
 /** @type {(box: Box, to: Spot) => Spot} */
 function edgeOf(box, to) {
   const dx = to[0] - box.x, dy = to[1] - box.y;
@@ -221,7 +225,7 @@ function edgeOf(box, to) {
   return [box.x + dx * part, box.y + dy * part];
 }
 
-// Points along a curve of cubic pieces.
+// This function returns points along a curve of cubic pieces.
 /**
  * @param {Curve} points
  * @returns {Spot[]}
@@ -242,7 +246,8 @@ export function samples(points, count = 24) {
   return [...found, points[points.length - 1]];
 }
 
-// Spots along a curve: a little before its middle, then farther and farther from there.
+// This function returns spots along a curve: first slightly before the middle, then farther and
+// farther away.
 /** @type {(points: Curve) => Spot[]} */
 function spotsAlong(points) {
   const along = samples(points, 12);

@@ -1,5 +1,5 @@
 // @ts-check
-// Places and routes, as tables have them, in whole numbers.
+// This file reads places and routes from tables, in whole numbers.
 import {
   NO_LIMIT,
   Numbers,
@@ -22,8 +22,9 @@ const PLACES = new Heads([...PLACE_HEADS, ...SPOT_HEADS, ...BOUND_HEADS], { toge
 const ROUTES = new Heads([...ROUTE_HEADS, 'least', 'both'], { hasSteps: true });
 const YES = ['yes', 'y', 'x', '1', 'true', 'ja', 'j'], NO = ['', 'no', 'n', '0', 'false', 'nein'];
 
-// The places and the routes of two tables: { name, text } or { name, bytes }. A reading may say the
-// mark before decimals, the encoding of bytes, and own heads. Throws a BadTable.
+// This class reads the places and the routes of two tables, each { name, text } or { name, bytes }.
+// A reading may give the mark before decimals, the encoding of bytes, and the planner's own heads.
+// The constructor throws a BadTable.
 export class Problem {
   /**
    * @param {Source[]} sources
@@ -59,7 +60,7 @@ export class Problem {
     this.routes = routes.map((route) => wholeRoute(route, this.units));
   }
 
-  // Lines on how the tables were read.
+  // This method returns lines on how the tables were read.
   told() {
     return [
       ...carriedLines([...PLACES.carried(this.placeTable), ...ROUTES.carried(this.routeTable)]),
@@ -67,8 +68,8 @@ export class Problem {
     ];
   }
 
-  // What no route without a limit carries beyond its least, in some plan that costs least where no
-  // cost is below 0: beyond the leasts such a plan has no round trip.
+  // This method bounds what a route without a limit carries beyond its least in some least-cost
+  // plan, if no cost is below 0. Apart from the least amounts, such a plan has no cycle.
   reach() {
     const leasts = [
       ...this.routes.map((route) => route.least),
@@ -80,8 +81,8 @@ export class Problem {
     );
   }
 
-  // What passes through no place, whatever the plan, where no route is without a limit; and beyond
-  // the reach where one is.
+  // This method returns more than passes through any place. If a route has no limit, that holds for
+  // plans within the reach.
   throughput() {
     const limited = this.routes.filter((route) => route.most !== null);
     return limited.reduce(
@@ -90,7 +91,7 @@ export class Problem {
     );
   }
 
-  // The names of a route's ends.
+  // This method returns the names of a route's ends.
   /** @type {(route: Route) => string[]} */
   ends(route) { return [this.places[route.tail - 1].name, this.places[route.head - 1].name]; }
 }
@@ -98,7 +99,8 @@ export class Problem {
 /** @type {(number: bigint) => bigint} */
 export const size = (number) => (number < 0n ? -number : number);
 
-// The units in which all amounts, and all costs, of the tables are whole.
+// This function returns the units in which all amounts and all costs of the tables are whole
+// numbers.
 /** @type {(places: Place<Exact>[], routes: ReadRoute[]) => Units} */
 function unitsOf(places, routes) {
   const bounds = places.map((place) => place.bounds).filter(Boolean);
@@ -134,7 +136,7 @@ function wholeRoute(route, units) {
   return { ...route, least: scaled(route.least, units.amounts), steps, most: mostOf(steps) };
 }
 
-// What a route carries at most; null is no limit.
+// This function returns the most that a route carries; null is no limit.
 /** @type {(steps: Step[]) => bigint | null} */
 function mostOf(steps) {
   return steps[steps.length - 1].most === null
@@ -142,7 +144,7 @@ function mostOf(steps) {
     : steps.reduce((sum, step) => sum + step.most, 0n);
 }
 
-// Ends the run where heads are missing; tables that were exchanged are told.
+// This function ends the run if heads are missing. It says if the two tables were exchanged.
 /** @type {(tables: Table[], faults: Faults) => void} */
 function checkBoth([placeTable, routeTable], faults) {
   const exchanged = routeTable.has(PLACE_HEADS) && placeTable.has(ROUTE_HEADS.slice(0, 2));
@@ -161,7 +163,7 @@ function checkBoth([placeTable, routeTable], faults) {
   if (!placeTable.has(PLACE_HEADS) || !routeTable.has(ROUTE_HEADS)) faults.end();
 }
 
-// Words where the heads of a table of routes are names of places.
+// This function returns a hint if the heads of the table of routes are names of places.
 /** @type {(placeTable: Table, routeTable: Table) => string} */
 function matrixHint(placeTable, routeTable) {
   const column = placeTable.heads.indexOf('name'), titles = routeTable.titles.slice(1);
@@ -180,7 +182,7 @@ function placesOf(table, numbers, faults) {
   return table.rows.map(({ line, cells }) => {
     const name = nameIn(table, line, 'name', cellAt(cells, nameColumn), faults);
     if (name) once(at(table, line, 'name'), keyOf(name), `a place ${shown(name)}`, seen, faults);
-    // A place that only passes on is often left empty.
+    // A place that only passes amounts on often has an empty supply.
     const supply = numbers.read(table, line, 'supply', cellAt(cells, supplyColumn) || '0', faults);
     const spot = spots && /** @type {Spot} */ (SPOT_HEADS.map((head, k) =>
       coordinateIn(table, line, head, cellAt(cells, spots[k]), faults)
@@ -196,7 +198,7 @@ function placesOf(table, numbers, faults) {
   });
 }
 
-// The bounds of what passes through a place, where any is said.
+// This function reads the bounds of what passes through a place, if there are any.
 /**
  * @param {Table} table
  * @param {number} line
@@ -212,7 +214,7 @@ function boundsOf(table, line, [least, most, cost], numbers, faults) {
     cost: numbers.read(table, line, 'cost', cost || '0', faults) };
 }
 
-// The number of the place that a cell names.
+// This function returns the number of the place that a cell names.
 /**
  * @param {Table} table
  * @param {number} line
@@ -278,7 +280,7 @@ function routesOf(table, places, numbers, faults) {
   });
 }
 
-// The columns of the steps: most and cost, then most 2 and cost 2, and so on.
+// This function returns the columns of the steps: most and cost, then most 2 and cost 2, and so on.
 /** @type {(table: Table) => { heads: string[], places: number[] }[]} */
 function stepColumns(table) {
   const found = [];
@@ -291,7 +293,7 @@ function stepColumns(table) {
   return found;
 }
 
-// The steps of a route: the first, and those that are filled.
+// This function reads the steps of a route: the first one, and further ones that aren't empty.
 /**
  * @param {Table} table
  * @param {Row} row
@@ -337,7 +339,8 @@ function stepsOf(table, { line, cells }, columns, numbers, faults) {
   return found;
 }
 
-// Notes routes without a limit where a cost is below 0: a round trip could earn without end.
+// This function notes routes without a limit if a cost is below 0: a cycle could then earn without
+// end.
 /**
  * @param {Table[]} tables
  * @param {ReadRoute[]} routes

@@ -1,6 +1,6 @@
 // @ts-check
-// The proved module: one instance of it for each run, so that memory comes back whole and nothing
-// outlives a trap. An instance asks its host for nothing. Texts are bytes.
+// This file calls the proved module. Each run has its own instance, so that all memory is freed and
+// no state survives a trap. An instance imports nothing. Texts are bytes.
 
 /** @type {Status[]} */
 const STATUS = ['flow', 'blocked', 'refused', 'memory', 'room', 'choice'];
@@ -13,21 +13,19 @@ const CODES = [
   '', 'kind', 'fields', 'problem', 'number', 'second-p', 'before-p', 'size', 'node', 'late-n',
   'twice', 'supply', 'bound', 'order', 'cost', 'extra', 'side', 'total', 'no-p', 'missing',
 ];
-const ENGINES = ['auto', 'cancel', 'simplex', 'scaling', 'sap', 'augment'];
-// A flow problem of more nodes goes to the search that is judged, where no engine is asked:
-// docs/BENCH.md, "What the tools choose".
-const LARGE = 2 ** 14;
+const ENGINES = ['auto', 'cancel', 'simplex', 'scaling', 'sap', 'fast'];
 
-// The engine that suits a text by its size, where its beginning has the problem line.
+// This function chooses the engine if the caller doesn't: `fast` for a flow problem whose problem
+// line is near the beginning of the text.
 /** @type {(bytes: Uint8Array) => string} */
-function suited(bytes) {
-  const line = /^[ \t]*p[ \t]+min[ \t]+(\d+)/m.exec(
+function usual(bytes) {
+  const line = /^[ \t]*p[ \t]+min[ \t]/m.exec(
     new TextDecoder().decode(bytes.subarray(0, 4096))
   );
-  return line && Number(line[1]) > LARGE ? 'augment' : 'auto';
+  return line ? 'fast' : 'auto';
 }
 
-// An instance, with what lends it bytes and reads from its memory.
+// An instance, with methods to copy bytes to its memory and to read from it.
 export class Instance {
   /** @param {WebAssembly.Module} module */
   constructor(module) {
@@ -55,8 +53,8 @@ export class Instance {
     return { at, size: text.byteLength };
   }
 
-  // Solves a text that was lent: its status, and where the answer is. A room that is too short is
-  // made anew.
+  // This method solves a text that was lent. It returns its status and the location of the answer.
+  // If the room is too short, it tries again with enough room.
   /**
    * @param {Lent} text
    * @returns {{ status: Status } & Lent}
@@ -81,8 +79,8 @@ export class Instance {
     return { status, at, size: used };
   }
 
-  // Judges an answer that was lent: whether it is accepted, and the line that mcfcheck prints; or
-  // null if memory runs out.
+  // This method judges an answer that was lent. It returns whether it is accepted and the line that
+  // mcfcheck prints, or null if memory runs out.
   /** @type {(text: Lent, answer: Lent) => Verdict | null} */
   check(text, answer) {
     const told = this.room(32);
@@ -107,12 +105,12 @@ export class Instance {
   }
 }
 
-// Solves a text and has the answer judged before it is handed out: a status of flow, blocked or
-// refused comes with an accepted answer.
+// This function solves a text and has the answer judged before it returns it. If the status is
+// flow, blocked or refused, the answer was accepted.
 /** @type {(module: WebAssembly.Module, bytes: Uint8Array, engine: string) => Judged} */
 export function judged(module, bytes, engine) {
   const instance = new Instance(module), text = instance.lend(bytes), begun = performance.now();
-  const found = instance.solve(text, engine === 'auto' ? suited(bytes) : engine);
+  const found = instance.solve(text, engine === 'auto' ? usual(bytes) : engine);
   const solved = performance.now();
   if (STATUS.indexOf(found.status) > 2) return { status: found.status };
   const verdict = instance.check(text, found);
@@ -130,7 +128,7 @@ export function judged(module, bytes, engine) {
   };
 }
 
-// Whether an answer of somebody else's is accepted.
+// This function says whether an answer from elsewhere is accepted.
 /**
  * @param {WebAssembly.Module} module
  * @param {Uint8Array} bytes

@@ -1,11 +1,11 @@
 // @ts-check
-// The name that is nearly another one, as difflib of Python finds it.
+// This file finds the name that is most similar to another one, in the way of Python's difflib.
 
-// Of how many names one is looked for, and how much of a name has to agree.
+// The greatest number of names to search, and the least similarity.
 const MOST = 10000, CUTOFF = 0.6;
 
-// The longest part that two texts have in common within some bounds: where it begins in each, and
-// how long it is.
+// This function finds the longest common part of two texts within some bounds. It returns where it
+// begins in each text, and its length.
 /**
  * @param {string[]} a
  * @param {string[]} b
@@ -46,8 +46,8 @@ function agreeing(a, b, places, bounds) {
     + agreeing(a, b, places, [i + length, ahigh, j + length, bhigh]);
 }
 
-// The names, of some thousands, that are nearly a name: those that differ in capitals alone, else
-// the nearest one.
+// This function returns the names that differ from a name only in capitals, else the most similar
+// one among the first MOST.
 /** @type {(name: string, names: string[], fold: (name: string) => string) => string[]} */
 export function nearTo(name, names, fold) {
   const same = names.filter((other) => fold(other) === fold(name));

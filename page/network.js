@@ -1,6 +1,6 @@
 // @ts-check
-// Networks in whole numbers, their texts, and the sets of nodes that block every flow. Nodes are
-// numbered from 1, arcs from 0.
+// Networks in whole numbers, their texts, and the sets of nodes that block every flow. Nodes have
+// numbers from 1, arcs from 0.
 
 export class Network {
   /**
@@ -12,7 +12,7 @@ export class Network {
     this.arcs = arcs;
   }
 
-  // The lines of the network's text.
+  // This method returns the lines of the network's text.
   lines() {
     return [
       `p min ${this.supplies.length} ${this.arcs.length}`,
@@ -21,8 +21,8 @@ export class Network {
     ];
   }
 
-  // The network with each arc turned round, and with demands for supplies: what must take there
-  // must send here.
+  // This method returns the network with reversed arcs and negated supplies: what must take in one
+  // must send in the other.
   turned() {
     return new Network(
       this.supplies.map((supply) => -supply),
@@ -30,9 +30,9 @@ export class Network {
     );
   }
 
-  // What a set must and can send (or take). It must send its supplies and what arcs bring by their
-  // least; it can send the most of the arcs that lead out. Of a set that takes it is the other way
-  // round.
+  // This method computes what a set of nodes must send and can send (or take). It must send its
+  // supplies and the least amounts of the entering arcs. It can send the capacities of the leaving
+  // arcs. For a set that takes, entering and leaving arcs are exchanged.
   /** @type {(side: SendOrTake, nodes: Set<number>) => Bottleneck} */
   bottleneck(side, nodes) {
     /** @type {number[]} */
@@ -59,8 +59,8 @@ export class Network {
     };
   }
 
-  // The bottlenecks that a blocking set falls into: no arc joins two of its parts, so that one at
-  // least blocks by itself.
+  // This method splits a blocking set into its bottlenecks. No arc joins two parts, so at least one
+  // part blocks by itself.
   /** @type {(side: SendOrTake, nodes: Set<number>) => Bottleneck[]} */
   blockingParts(side, nodes) {
     return partsOf(nodes, this.arcs)
@@ -69,8 +69,8 @@ export class Network {
   }
 }
 
-// The parts of a set of nodes that no arc within the set connects, each as a set; by their least
-// nodes.
+// This function returns the connected parts of a set of nodes, joined by the arcs within it, in the
+// order of their least nodes.
 /** @type {(nodes: Iterable<number>, arcs: Arc[]) => Set<number>[]} */
 export function partsOf(nodes, arcs) {
   const neighbours = new Map([...nodes].sort((a, b) => a - b).map((node) => [node, []]));
@@ -92,8 +92,8 @@ export function partsOf(nodes, arcs) {
   return parts;
 }
 
-// An instance as text, and for each of its lines the table, its line and its columns by the word of
-// a refusal.
+// The text of an instance. For each line it knows the table, the line and the columns that each
+// word of a refusal refers to.
 export class Lines {
   /** @param {'min' | 'asn'} suffix */
   constructor(suffix) {
@@ -114,7 +114,7 @@ export class Lines {
   text() { return `${this.lines.join('\n')}\n`; }
 }
 
-// The network of a DIMACS text that was read without fault.
+// This function reads the network of a DIMACS text without faults.
 /** @type {(text: string) => Network & { isAssignment: boolean }} */
 export function networkOf(text) {
   const supplies = [], arcs = [];

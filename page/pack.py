@@ -1,8 +1,8 @@
 #!/usr/bin/env python3
-"""Packs the page into one file, bin/mcf.html: its sources, the look of mcf_plan's pages, the
-examples and the module.
+"""This script packs the page into one file, bin/mcf.html: its sources, the style of mcf_plan's
+pages, the examples and the module.
 
-The sources are modules for the tests; here they follow one another in one scope, so that no two may
+The tests import the sources as modules. The packed page puts them all in one scope, so no two may
 declare the same name.
 """
 import base64
@@ -19,8 +19,10 @@ DECLARED = re.compile(r"^(?:export )?(?:async )?(?:function|class|const|let) (\w
 
 
 def script(begin):
-    """A source with all that it imports, each once and after what it stands on, without imports and
-    exports."""
+    """This function returns a source and all that it imports, without the words import and export.
+
+    Each source appears once, after the sources that it imports.
+    """
     seen, parts, declared = set(), [], {}
 
     def add(name):
@@ -41,7 +43,7 @@ def script(begin):
 
 
 def examples():
-    """The plans of examples/plans/: the tables, and what the call in call.txt says."""
+    """This function returns the plans of examples/plans/, with the choices in call.txt."""
     found = []
     for folder in sorted(path.parent for path in PLANS.glob("*/expected")):
         call = folder / "call.txt"
@@ -67,7 +69,7 @@ def examples():
 
 
 def main():
-    """Writes the page."""
+    """This function writes the page."""
     module = (TOP / "bin" / "mcf.wasm").read_bytes()
     style = (TOP / "python" / "mcf_plan" / "page.css").read_text(encoding="utf-8") + (
         HERE / "page.css"

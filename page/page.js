@@ -1,5 +1,5 @@
 // @ts-check
-// The page: what is put in, what is shown, and what is done between.
+// The page: its inputs, its results, and the runs between them.
 import { Client } from './client.js';
 import { BadTable } from './faults.js';
 import { Grid } from './grid.js';
@@ -17,7 +17,7 @@ import { pageWords } from './words.js';
  * @typedef {{ parts: Part[], sheets: Sheet[] }} Changes
  */
 
-// An element of page.html, most of which are fields.
+// This function returns an element of page.html; most are fields.
 /** @type {(id: string) => HTMLInputElement} */
 const $ = (id) => /** @type {HTMLInputElement} */ (document.getElementById(id));
 /** @type {(query: string) => HTMLInputElement[]} */
@@ -26,14 +26,14 @@ const fields = (query) => [
 ];
 /** @type {Record<string, string>} */
 const WHY = {
-  memory: 'The memory that this browser gives isn’t enough for it.',
+  memory: 'This browser doesn’t give the page enough memory.',
   rejected: 'The answer was not accepted, so nothing of it is shown.',
   failed: 'The run failed.',
   stopped: 'Stopped.',
   room: 'The run failed.',
   choice: 'The run failed.',
 };
-// Of longer files the text isn't put into its field.
+// A file longer than this isn't shown in its field.
 const FIELD = 400000;
 /** @type {Record<string, string>} */
 const FIELDS = { places: 'Places', routes: 'Routes', costs: 'Costs', dimacs: 'Instance' };
@@ -45,14 +45,14 @@ let busy = false;
 let plan = null;
 /** @type {Grid[]} */
 let grids = [];
-// What fields have that isn't their text: the name and the bytes of a file.
+// The name and the bytes of the file in each field.
 /** @type {Record<string, { name: string, bytes?: Uint8Array } | null>} */
 const files = {};
 
 /** @type {() => Example[]} */
 const examples = () => JSON.parse($('examples').textContent);
 
-// ---- What is put in
+// ---- Inputs
 
 const kindOf = () => fields('input[name=kind]:checked')[0].value;
 
@@ -97,7 +97,7 @@ function choices() {
   };
 }
 
-// What stands above a plan and its picture: the title, the date and the tables.
+// This function returns the caption of a plan and its picture: the title, the date and the tables.
 /** @type {(kind: string) => Caption} */
 function captionOf(kind) {
   const now = new Date();
@@ -111,7 +111,8 @@ function captionOf(kind) {
   return { title: line($('title').value), source: line(`${date}: ${names.join(', ')}`) };
 }
 
-// Files that were chosen or dropped: which of the fields they are for, their beginning says.
+// This function takes files that were chosen or dropped. The beginning of a file shows which field
+// it is for.
 /** @type {(list: FileList) => Promise<void>} */
 async function take(list) {
   for (const file of list) {
@@ -139,7 +140,7 @@ async function take(list) {
       try {
         text = textOf(file.name, bytes, $('encoding').value || null).text;
       } catch {
-        // What is wrong with the file is told when it is read.
+        // The run reports what is wrong with the file when it reads it.
       }
     }
     put(id, text, { name: file.name, bytes });
@@ -192,7 +193,7 @@ async function go(change = null) {
   Object.assign(document.body.dataset, { status, took: (performance.now() - begun).toFixed(0) });
 }
 
-// A cell that was changed: the table is written anew, and solved.
+// This function rewrites and solves the table of a changed cell.
 /** @type {import('./grid.js').Changing} */
 function changed({ from: table, field }, k, head, text) {
   const { cells } = table.rows[k];
@@ -223,7 +224,7 @@ function changed({ from: table, field }, k, head, text) {
   go({ what, undo });
 }
 
-// ---- What is shown
+// ---- Results
 
 /** @type {(...parts: (Part | Part[] | false | null)[]) => void} */
 function replaceResult(...parts) {
@@ -240,7 +241,8 @@ function replaceResult(...parts) {
 const paragraph = (text, className = null) =>
   el('p', className ? { class: className } : {}, pageWords(text));
 
-// The title, the headline, the date and the tables, and that the answer was checked.
+// This function shows the title, the headline, the date, the tables, and that the answer was
+// checked.
 /** @type {(shown: CaptionedRun) => Part[]} */
 const headOf = ({ isPlan, headline: [words, figure], mark, caption, result }) => [
   el(
@@ -254,7 +256,7 @@ const headOf = ({ isPlan, headline: [words, figure], mark, caption, result }) =>
   el(
     'p',
     { class: 'soft', id: 'seal' },
-    `✓ ${result.verdict}: so says the proved checker in this page, of this very answer.`
+    `✓ ${result.verdict}: the proved checker in this page says so about this answer.`
   ),
 ];
 
@@ -314,7 +316,7 @@ function findingOf({ figures, sentence, cure }) {
   );
 }
 
-// What a change made of the plan before.
+// This function shows what a change did to the previous plan.
 /** @type {(shown: Run, change: Change, before: FlowPlan | null) => Changes} */
 function changeParts(shown, { what, undo }, before) {
   const back = undo ? el('button', { type: 'button', onclick: undo }, 'Take it back') : '';
@@ -342,7 +344,7 @@ function saves(shown, instance, drawn) {
     el(
       'p',
       { class: 'soft' },
-      `Elsewhere, mcfcheck ${instance.name} answer.ans judges this answer again.`
+      `mcfcheck ${instance.name} answer.ans checks this answer on another machine.`
     ),
     el(
       'div',
@@ -392,7 +394,7 @@ function showTrouble(error, change) {
   if (!(error instanceof BadTable) && !WHY[error.status]) console.error(error);
 }
 
-// ---- The beginning
+// ---- Start
 
 function begin() {
   examples().forEach(({ name }, k) => $('example').append(el('option', { value: k }, name)));

@@ -6,15 +6,15 @@ import { PAIR_HEADS } from './roster.js';
 
 /** @typedef {import('./roster.js').Roster} Roster */
 
-// Nodes are the persons, then the things; arc k is the k-th pair. After them, one node more: from
-// it an arc leads to each person, which carries how many it takes, and one from each thing, which
-// carries how many it needs.
+// The first nodes are the persons, then come the things. Arc k is the k-th pair. One more node is
+// the hub. An arc from the hub to each person carries how many things the person takes. An arc from
+// each thing to the hub carries how many persons the thing needs.
 export class RosterNet extends Network {
   /** @param {Roster} roster */
   constructor(roster) {
     let { takes, needs } = roster;
-    // As many persons as things, none has more than one, and all of one side have to have one: so
-    // have all of the other.
+    // There are as many persons as things, none may have more than one, and everyone on one side
+    // needs one. So everyone on the other side gets one, too.
     const isAssignment =
       takes.length === needs.length
       && [...takes, ...needs].every(([, most]) => most === 1n)
@@ -41,8 +41,8 @@ export class RosterNet extends Network {
     this.hub = hub;
   }
 
-  // The network as text, with where its lines come from; an assignment in its own form, which has
-  // no such node more.
+  // This method writes the network as text, with the origin of each line. An assignment has its own
+  // form, without the hub.
   instance() {
     const { table, pairs, units } = this.roster;
     const arcs = pairs.map((pair) => ({ table, line: pair.line, columns: { cost: pair.column } }));
@@ -79,8 +79,8 @@ export class RosterNet extends Network {
       : this.roster.things.names[node - 1 - this.persons];
   }
 
-  // A bottleneck with the things (or persons) beside it that limit it no less than the pairs that
-  // lead to them do.
+  // This method adds to a bottleneck the adjacent things (or persons) whose own capacity is no
+  // greater than that of the pairs that lead to them.
   /** @type {(found: Bottleneck) => Bottleneck} */
   whole(found) {
     const count = this.roster.pairs.length, outside = new Map(), nodes = new Set(found.nodes);
@@ -96,8 +96,8 @@ export class RosterNet extends Network {
     return this.bottleneck(found.side, nodes);
   }
 
-  // Those who must, with how many at least; and those by whom they can, with how many at most; and
-  // the pairs by which they can.
+  // This method returns the nodes that must be matched and the least number for each, the nodes
+  // that limit them and the most for each, and the limiting pairs.
   /**
    * @param {Bottleneck} found
    * @returns {{ must: [number, bigint][], can: [number, bigint][], pairs: number[] }}
@@ -114,7 +114,8 @@ export class RosterNet extends Network {
   }
 }
 
-// These persons compete for too few things, or these things want too few persons.
+// This function says that persons compete for too few things, or that things compete for too few
+// persons.
 /** @type {(net: RosterNet, found: Bottleneck) => string} */
 function rivalsSentence(net, found) {
   const { must, can, pairs } = net.sides(found);
@@ -140,8 +141,8 @@ function rivalsSentence(net, found) {
     + `and ${verbs[1]} only ${found.can}: ${listed(parts)}. Short by ${found.must - found.can}.`;
 }
 
-// Of each bottleneck the column must adds up to what persons must take (things need), the column
-// can to what can be.
+// This function lists the bottlenecks. In each, column must adds up to what persons must take (or
+// things need), and column can to what they can get.
 /** @type {(net: RosterNet, bottlenecks: Bottleneck[]) => SavedTable} */
 export function rivalsTable(net, bottlenecks) {
   const rows = bottlenecks.flatMap((found, k) => {
@@ -169,7 +170,8 @@ export function rivalsTable(net, bottlenecks) {
   };
 }
 
-// Of a list the lines of the pairs, by the persons.
+// This function returns the chosen pairs by person. If the input is a list, it keeps the lines of
+// the list.
 /** @type {(roster: Roster, chosen: Pair[]) => SavedTable} */
 export function pairsTable(roster, chosen) {
   const { table, persons, things, units } = roster;
@@ -190,7 +192,7 @@ export function pairsTable(roster, chosen) {
   return { name: 'pairs', like: table, heads: PAIR_HEADS, rows, figures: [2] };
 }
 
-// The pairs that a plan chose, by the persons.
+// This function returns the pairs that a plan chose, by person.
 /** @type {(roster: Roster, plan: Plan) => Pair[]} */
 export function chosenOf(roster, { flows }) {
   return roster.pairs.filter((_, k) => flows[k]).sort((a, b) => a.who - b.who || a.what - b.what);
@@ -220,7 +222,7 @@ export function pairsSummary(roster, chosen, cost) {
   return lines;
 }
 
-// Why there are no such pairs.
+// This function explains why no such pairs exist.
 /** @type {(net: RosterNet, bottlenecks: Bottleneck[]) => string[]} */
 export function rivalsLines(net, bottlenecks) {
   const { takes, needs } = net.roster;

@@ -1,6 +1,6 @@
 // @ts-check
-// The picture of a scene, as SVG: boxes and arrows; of many places dots, or rows where some send
-// and the others take.
+// This file draws a scene as SVG: boxes and arrows; dots if there are many places; rows if there
+// are many places and each only sends or only takes.
 import { dotsSvg } from './dots.js';
 import {
   SHADE,
@@ -24,9 +24,9 @@ import { laidOut, samples } from './layout.js';
 import { Room } from './room.js';
 import { rowsAreBetter, rowsSvg } from './rows.js';
 
-// Of more places or routes than these no boxes are drawn but dots.
+// If there are more places or routes than this, the picture has dots.
 const BOXES = 300, CURVES = 1500;
-// How far labels may stand within boxes, beside their texts.
+// A label may reach this far into a box, beside its text.
 const INNER = 3;
 
 /** @type {(scene: Scene) => string} */
@@ -73,8 +73,8 @@ function boxesSvg(scene) {
   return framed(corners, scene, body, legendOf(scene, boxSwatch));
 }
 
-// The labels of the routes, the widest first, where they cover no place and no other label; one
-// that finds no such spot is left out, since the arrow tells it, too.
+// This function places the labels of the routes, widest first, where they cover no place and no
+// other label. A label without a free spot is left out, since the arrow's title has its text, too.
 /** @type {(links: SceneLink[], boxes: Box[], labels: Spot[][]) => string[]} */
 function freeLabels(links, boxes, labels) {
   const room = new Room(), order = links.map((_, k) => k).filter((k) => links[k].label);
@@ -90,7 +90,7 @@ function freeLabels(links, boxes, labels) {
   });
 }
 
-// The box of a place, with its name and its note.
+// This function draws the box of a place, with its name and its note.
 /** @type {(node: SceneNode, box: Box, blocks: boolean) => string} */
 function placeBox(node, box, blocks) {
   const note = node.note
@@ -101,7 +101,7 @@ function placeBox(node, box, blocks) {
   return `<g><title>${xmlText(node.name)}</title>${drawn}${name}${note}</g>`;
 }
 
-// The shade behind the places that block and the routes between them.
+// This function draws the shade behind the places in bottlenecks and the routes between them.
 /** @type {(scene: Scene, boxes: Box[], curves: Curve[]) => string[]} */
 function shades({ groups, links }, boxes, curves) {
   return groups.flatMap((group) => [

@@ -1,5 +1,5 @@
 // @ts-check
-// What is said of a flow, and its tables: as mcf_plan says and writes them.
+// The sentences and tables about a flow, as mcf_plan writes them.
 import { MISSING, STAYS, THROUGH } from './flownet.js';
 import { TOLD_NAMES, countOf, listed } from './faults.js';
 import { FLOW_RESULTS, PLACE_RESULTS, THROUGH_RESULTS } from './heads.js';
@@ -11,7 +11,8 @@ import { SEPARATORS, cellAt } from './tables.js';
  * @typedef {import('./model.js').Problem} Problem
  */
 
-// A table of another's columns, and of groups of results after them; the last columns are figures.
+// This function returns a table with the columns of another table and then groups of results. The
+// result columns hold figures.
 /**
  * @param {string} name
  * @param {import('./tables.js').Table} like
@@ -31,7 +32,8 @@ function after(name, like, results, rows) {
   };
 }
 
-// The routes in their order, with the columns that they had; then what stays and what is missing.
+// This function lists the routes in order, with their own columns, then the amounts that stay or
+// are missing.
 /** @type {(plan: FlowPlan) => SavedTable} */
 export function flowsTable(plan) {
   const { problem } = plan;
@@ -65,8 +67,8 @@ function cellsOf(plan, { carries, cost, free, saves, isExact }) {
   ];
 }
 
-// The places in their order, with the columns that they had. What a unit costs at a place is minus
-// its price.
+// This function lists the places in order, with their own columns. One more unit at a place costs
+// minus the price of the place.
 /** @type {(plan: FlowPlan) => SavedTable} */
 export function pricesTable(plan) {
   const hasBounds = plan.problem.places.some((place) => place.bounds);
@@ -90,8 +92,8 @@ export function pricesTable(plan) {
   );
 }
 
-// Of each bottleneck the column must adds up to what must be sent (or taken), the column can to
-// what can be.
+// This function lists the bottlenecks. In each, column must adds up to what must be sent (or
+// taken), and column can to what can be.
 /** @type {(net: FlowNet, bottlenecks: Bottleneck[]) => SavedTable} */
 export function bottleneckTable(net, bottlenecks) {
   const said = (/** @type {bigint} */ number) => net.problem.units.amount(number);
@@ -130,8 +132,8 @@ const arcCells = (net, k) => (
     : ['route', '', ...net.ends(k)]
 );
 
-// A table as CSV, with the separator and the byte-order mark of the one that it is like, and its
-// mark before decimals.
+// This function writes a table as CSV, with the separator and the byte-order mark of the table
+// `like`, and with `mark` before decimals.
 /**
  * @param {Csv} table
  * @param {string | null} [mark]
@@ -153,7 +155,7 @@ export function csvOf({ heads, rows, like, figures }, mark) {
   return `${like.mark ? '\ufeff' : ''}${named}${lines.join('\n')}\n`;
 }
 
-// The sums of supplies and of demands.
+// This function returns the sum of the supplies and the sum of the demands.
 /** @type {(problem: Problem) => bigint[]} */
 export function balanceOf({ places }) {
   return [1n, -1n].map((sign) =>
@@ -161,7 +163,7 @@ export function balanceOf({ places }) {
   );
 }
 
-// What looks like a slip of the tables, though they can be read.
+// This function lists likely mistakes in tables that can be read.
 /** @type {(net: FlowNet) => string[]} */
 export function slips({ problem, policy }) {
   const [supply, demand] = balanceOf(problem), { places, placeTable } = problem;
@@ -186,7 +188,7 @@ export function slips({ problem, policy }) {
   return [];
 }
 
-// What is wrong where supplies and demands don't agree.
+// This function says how supplies and demands differ.
 /** @type {(problem: Problem) => string} */
 export function balanceSentence(problem) {
   const [supply, demand] = balanceOf(problem);
@@ -198,7 +200,8 @@ export function balanceSentence(problem) {
     + `the demands to ${said(demand)}, and they must be equal (${cure}).`;
 }
 
-// These places must send (or take) N, and can only M, over these routes: short by N - M.
+// This function says that these places must send (or take) N and can only M, over these routes:
+// short by N - M.
 /** @type {(net: FlowNet, found: Bottleneck) => string} */
 export function bottleneckSentence(net, found) {
   const said = (/** @type {bigint} */ number) => net.problem.said.amount(number);
@@ -218,7 +221,7 @@ export function bottleneckSentence(net, found) {
     + `over ${routes(found.limiting, 'most')}. Short by ${said(found.must - found.can)}.`;
 }
 
-// Why there is no plan.
+// This function explains why there is no plan.
 /** @type {(blocked: Blocked) => string[]} */
 export function blockedSummary({ net, eased, isUnbalanced, bottlenecks }) {
   const lines = ['No plan exists, as mcf found and mcfcheck accepted:'];
@@ -233,7 +236,7 @@ export function blockedSummary({ net, eased, isUnbalanced, bottlenecks }) {
   ];
 }
 
-// What a person wants to know of a plan first.
+// This function says what a person wants to know first about a plan.
 /** @type {(plan: FlowPlan) => string[]} */
 export function flowSummary(plan) {
   const { problem } = plan;
@@ -267,7 +270,8 @@ export function flowSummary(plan) {
 export const savedText = (plan, { saves, isExact }) =>
   `${isExact ? '' : 'at most '}${plan.problem.said.text(plan.rate(saves))}`;
 
-// The routes and the places where more room would save, the greatest savings first.
+// This function returns the routes and the places where more capacity saves costs, the greatest
+// saving first.
 /** @type {(plan: FlowPlan) => { ends: string[], result: RouteResult }[]} */
 export function savingsOf(plan) {
   const { problem } = plan;
@@ -285,7 +289,7 @@ export function savingsOf(plan) {
   );
 }
 
-// What stays and what is missing.
+// This function says what stays and what is missing.
 /** @type {(plan: FlowPlan) => string[]} */
 function unmetLines(plan) {
   const said = (/** @type {bigint} */ number) => plan.problem.said.amount(number);

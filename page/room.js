@@ -1,6 +1,6 @@
 // @ts-check
-// What stands in a picture already, so that no label covers it: rectangles by their edges (left,
-// top, right, bottom), kept by the squares that they touch.
+// This file remembers the occupied rectangles of a picture, so that no label covers them. A
+// rectangle has its edges left, top, right, bottom. An index by square finds them fast.
 const SQUARE = 64;
 
 export class Room {
@@ -25,7 +25,7 @@ export class Room {
     return !squaresOf(edges).some((square) => (this.taken.get(square) || []).some(over));
   }
 
-  // The edges of all that was noted.
+  // This method returns the edges around all occupied rectangles.
   /** @type {() => Edges} */
   bounds() {
     const found = [...this.taken.values()].flat();
@@ -34,8 +34,8 @@ export class Room {
     ));
   }
 
-  // The first of some spots around which a rectangle of this size is free, which is taken; null
-  // where there is none.
+  // This method occupies the first spot around which a rectangle of this size is free, and returns
+  // the spot; null if there is none.
   /** @type {(spots: Spot[], size: Size) => Spot | null} */
   first(spots, [wide, high]) {
     for (const [x, y] of spots) {
@@ -50,7 +50,7 @@ export class Room {
   }
 }
 
-// The squares that a rectangle touches.
+// This function returns the squares that a rectangle touches.
 /** @type {(edges: Edges) => string[]} */
 function squaresOf(edges) {
   const [left, top, right, bottom] = edges.map((edge) => Math.floor(edge / SQUARE)), found = [];

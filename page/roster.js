@@ -1,6 +1,6 @@
 // @ts-check
-// Persons, things and the pairs of them that may be, as tables have them: a list with the columns
-// who, what and cost, or a matrix.
+// This file reads persons, things and the allowed pairs from tables: a list with the columns who,
+// what and cost, or a matrix.
 import { Numbers, Said, Units, decimalsOf, scaled } from './amounts.js';
 import { Faults, at, countOf, shown } from './faults.js';
 import { Heads, carriedLines } from './heads.js';
@@ -8,12 +8,12 @@ import { Table, cellAt, checkHeads, fold, keyOf, nameIn, once } from './tables.j
 
 export const PAIR_HEADS = ['who', 'what', 'cost'];
 const PAIRS = new Heads([...PAIR_HEADS, 'takes', 'needs']);
-// What stands in place of a cost where a pair is forbidden.
+// The cells that forbid a pair.
 const FORBIDDEN = ['', 'x', '-', '–', '—'];
 const RANGE = /^([0-9]{1,18})(?:\s*(?:-|–|\.\.|to|bis)\s*([0-9]{1,18}))?$/;
 
-// The persons, or the things, each numbered from 1 in the order in which they come; how many each
-// may have, where that is said.
+// The persons, or the things, with numbers from 1 in the order of the table, and how many each may
+// have, if the table says so.
 class Side {
   /** @param {'takes' | 'needs'} head */
   constructor(head) {
@@ -26,7 +26,7 @@ class Side {
     this.said = new Map();
   }
 
-  // The number of a name, which is new or was there.
+  // This method returns the number of a name; a new name gets a new number.
   /** @type {(name: string) => number} */
   number(name) {
     const key = keyOf(name);
@@ -34,7 +34,8 @@ class Side {
     return this.numbers.get(key);
   }
 
-  // Notes how many one may have, in a cell that isn't empty; what was said before must be the same.
+  // This method notes how many one may have, unless the cell is empty. Two such cells for one name
+  // must agree.
   /** @type {(where: Where, number: number, cell: string, faults: Faults) => void} */
   say(where, number, cell, faults) {
     if (!cell) return;
@@ -56,8 +57,9 @@ class Side {
     }
   }
 
-  // How many one gets, at least and at most: just one of those that each have to, else at most one;
-  // or what was said. One number alone is all that a thing needs, and the most that a person takes.
+  // This method returns how many one gets, at least and at most. If no cell says so, it is exactly
+  // one if everyone needs one, else at most one. A single number is exactly what a thing needs, and
+  // the most that a person takes.
   /** @type {(number: number, isEach: boolean) => HowMany} */
   rangeOf(number, isEach) {
     const said = this.said.get(number);
@@ -68,8 +70,8 @@ class Side {
   }
 }
 
-// The pairs of a table { name, text } or { name, bytes }, their costs in whole numbers, and how
-// many each person takes and each thing needs.
+// This class reads the pairs of a table, { name, text } or { name, bytes }, their costs as whole
+// numbers, and how many each person takes and each thing needs.
 export class Roster {
   /**
    * @param {Source} source
@@ -100,7 +102,7 @@ export class Roster {
     this.needs = this.things.names.map((_, k) => this.things.rangeOf(k + 1, side !== 'who'));
   }
 
-  // Notes that no person or no thing is read, with what is.
+  // This method notes a fault if the table has no person or no thing, and says what it has.
   /** @type {(faults: Faults) => void} */
   checkRead(faults) {
     const { table } = this;
@@ -116,7 +118,7 @@ export class Roster {
     );
   }
 
-  // Lines on how the table was read. All columns of a matrix are used.
+  // This method returns lines on how the table was read. A matrix has no unused columns.
   told() {
     return [
       ...(this.isList ? carriedLines(PAIRS.carried(this.table)) : []),
@@ -167,7 +169,8 @@ export class Roster {
     return pairs;
   }
 
-  // A person each row, a thing each column; perhaps a column takes and a row needs.
+  // This method reads a matrix: a person in each row and a thing in each column, perhaps with a
+  // column takes and a row needs.
   /** @type {(faults: Faults) => Pair<Exact>[]} */
   matrix(faults) {
     const { table } = this;
@@ -202,7 +205,8 @@ export class Roster {
     return pairs;
   }
 
-  // The columns of the matrix that have a thing, each with its number.
+  // This method returns the columns of the matrix that hold things, each with the number of its
+  // thing.
   /** @type {(faults: Faults) => { place: number, what: number }[]} */
   matrixThings(faults) {
     const { table } = this;

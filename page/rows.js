@@ -1,7 +1,7 @@
 // @ts-check
-// The picture of many places that send and others that take, as SVG: a row for each route, in
-// columns. The rows of one place stand together, beside its box; that of the other end may stand
-// several times.
+// This file draws a picture of many places, each of which only sends or only takes, as SVG: a row
+// for each route, in columns. The rows of one place stand together, beside its box. The place at
+// the other end may appear several times.
 import {
   SOFT,
   arrow,
@@ -20,11 +20,11 @@ import {
 // The routes of a place that stand beside its box.
 /** @typedef {{ node: number, links: SceneLink[] }} Block */
 
-// Of more places than this on a side, rows are drawn. How high a row is, and a block of rows at
-// least; between blocks; between columns; how wide all may be, so that names are 9 pixels high in a
-// page of 1360; how many rows a block has at most.
+// A side with more places than MANY is drawn as rows. Then: the height of a row, the least height
+// of a block, the gaps between blocks and between columns, the greatest width of all columns (names
+// are then 9 pixels high on a page of 1360), and the most rows of a block.
 const MANY = 20, ROW = 20, LEAST = 36, BELOW = 8, BESIDE = 40, WIDE = 1160, ROWS = 40;
-// An edge of what stands several times.
+// The edge of a box that appears several times.
 const DASHED = ' stroke-dasharray="4 3"';
 
 /** @type {(links: SceneLink[]) => [tails: Set<number>, heads: Set<number>]} */
@@ -33,8 +33,8 @@ const endsOf = (links) => [
   new Set(links.map(({ head }) => head)),
 ];
 
-// Whether a scene is drawn as rows: many places send or take, no route leads on from where one
-// leads to, and the places have no spots.
+// This function says whether to draw a scene as rows: many places send or take, no route continues
+// another, and not all places have spots.
 /** @type {(scene: Scene) => boolean} */
 export function rowsAreBetter({ nodes, links }) {
   const [tails, heads] = endsOf(links);
@@ -77,7 +77,7 @@ export function rowsSvg(scene) {
   );
 }
 
-// What is drawn: the places of one side, 0 that of those that send, have blocks of rows.
+// A picture of rows. The places of one side have blocks of rows; side 0 is the side that sends.
 class Rows {
   /**
    * @param {Scene} scene
@@ -112,7 +112,7 @@ class Rows {
 
   hasSeveral() { return [...this.count.values()].some((times) => times > 1); }
 
-  // A place, its routes, and the other ends of these.
+  // This method draws a place, its routes, and the places at their other ends.
   /** @type {(block: Block, left: number, top: number) => string[]} */
   block({ node, links }, left, top) {
     const high = heightOf({ links }), begin = left + this.widths[0], end = begin + this.between;
@@ -127,8 +127,8 @@ class Rows {
     return [...rows, this.place(node, this.side, left, top + high / 2, high)];
   }
 
-  // The box of a place on a side of its column, by its middle and its height; one that is high
-  // enough has its note, too.
+  // This method draws the box of a place on one side of its column. `y` is the middle of the box. A
+  // box that is high enough shows the note, too.
   /**
    * @param {number} number
    * @param {number} side
@@ -151,8 +151,8 @@ class Rows {
   }
 }
 
-// The blocks of the places on a side, and of those that no route is drawn of; of many routes
-// several, each with the widest first.
+// This function returns the blocks of the places on a side, and of the places without a drawn
+// route. A place with many routes gets several blocks. The widest routes come first.
 /** @type {(scene: Scene, side: number) => Block[]} */
 function blocksOf({ nodes, links }, side) {
   /** @type {SceneLink[][]} */
@@ -174,11 +174,12 @@ function blocksOf({ nodes, links }, side) {
 /** @type {(block: { links: SceneLink[] }) => number} */
 const heightOf = ({ links }) => Math.max(LEAST, ROW * links.length);
 
-// How high blocks below one another are.
+// This function returns the height of a column of blocks.
 /** @type {(blocks: Block[]) => number} */
 const totalOf = (blocks) => blocks.reduce((sum, block) => sum + heightOf(block) + BELOW, -BELOW);
 
-// Blocks in columns, which are as many as make a picture that is twice as wide as high, or as fit.
+// This function puts the blocks in columns: as many as fit, or until the picture is twice as wide
+// as high.
 /** @type {(blocks: Block[], wide: number) => Block[][]} */
 function inColumns(blocks, wide) {
   const fit = Math.max(1, Math.floor((WIDE + BESIDE) / (wide + BESIDE)));
@@ -189,7 +190,7 @@ function inColumns(blocks, wide) {
   return columns;
 }
 
-// Blocks in so many columns of about the same height.
+// This function splits the blocks into at most `count` columns of about the same height.
 /** @type {(blocks: Block[], count: number) => Block[][]} */
 function split(blocks, count) {
   for (let limit = Math.max(totalOf(blocks) / count, ...blocks.map(heightOf)); ; limit *= 1.03) {

@@ -1,6 +1,6 @@
 // @ts-check
-// From what was put in to what is shown: tables or a text are read, solved, and told. Nothing is
-// told of an answer that wasn't accepted.
+// This file runs the page from input to result: it reads tables or a text, solves them, and
+// describes the answer. It shows nothing of an answer that was not accepted.
 import {
   blockedShown,
   pairsBlocked,
@@ -17,11 +17,10 @@ import { Roster } from './roster.js';
 import { NoAnswer, blockedOf, bottlenecksOf, linesOf, planOf, solve } from './solving.js';
 import { CODES } from './words.js';
 
-// Of more bytes than this a text's tables aren't shown, but what it costs; of more arcs the set
-// that the answer names is told as it is.
+// For a text of more bytes than TABLES, the page shows only the cost and no tables. For more arcs
+// than SEARCHED, it shows the set that the answer names.
 const TABLES = 3e7, SEARCHED = 100000;
 
-// Places and routes.
 /** @type {(solver: Solver, sources: Source[], choices: Choices) => Promise<Run>} */
 export async function runFlow(solver, sources, { reading, policy, engine }) {
   const problem = new Problem(sources, reading);
@@ -39,7 +38,6 @@ export async function runFlow(solver, sources, { reading, policy, engine }) {
   return { ...planShown(found), plan: found, result, instance: { name: instance.name, text } };
 }
 
-// Persons and things.
 /** @type {(solver: Solver, source: Source, choices: Choices) => Promise<Run>} */
 export async function runPairs(solver, source, { reading, each, maximise, engine }) {
   const roster = new Roster(source, reading, each, maximise);
@@ -51,7 +49,7 @@ export async function runPairs(solver, source, { reading, each, maximise, engine
   return { ...shown, result, instance: { name: instance.name, text } };
 }
 
-// What is told of a text without tables.
+// This function returns the result of a text without tables.
 /**
  * @param {boolean} isPlan
  * @param {string[]} headline
@@ -73,7 +71,7 @@ const withoutTables = (isPlan, headline, line, result, instance) => ({
   instance,
 });
 
-// A DIMACS text, as bytes.
+// This function runs a DIMACS text, given as bytes.
 /** @type {(solver: Solver, bytes: Uint8Array, choices: Choices) => Promise<Run>} */
 export async function runText(solver, bytes, { engine }) {
   const result = await solver.solve(bytes, engine);
@@ -107,8 +105,8 @@ export async function runText(solver, bytes, { engine }) {
   return { ...shown, result, instance };
 }
 
-// The bottlenecks of a text: where its supplies add to 0 and it isn't large they are sought, else
-// the answer's set is told.
+// This function returns the bottlenecks of a text. If its supplies add up to 0 and it isn't large,
+// it searches for them; else it takes the set of the answer.
 /**
  * @param {Solver} solver
  * @param {Uint8Array} bytes

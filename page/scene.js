@@ -1,7 +1,8 @@
 // @ts-check
-// What is drawn of a plan, or of what blocks one. A node has a name, which may be cut in its box, a
-// note, whether it sends, takes or passes on, and its spot; a link its ends from 0, how wide it is,
-// its kind, its label and what is told of it; groups are sets of nodes that block.
+// This file describes the picture of a plan, or of the bottlenecks if there is none. A node has a
+// name, the short name for its box, a note, a kind (sends, takes or passes on) and a spot. A link
+// has its ends from 0, a width, a kind, a label and a title. Groups are sets of nodes that form
+// bottlenecks.
 import { size } from './model.js';
 import { balanceOf } from './report.js';
 import { grouped } from './view.js';
@@ -14,20 +15,23 @@ import { grouped } from './view.js';
  * @property {(number: bigint) => string} total
  */
 
-// Of more routes than this, those that carry nothing are left out; where no plan exists, of more
-// places than this those that block are drawn, and those next to them.
+// If there are more routes than ALL_ROUTES, those that carry nothing are left out. If no plan
+// exists and there are more places than NEAR, the picture shows only the bottlenecks and their
+// neighbours.
 const ALL_ROUTES = 90, NEAR = 60;
-// How long a name in a box may be, and what stays of its beginning and its end where it is cut.
+// The greatest length of a name in a box, and what a longer name keeps of its beginning and end.
 const LONGEST = 24, BEGIN = 12, END = 11;
 
-// Numbers of a problem as pages have them: with narrow blanks between their thousands.
+// This function writes the numbers of a problem as the page does: with narrow spaces between
+// thousands.
 /** @type {(problem: Problem) => Figures} */
 const figuresOf = ({ units, said: { mark } }) => ({
   amount: (number) => grouped(units.amount(number), mark),
   total: (number) => grouped(units.total(number), mark),
 });
 
-// All routes if they aren't many, else those that carry something or are shut.
+// This function describes a plan. If there are many routes, it shows those that carry something or
+// have capacity 0.
 /** @type {(plan: FlowPlan, caption: Caption) => Scene} */
 export function planScene(plan, caption) {
   const { problem } = plan, { amount: said, total } = figuresOf(problem);
@@ -56,7 +60,8 @@ export function planScene(plan, caption) {
   };
 }
 
-// A route of a plan by its number. One that is used its other way leads there.
+// This function describes route k of a plan. If the flow runs in the opposite direction, the link
+// does, too.
 /** @type {(plan: FlowPlan, k: number, widest: bigint) => SceneLink} */
 function linkOf(plan, k, widest) {
   const { problem } = plan, { amount: said, total } = figuresOf(problem);
@@ -76,7 +81,8 @@ function linkOf(plan, k, widest) {
   };
 }
 
-// The bottlenecks, and of many places just those and what is next to them.
+// This function describes the bottlenecks. If there are many places, it shows only these and their
+// neighbours.
 /** @type {(blocked: Blocked, caption: Caption) => Scene} */
 export function blockedScene(blocked, caption) {
   const net = blocked.eased, { problem } = net, { amount: said } = figuresOf(problem);
@@ -113,7 +119,7 @@ export function blockedScene(blocked, caption) {
   return nodes.length > NEAR && groups.length ? nearScene(scene) : scene;
 }
 
-// Which arcs force or limit what blocks, by their kind, their number and their sign.
+// This function marks the arcs that force or limit a bottleneck, by their kind, number and sign.
 /** @type {(blocked: Blocked) => Map<string, 'forces' | 'limits'>} */
 function markedOf({ eased, bottlenecks }) {
   /** @type {Map<string, 'forces' | 'limits'>} */
@@ -127,7 +133,7 @@ function markedOf({ eased, bottlenecks }) {
   return marked;
 }
 
-// Why no plan exists, in a few words.
+// This function says in a few words why no plan exists.
 /** @type {(blocked: Blocked) => string} */
 export function whyBlocked({ net: { problem }, isUnbalanced, bottlenecks }) {
   const { amount } = figuresOf(problem), [supply, demand] = balanceOf(problem);
@@ -138,7 +144,7 @@ export function whyBlocked({ net: { problem }, isUnbalanced, bottlenecks }) {
     .join(', ');
 }
 
-// The places of a scene that block, and those that a route joins with them.
+// This function keeps the places in bottlenecks and those that a route joins with them.
 /** @type {(scene: Scene) => Scene} */
 function nearScene(scene) {
   const blocking = new Set(scene.groups.flatMap((group) => [...group])), near = new Set(blocking);
@@ -178,7 +184,7 @@ function nodeOf(problem, place, short, unmet = 0n) {
   };
 }
 
-// What a route carries at least and at most.
+// This function says what a route carries at least and at most.
 /** @type {(problem: Problem, route: Route) => string} */
 function limitsText(problem, route) {
   const [least, most] = [route.least, route.most].map(figuresOf(problem).amount);
@@ -186,8 +192,8 @@ function limitsText(problem, route) {
   return most ? `${least} to ${most}` : `${least} or more`;
 }
 
-// What stands of each name in its box: of long ones their beginning and their end, and of such as
-// would read alike then what is different.
+// This function returns what a box shows of each name. A long name keeps its beginning and its end.
+// If two short forms are the same, they show where the names differ.
 /** @type {(names: string[]) => string[]} */
 export function shortNames(names) {
   const letters = names.map((name) => [...name]);
@@ -196,7 +202,8 @@ export function shortNames(names) {
   return shorts;
 }
 
-// A name, where it is too long its beginning and what begins at a letter.
+// This function cuts a name that is too long: it keeps the beginning and what follows the letter at
+// `begin`.
 /** @type {(letters: string[], begin: number) => string} */
 function cut(letters, begin) {
   if (letters.length <= LONGEST) return letters.join('');
@@ -207,7 +214,8 @@ function cut(letters, begin) {
     : `${first}…${rest.slice(0, END - 1).join('')}…`;
 }
 
-// Cuts names that read alike where they begin to be different, which is farther on than a letter.
+// This function cuts names with the same short form where they first differ, if that is after
+// `begin`.
 /** @type {(names: string[][], shorts: string[], numbers: number[], begin: number) => void} */
 function tellApart(names, shorts, numbers, begin) {
   /** @type {Map<string, number[]>} */

@@ -1,6 +1,6 @@
 // @ts-check
-// What is shown of an answer: a headline, what leads to it, facts, findings, a scene, and tables to
-// look at and to save.
+// This file turns an answer into what the page shows: a headline, lead sentences, facts, findings,
+// a scene, and tables to look at and to save.
 import { pairsSummary, pairsTable, rivalsLines, rivalsTable } from './pairs.js';
 import {
   balanceOf,
@@ -33,10 +33,10 @@ import { blockedScene, planScene, whyBlocked } from './scene.js';
 const column = (head, meaning = '', more = {}) => ({ head, meaning, ...more });
 /** @type {(head: string, meaning?: string, more?: Partial<Column>) => Column} */
 const number = (head, meaning, more = {}) => column(head, meaning, { number: true, ...more });
-// Heads of columns that are shown anyway.
+// Heads of the columns that every sheet shows.
 const USED = ['from', 'to', 'least', 'most', 'cost', 'name', 'supply', 'x', 'y'];
 
-// A sheet of rows that are there.
+// This function returns a sheet of given rows.
 /** @type {(title: string, columns: Column[], rows: SheetRow[]) => Sheet} */
 const sheetOf = (title, columns, rows, more = {}) => ({
   title,
@@ -47,7 +47,7 @@ const sheetOf = (title, columns, rows, more = {}) => ({
   ...more,
 });
 
-// The columns of a table that are the planner's own.
+// This function returns the planner's own columns of a table.
 /** @type {(table: Table) => number[]} */
 const ownColumns = (table) =>
   table.heads.map((_, place) => place).filter((place) => !USED.includes(table.heads[place]));
@@ -117,11 +117,11 @@ function savingsSheet(plan) {
     : [];
 }
 
-// Whether no cost of a route rises by steps.
+// This function says whether no route has costs that rise by steps.
 /** @type {(problem: Problem) => boolean} */
 const isPlain = ({ routes }) => routes.every(({ steps }) => steps.length === 1);
 
-// What makes a column of the routes one whose cells may be changed.
+// This function makes a column of the routes editable if the table has it and no route has steps.
 /** @type {(problem: Problem, head: string) => Partial<Column>} */
 const may = (problem, head) =>
   isPlain(problem) && problem.routeTable.heads.includes(head) ? { edit: head, of: true } : {};
@@ -181,11 +181,12 @@ function routesSheet(plan) {
     totals,
     from: routeTable,
     field: 'routes',
-    note: plain ? 'A change of least, most or cost makes the plan anew.' : '',
+    note: plain ? 'If you change least, most or cost, the page makes a new plan.' : '',
   };
 }
 
-// The cost of each unit of a route; where it rises by steps, all of them, as sentences have them.
+// This function returns the cost of each unit of a route. If it rises by steps, it lists all steps
+// as sentences do.
 /** @type {(problem: Problem, route: Route) => string} */
 function costsCell({ units, said }, { steps }) {
   return steps.length === 1
@@ -193,7 +194,7 @@ function costsCell({ units, said }, { steps }) {
     : steps.map((step) => said.rate(step.cost)).join(' / ');
 }
 
-// What a sheet of places has of those that something bounds.
+// The columns about what passes through places with bounds.
 const PASSING = [
   number('passes', 'what comes in and what is sent there'),
   number('passes at most', 'empty: no limit'),
@@ -256,7 +257,7 @@ export function blockedShown(blocked) {
   const [supply, demand] = balanceOf(problem);
   const findings = blocked.bottlenecks.map((found) => bottleneckFinding(blocked.eased, found));
   if (blocked.isUnbalanced) {
-    const eased = supply > demand ? 'stay' : 'be short';
+    const eased = supply > demand ? 'supplies may stay' : 'demands may be unmet';
     findings.unshift({
       figures: [
         ['supply', said(supply)],
@@ -264,7 +265,7 @@ export function blockedShown(blocked) {
         ['short by', said(size(supply - demand))],
       ],
       sentence: 'Supplies and demands must be equal.',
-      cure: `Make them equal; or choose that what is too much may ${eased}.`,
+      cure: `Make them equal, or choose that ${eased}.`,
     });
   }
   return {
@@ -286,7 +287,7 @@ export function blockedShown(blocked) {
 }
 
 /**
- * What a set must and can, and the difference.
+ * This function returns what a set must and can send or take, and the difference.
  * @param {Bottleneck} found
  * @param {(amount: bigint) => string} [said]
  */
@@ -342,7 +343,7 @@ function limitingSheet(blocked) {
     : [];
 }
 
-// What may be changed where no plan exists.
+// This function returns the sheets whose cells may be changed if no plan exists.
 /** @type {(problem: Problem) => Sheet[]} */
 function inputSheets(problem) {
   const { routes, places, units, routeTable, placeTable } = problem;
@@ -360,7 +361,7 @@ function inputSheets(problem) {
       count: routes.length,
       from: routeTable,
       field: 'routes',
-      note: 'A change of least, most or supply makes the plan anew.',
+      note: 'If you change least, most or supply, the page makes a new plan.',
       row: (k) => ({
         kind: '',
         cells: [
@@ -543,8 +544,8 @@ export function textBlocked(network, bottlenecks) {
 
 // ---- What changed
 
-// What differs between two plans: by the ends of routes, and of several with the same ends by their
-// order.
+// This function describes how two plans differ. It matches routes by their ends, and routes with
+// the same ends by their order.
 /** @type {(before: FlowPlan, plan: FlowPlan) => { text: string, sheets: Sheet[] }} */
 export function changesShown(before, plan) {
   const { units } = plan.problem;
@@ -566,7 +567,7 @@ export function changesShown(before, plan) {
   const sheets = rows.length
     ? [
       sheetOf(
-        'Routes that carry something else than before',
+        'Routes that carry another amount than before',
         [column('from'), column('to'), number('before'), number('now')],
         rows
       ),
@@ -576,12 +577,12 @@ export function changesShown(before, plan) {
   return {
     text:
       `${deliverySentence(delivered, deliversNow)}Cost before ${cost}, now ${other}; `
-        + `${differing} something else.`,
+        + `${differing} another amount.`,
     sheets,
   };
 }
 
-// What a plan delivers in all, as it is said, and by places.
+// This function returns what a plan delivers: the total as text, and the amount of each place.
 /** @type {(plan: FlowPlan) => Delivered} */
 function deliveredBy({ problem, places }) {
   const found = new Map();
@@ -596,7 +597,8 @@ function deliveredBy({ problem, places }) {
   };
 }
 
-// Costs of plans that don't deliver the same aren't of one task.
+// This function warns if two plans deliver different amounts, since their costs can't be compared
+// then.
 /** @type {(before: Delivered, now: Delivered) => string} */
 function deliverySentence(before, now) {
   if (before.byPlace === now.byPlace) return '';

@@ -1,7 +1,7 @@
 // @ts-check
-// From tables to an accepted answer. A solver has two calls: solve(text, engine), which gives a
-// status of flow, blocked or refused with an answer that was accepted, or another status; and
-// check(text, answer), which says whether an answer is accepted. Both take and give texts.
+// This file turns tables into an accepted answer. A solver has two methods. solve(text, engine)
+// returns the status flow, blocked or refused with an accepted answer, or another status.
+// check(text, answer) says whether an answer is accepted. Both take and return texts.
 import { FlowNet } from './flownet.js';
 import { BadTable } from './faults.js';
 
@@ -22,7 +22,7 @@ const REFUSALS = {
 /** @type {Record<SendOrTake, SendOrTake>} */
 const OTHER_SIDE = { send: 'take', take: 'send' };
 
-// What ends a run without an answer that is to be believed.
+// This class ends a run that has no trustworthy answer.
 export class NoAnswer extends Error {
   /** @param {Status} status */
   constructor(status, why = '') {
@@ -31,7 +31,8 @@ export class NoAnswer extends Error {
   }
 }
 
-// The fields, after the first, of the lines of an answer that begin with a letter.
+// This function returns the fields, after the first, of the lines of an answer that begin with a
+// letter.
 /** @type {(answer: string, letter: string) => string[][]} */
 export const linesOf = (answer, letter) => answer.split('\n').filter(
   (line) => line.startsWith(`${letter} `)
@@ -46,8 +47,8 @@ async function solved(solver, text, engine) {
   return result;
 }
 
-// What an accepted flow says, for a network with these arcs: in the second form arcs that carry
-// their least aren't named.
+// This function reads an accepted flow for a network with these arcs. The second form omits arcs
+// that carry their least.
 /** @type {(answer: string, arcs: Arc[]) => Plan} */
 export function planOf(answer, arcs) {
   const flows = arcs.map((arc) => arc.least), prices = [];
@@ -61,8 +62,8 @@ export function planOf(answer, arcs) {
   return { cost, flows, prices };
 }
 
-// The plan of an instance of a network, or null where no plan exists; with the text and what the
-// solver gave. Throws a BadTable for a refusal.
+// This function solves an instance of a network. It returns the plan, or null if none exists, with
+// the text and the solver's result. It throws a BadTable for a refusal.
 /**
  * @param {Solver} solver
  * @param {Lines} instance
@@ -80,7 +81,8 @@ export async function solve(solver, instance, network, engine = 'auto') {
   };
 }
 
-// What a refusal says: it names the line of the table that the bad line of the instance came from.
+// This function explains a refusal. It names the line of the table that the bad line of the
+// instance came from.
 /** @type {(answer: string, instance: Lines) => Error} */
 function refused(answer, instance) {
   const [line, code] = linesOf(answer, 'r')[0], origin = instance.origins[Number(line) - 1];
@@ -96,9 +98,8 @@ function refused(answer, instance) {
   ]);
 }
 
-// A set of a network that must send more than it can. Cost scaling is asked, since its set is the
-// least of those that must send the most beyond what they can: it has nothing in it that doesn't
-// matter.
+// This function returns a set of nodes that must send more than it can. It asks cost scaling, which
+// returns the smallest of the sets with the greatest shortfall: every node in it matters.
 /** @type {(solver: Solver, network: Network) => Promise<Set<number>>} */
 async function blockingSet(solver, network) {
   const { status, answer } = await solved(solver, `${network.lines().join('\n')}\n`, 'scaling');
@@ -108,9 +109,10 @@ async function blockingSet(solver, network) {
   return new Set(linesOf(answer, 'x').map(([node]) => Number(node)));
 }
 
-// The bottlenecks of a balanced network without a plan, each accepted for the text. They are told
-// from the side, of those that send and those that take, that has fewer nodes; and from the side of
-// the cut on which no hub is. `whole` adds to one what belongs to it.
+// This function returns the bottlenecks of a balanced network without a plan, each accepted for the
+// text. It looks for nodes that must send too much and for nodes that must take too much, and
+// returns those with fewer nodes. A set with the hub is replaced by the other side of its cut.
+// `whole` completes a bottleneck.
 /**
  * @param {Solver} solver
  * @param {string | Uint8Array} text
@@ -144,9 +146,9 @@ export async function bottlenecksOf(solver, text, network, hub = null, whole = (
   return found;
 }
 
-// What blocks a flow network that has no plan: where supplies and demands don't agree, all places
-// together do; and then whatever blocks if what is too much may stay, or be short, which is
-// `eased`.
+// This function finds what blocks a flow network without a plan. If supplies and demands differ,
+// all places together block it. Then `eased` is the network in which the excess supply may stay, or
+// the excess demand may be unmet, and its bottlenecks follow.
 /**
  * @param {Solver} solver
  * @param {string} text
@@ -175,7 +177,7 @@ export async function blockedOf(solver, text, net) {
   return { net, eased, isUnbalanced: true, bottlenecks };
 }
 
-// All bottlenecks of what blocks, the balance first.
+// This function returns all bottlenecks, the imbalance first.
 /** @type {(blocked: Blocked) => Bottleneck[]} */
 export function allBottlenecks({ net, bottlenecks }) {
   const total = net.total(), all = new Set(net.supplies.map((_, k) => k + 1));

@@ -1,13 +1,13 @@
 // @ts-check
-// Tables: read from files or pasted, and found by the heads of their columns.
+// Tables: read from files or pasted, with columns found by their heads.
 import { BadTable, Faults, at, listed, shown } from './faults.js';
 
 const SEPARATOR_LINE = /^"?sep=([^" ])"?\s*$/i;
-// The separators that heads show by themselves.
+// The separators that the line of heads shows by itself.
 export const SEPARATORS = [',', ';', '\t'];
-// In how many lines heads are looked for that aren't in the first.
+// The reader looks for missing heads in this many lines below the first.
 const LOOKED = 10;
-// What other files begin with.
+// The first bytes of other kinds of files.
 /** @type {[head: number[], words: string][]} */
 const OTHER_FILES = [
   [[0x1f, 0x8b], 'this is compressed (gzip): unpack it first'],
@@ -20,16 +20,17 @@ const ZIP = [0x50, 0x4b, 0x03, 0x04];
 const begins = (bytes, head) => head.every((byte, k) => bytes[k] === byte);
 /** @type {(text: string) => string} */
 export const fold = (text) => text.toLowerCase().replace(/ß/g, 'ss');
-// What a name is compared by: accents written in two ways are the same.
+// This function returns the key that compares names: two ways to write an accent are the same.
 /** @type {(name: string) => string} */
 export const keyOf = (name) => name.normalize('NFC');
-// A cell of a row, empty where the row is shorter or there is no such place.
+// This function returns a cell of a row; empty if the row is too short or the column doesn't exist.
 /** @type {(cells: string[], place: number | null) => string} */
 export const cellAt = (cells, place) => (
   place >= 0 && place !== null && place < cells.length ? cells[place] : ''
 );
 
-// The text of a file. What isn't UTF-8 is read as Windows-1252 with a fault: that it isn't.
+// This function returns the text of a file. If it isn't UTF-8, it is read as Windows-1252 and
+// marked as wrong.
 /**
  * @param {string} name
  * @param {Uint8Array} bytes
@@ -75,7 +76,8 @@ export function textOf(name, bytes, encoding = null) {
   return { text, mark: false, wrong: { line, text: words } };
 }
 
-// The records of a text that aren't blank, each with the number of its first line.
+// This function returns the records of a text that aren't blank, each with the number of its first
+// line.
 /** @type {(text: string, separator: string, name: string) => Row[]} */
 function recordsOf(text, separator, name) {
   /** @type {Row[]} */
@@ -113,17 +115,17 @@ function recordsOf(text, separator, name) {
   return records;
 }
 
-// How well a separator suits the line of the heads.
+// This function ranks how well a separator fits the line of heads.
 /** @type {(line: string, separator: string, known: Set<string>) => number[]} */
 function rankOf(line, separator, known) {
   const heads = line.split(separator).map((head) => fold(head.trim().replace(/^"+|"+$/g, '')));
   return [new Set(heads.filter((head) => known.has(head))).size, heads.length];
 }
 
-// A table: its heads, and its rows as lines and cells. `heads` of a reading are own heads by those
-// that are wanted.
+// A table: its heads, and its rows as lines and cells. `heads` of a reading maps wanted heads to
+// the planner's own.
 export class Table {
-  // Source: a name, and a text or bytes.
+  // A source has a name, and a text or bytes.
   /**
    * @param {Source} source
    * @param {string[]} wanted
@@ -173,7 +175,7 @@ export class Table {
     if (read.wrong) faults.add(at(this, read.wrong.line), 'encoding', read.wrong.text);
   }
 
-  // Notes the columns that are wanted and aren't there, or are there twice.
+  // This method notes the wanted columns that are missing or appear twice.
   /** @type {(wanted: string[], faults: Faults, hint?: string) => void} */
   need(wanted, faults, hint = 'wanted are') {
     const lacking = wanted.filter((head) => !this.heads.includes(head));
@@ -194,7 +196,8 @@ export class Table {
     }
   }
 
-  // The line, of the first ones below the heads, that has these, however it was split; or null.
+  // This method returns the first line below the heads that has these heads, under any separator,
+  // or null.
   /** @type {(heads: string[]) => number | null} */
   lineWith(heads) {
     for (const { line, cells } of this.rows.slice(0, LOOKED)) {
@@ -204,10 +207,10 @@ export class Table {
     return null;
   }
 
-  // The heads as they were read, the first ones of many.
+  // This method returns the heads as they were read; of many, only the first.
   headsText() { return `${listed(this.titles.map(shown))} (split at ${shown(this.separator)})`; }
 
-  // The places of the columns with these heads, each of which has to be there once.
+  // This method returns the places of the columns with these heads. Each must appear once.
   /** @type {(wanted: string[]) => number[]} */
   columns(wanted) {
     const faults = new Faults();
@@ -216,14 +219,14 @@ export class Table {
     return wanted.map((head) => this.heads.indexOf(head));
   }
 
-  // The place of a column that may be there, or null.
+  // This method returns the place of an optional column, or null.
   /** @type {(head: string) => number | null} */
   perhaps(head) { return this.heads.includes(head) ? this.columns([head])[0] : null; }
 
   /** @type {(wanted: string[]) => boolean} */
   has(wanted) { return wanted.every((head) => this.heads.includes(head)); }
 
-  // Notes the cells that stand beyond the last head.
+  // This method notes the cells beyond the last head.
   /** @type {(faults: Faults) => void} */
   checkWidths(faults) {
     for (const { line, cells } of this.rows) {
@@ -240,8 +243,8 @@ export class Table {
     }
   }
 
-  // The places of the columns that results are written after: all but those of earlier results,
-  // which are there as a whole if they are.
+  // This method returns the places of the columns that stay in front of new results. A complete
+  // group of earlier results is left out.
   /** @type {(...results: string[][]) => number[]} */
   kept(...results) {
     const titles = this.titles.map(fold);
@@ -252,7 +255,7 @@ export class Table {
   }
 }
 
-// Notes own heads that no table has.
+// This function notes the planner's own heads that no table has.
 /** @type {(tables: Table[], reading: Reading, faults: Faults) => void} */
 export function checkHeads(tables, reading, faults) {
   const titles = new Set(tables.flatMap((table) => table.titles.map(fold)));
@@ -261,8 +264,8 @@ export function checkHeads(tables, reading, faults) {
   }
 }
 
-// Notes that no table has a column of the planner's; if a line below the heads has it, of that
-// table.
+// This function notes that no table has one of the planner's own heads. If a line below the heads
+// of a table has it, the fault names that table.
 /** @type {(tables: Table[], head: string, own: string, faults: Faults) => void} */
 function noteLacking(tables, head, own, faults) {
   const table = tables.find((it) => it.lineWith([own])) || tables[tables.length - 1];
@@ -279,7 +282,7 @@ function noteLacking(tables, head, own, faults) {
   );
 }
 
-// The name that a cell has: any text of one line that isn't empty.
+// This function returns the name in a cell: any text of one line that isn't empty.
 /**
  * @param {Table} table
  * @param {number} line
@@ -301,7 +304,7 @@ export function nameIn(table, line, head, cell, faults) {
   return cell;
 }
 
-// Notes a fault where the key was seen on an earlier line; else remembers it.
+// This function notes a fault if an earlier line has the same key; else remembers the key.
 /**
  * @param {Where} where
  * @param {string} key

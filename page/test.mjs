@@ -1,5 +1,5 @@
-// The tests of the page that need node alone (16 or later): node page/test.mjs [NAME ..]. Each
-// test_NAME.mjs beside this file says what it tried; the status is 1 where something was wrong.
+// This file runs the tests of the page that only need node (16 or later): node page/test.mjs [NAME
+// ..]. Each test_NAME.mjs beside this file says what it tried. The status is 1 if a test failed.
 import fs from 'node:fs';
 import path from 'node:path';
 import { fileURLToPath } from 'node:url';

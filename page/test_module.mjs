@@ -1,5 +1,5 @@
-// What the module answers to each example, in both forms and by each engine, and what it says of
-// answers that were changed.
+// This file tests what the module answers to each example, in both forms and by each engine, and
+// what it says about changed answers.
 import fs from 'node:fs';
 import os from 'node:os';
 import path from 'node:path';
@@ -11,7 +11,7 @@ const top = path.join(path.dirname(fileURLToPath(import.meta.url)), '..');
 const examples = path.join(top, 'examples');
 const programs = process.env.MCF_BIN ?? path.join(top, 'bin');
 const mcfcheck = path.join(programs, 'mcfcheck');
-// Of an answer's bytes every so many is changed for mcfcheck, which is a process each time.
+// mcfcheck judges only every 16th changed byte of an answer, since each run is a process.
 const EVERY = 16;
 
 export function loaded() {
@@ -63,7 +63,7 @@ export default function test(expect) {
         } else expect(verdict.line.startsWith('rejected '), `${name}: ${verdict.line}`);
       });
     }
-    for (const engine of ['cancel', 'simplex', 'scaling', 'sap', 'augment']) {
+    for (const engine of ['cancel', 'simplex', 'scaling', 'sap', 'fast']) {
       const instance = new Instance(module);
       const text = instance.lend(bytes);
       const found = instance.solve(text, engine);
@@ -71,7 +71,7 @@ export default function test(expect) {
     }
   }
   spoilt(expect, module, fs.readFileSync(path.join(examples, 'transport.min')));
-  sized(expect, module);
+  engines(expect, module);
   let refused = false;
   try { new Instance(module).room(2 ** 40); } catch (error) {
     refused = error instanceof RangeError;
@@ -81,7 +81,7 @@ export default function test(expect) {
   return checks ? '' : `not compared with mcfcheck, which isn't built in ${programs}`;
 }
 
-// Each byte of an answer changed, one at a time.
+// This function changes each byte of an answer, one at a time, and judges the result.
 function changed(module, bytes, wanted, judge) {
   const instance = new Instance(module);
   const text = instance.lend(bytes);
@@ -94,8 +94,8 @@ function changed(module, bytes, wanted, judge) {
   }
 }
 
-// An answer may be right after a change where other prices show the same flow, or another set
-// blocks.
+// This function says whether a changed answer may still be right: other prices may prove the same
+// flow, or another set may block.
 function mayPass(wanted, bad, k) {
   const line = bad.subarray(0, k + 1).toString('latin1').split('\n').pop();
   return line.startsWith('y') || line.startsWith('x') || wanted[k] === 10;
@@ -107,18 +107,18 @@ function said(scratch, file, answer) {
   return spawnSync(mcfcheck, [file, other]).stdout.toString().trim();
 }
 
-// Which engine is asked, by the size of a text and by what is asked.
-function sized(expect, module) {
+// This test checks which engine runs, by the text and by the caller's choice.
+function engines(expect, module) {
   const { solve } = Instance.prototype, asked = [];
   Instance.prototype.solve = function heard(text, engine, ...words) {
     asked.push(engine);
     return solve.call(this, text, engine, ...words);
   };
   for (const [text, engine, wanted] of [
-    ['c p min 99999 0\np min 16384 0\n', 'auto', 'auto'],
-    [' p  min\t16385 0\n', 'auto', 'augment'],
+    ['p min 3 0\n', 'auto', 'fast'],
+    ['c p asn 9 0\n p  min\t16385 0\n', 'auto', 'fast'],
     ['p min 16385 0\n', 'scaling', 'scaling'],
-    ['p asn 40000 0\n', 'auto', 'auto'],
+    ['c p min 9 0\np asn 40000 0\n', 'auto', 'auto'],
   ]) {
     const { status } = judged(module, Buffer.from(text), engine);
     expect(
@@ -129,7 +129,7 @@ function sized(expect, module) {
   Instance.prototype.solve = solve;
 }
 
-// What a solver that answers wrongly would have the page show: nothing.
+// This test checks that the page shows nothing of a solver's wrong answer.
 function spoilt(expect, module, bytes) {
   const { solve } = Instance.prototype;
   const ways = {

@@ -1,5 +1,5 @@
-// Pictures: all places and routes are drawn, on a map as in columns; no boxes overlap; many places
-// are dots.
+// This file tests pictures: they show all places and routes, on a map and in columns; no boxes
+// overlap; many places are dots.
 import fs from 'node:fs';
 import path from 'node:path';
 import { fileURLToPath } from 'node:url';
@@ -35,8 +35,8 @@ function drawn(expect, name, scene) {
   expect(count(svg, '<') === count(svg, '>'), `${name}: marks that aren't closed`);
 }
 
-// The edges of the rectangles of a class, in their order; and whether two overlap by more than
-// their rounded edges show.
+// This function returns the edges of the rectangles of a class, in order. `overlap` says whether
+// two of them overlap by more than rounding.
 const rectangles = (svg, kind) =>
   [...svg.matchAll(/<rect class="(\w+)" x="([^"]+)" y="([^"]+)" width="([^"]+)" height="([^"]+)"/g)]
     .filter((found) => found[1] === kind)
@@ -79,7 +79,7 @@ function labels(expect) {
   });
 }
 
-// Long names are cut so that they don't read alike.
+// Long names are cut so that they differ.
 function shorts(expect) {
   const begin = 'Zentrallager für alkoholfreie Getränke', middle = 'Markt der Genossenschaft';
   for (const [names, wanted] of [
@@ -106,8 +106,8 @@ function shorts(expect) {
   }
 }
 
-// Many places that send and many that take are rows: all names, each route once, no boxes that
-// overlap, and large enough on a page.
+// Many places, each of which only sends or only takes, are drawn as rows: with all names, with each
+// route once, without overlaps, and large enough for a page.
 async function rowsDrawn(expect, solver) {
   const numbers = Array.from({ length: 150 }, (_, k) => k);
   const places = numbers
@@ -147,7 +147,7 @@ async function rowsDrawn(expect, solver) {
   );
 }
 
-// Of how many places on a side rows are drawn.
+// Rows are drawn from a certain number of places on a side.
 function rowsBegin(expect) {
   for (const [many, kind] of [[20, 'boxes'], [21, 'rows']]) {
     const nodes = Array.from({ length: many + 2 }, (_, k) => ({
@@ -176,8 +176,8 @@ function rowsBegin(expect) {
   }
 }
 
-// Dots have arrows, names, amounts and a legend; labels cover no other, and stand within the
-// picture.
+// Pictures of dots have arrows, names, amounts and a legend. Labels don't overlap, and they stand
+// within the picture.
 function dots(expect) {
   for (const onMap of [true, false]) {
     const nodes = Array.from({ length: 400 }, (_, k) => ({
@@ -229,8 +229,8 @@ function dots(expect) {
   }
 }
 
-// The title, the date and the tables stand above the picture, and numbers have their thousands
-// apart.
+// The title, the date and the tables stand above the picture. Numbers have spaces between
+// thousands.
 async function titles(expect, solver) {
   const places = { name: 'places', text: 'name;supply\nA;12500\nB;-12500\n' };
   for (const [most, heading] of [
@@ -255,7 +255,7 @@ async function titles(expect, solver) {
   }
 }
 
-// Columns begin at those that send, then where no link leads to.
+// Columns begin at the nodes that send, then at nodes without incoming links.
 function columns(expect) {
   for (const [links, starts, wanted] of [
     [[[2, 0], [2, 1]], [], '1,1,0'],
@@ -267,7 +267,7 @@ function columns(expect) {
   }
 }
 
-// Boxes stand apart, on a map and in columns.
+// Boxes don't overlap, on a map and in columns.
 function apart(expect) {
   for (const spots of [null, Array.from({ length: 60 }, (_, k) => [k % 7, k % 11])]) {
     const links = Array.from({ length: 59 }, (_, k) => ({ tail: k, head: k + 1 - (k % 3) }));
@@ -287,7 +287,7 @@ function apart(expect) {
   }
 }
 
-// Spots may be as far apart or as near as numbers can be.
+// Spots may be as far apart or as close as numbers allow.
 function far(expect) {
   for (const spots of [
     [[-1e308, 0], [1e308, 1e308], [0, -1e308]],

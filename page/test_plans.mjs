@@ -1,5 +1,5 @@
-// The plans of examples/plans: the page's reading, solving, words and tables beside what mcf_plan
-// says and writes.
+// This file runs the plans of examples/plans through the page's reading, solving, words and tables,
+// and compares them with what mcf_plan says and writes.
 import fs from 'node:fs';
 import path from 'node:path';
 import { fileURLToPath } from 'node:url';
@@ -30,7 +30,7 @@ import { loaded } from './test_module.mjs';
 
 const plans = path.join(path.dirname(fileURLToPath(import.meta.url)), '..', 'examples', 'plans');
 
-// A solver over the module in this process.
+// This function returns a solver that runs the module in this process.
 export function solverOf(module) {
   const bytes = (text) => new TextEncoder().encode(text);
   return {
@@ -42,7 +42,7 @@ export function solverOf(module) {
   };
 }
 
-// What the page says of a flow, and its tables.
+// This function returns what the page says about a flow, and its tables.
 async function flow(solver, sources, { reading, policy }) {
   const problem = new Problem(sources, reading);
   const net = new FlowNet(problem, policy);
@@ -73,7 +73,7 @@ async function flow(solver, sources, { reading, policy }) {
   };
 }
 
-// The same of pairs.
+// This function returns the same for pairs.
 async function roster(solver, source, { reading, each, maximise }) {
   const read = new Roster(source, reading, each, maximise);
   const net = new RosterNet(read);
@@ -97,8 +97,8 @@ async function roster(solver, source, { reading, each, maximise }) {
   };
 }
 
-// What words of mcf_plan's command line ask of the page: the files that they name, how these are
-// read, and choices.
+// This function translates mcf_plan's command line for the page: the files, how to read them, and
+// choices.
 export function asked(words) {
   const found = { files: [], reading: { heads: {} }, policy: {}, each: null, maximise: false };
   for (let k = 0; k < words.length; k++) {
@@ -116,7 +116,7 @@ export function asked(words) {
   return found;
 }
 
-// What is said of tables, as mcf_plan says it.
+// This function returns what the page says about tables, in mcf_plan's words.
 export async function told(kind, solver, sources, choices) {
   try {
     const found = kind === 'flow'
@@ -133,7 +133,7 @@ export async function told(kind, solver, sources, choices) {
   }
 }
 
-// A set that the checker doesn't accept isn't told.
+// The page doesn't show a set that the checker rejects.
 async function unaccepted(expect, solver) {
   const sources = ['places.csv', 'routes.csv'].map((name) => ({
     name,
@@ -147,8 +147,8 @@ async function unaccepted(expect, solver) {
   expect(status === 'rejected', `a set that isn't accepted: ${status}`);
 }
 
-// Heads that JavaScript knows, and a separator that heads don't show by themselves: what is written
-// can be read again.
+// The tables that the page writes can be read again, even with heads that JavaScript knows and with
+// a separator that heads don't show by themselves.
 async function written(expect, solver) {
   const sources = [
     { name: 'places', text: 'sep=|\nname|supply|__proto__\nA|2|a\nB|-1|b\n' },

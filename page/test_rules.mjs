@@ -1,5 +1,5 @@
-// The list of rules that mcf_plan's tests read, too: how tables are read, and what is said of them;
-// and that the page says it in its own words.
+// This file runs the list of rules that mcf_plan's tests read, too: how tables are read, and what
+// is said about them. It also checks that the page uses its own words.
 import fs from 'node:fs';
 import path from 'node:path';
 import { fileURLToPath } from 'node:url';

@@ -1,11 +1,11 @@
-// What sheets and the lines around them say of plans, without the module: flows and prices are
-// given.
+// This file tests what sheets and the lines around them say about plans, with given flows and
+// prices and without the module.
 import { FlowNet, FlowPlan } from './flownet.js';
 import { totalsOf } from './grid.js';
 import { Problem } from './model.js';
 import { blockedShown, changesShown, planShown } from './sheets.js';
 
-// A plan over these tables that carries these amounts; all prices are 0.
+// This function returns a plan for these tables that carries these amounts; all prices are 0.
 function planOf(places, routes, flows, policy = {}) {
   const problem = new Problem([{ name: 'places', text: places }, { name: 'routes', text: routes }]);
   const net = new FlowNet(problem, policy);
@@ -13,7 +13,7 @@ function planOf(places, routes, flows, policy = {}) {
   return new FlowPlan(net, { cost, flows: flows.map(BigInt), prices: net.supplies.map(() => 0n) });
 }
 
-// Plans that don't deliver the same: that is said before their costs.
+// If two plans deliver different amounts, the page says so before their costs.
 function delivered(expect) {
   const places = 'name;supply\nA;2,5\nB;-1,5\nC;-1\n';
   const routes = 'from;to;most;cost\nA;B;;2\nA;C;;3\n';
@@ -36,7 +36,7 @@ function delivered(expect) {
   );
 }
 
-// Costs that rise by steps have the mark of the tables, and another sign between them than that.
+// Costs that rise by steps have the tables' decimal mark, and another sign between steps.
 function steps(expect) {
   const places = 'name;supply\nA;2,5\nB;-2,5\n';
   const routes = 'from;to;most;cost;most 2;cost 2\nA;B;2;3,92;;5,92\n';
@@ -48,7 +48,7 @@ function steps(expect) {
   }
 }
 
-// Totals below rows that were filtered are theirs, and say so; they are exact.
+// Totals below filtered rows count only these rows and say so. They are exact.
 function totals(expect) {
   const places = 'name,supply\nA,30\nB,-30\n';
   const routes = 'from,to,most,cost\nA,B,10,0.1\nA,B,10,0.25\nA,B,10,12345678901234567890.5\n';
@@ -63,7 +63,7 @@ function totals(expect) {
   expect(totalsOf({ count: 3 }, [1], '').length === 0, 'a sheet without totals');
 }
 
-// Near the answer: what looks like a slip, and the columns that are carried along.
+// The lead names likely mistakes, and the columns that are copied.
 function leads(expect) {
   const places = 'name,supply,Region\nA,1,n\nB,1,s\n';
   const routes = 'from,to,most,cost,min lot\nA,B,,1,5\n';

@@ -1,5 +1,5 @@
 // @ts-check
-// Small parts of what is shown.
+// Small parts of the page.
 
 /**
  * @typedef {Node | string} Part
@@ -11,7 +11,7 @@
  * @property {() => void} all
  */
 
-// An element with attributes and children; a text is one, too.
+// This function creates an element with attributes and children; a child may be a text.
 /**
  * @template {keyof HTMLElementTagNameMap} Tag
  * @param {Tag} tag
@@ -32,7 +32,8 @@ export function el(tag, attributes = {}, ...children) {
   return it;
 }
 
-// A number with narrow blanks between its thousands, and the tables' mark before its decimals.
+// This function writes a number with narrow spaces between thousands and the tables' mark before
+// decimals.
 /** @type {(text: string, mark?: string | null) => string} */
 export function grouped(text, mark = '.') {
   const found = /^(-?)(\d+)(?:\.(\d+))?$/.exec(text);
@@ -43,7 +44,7 @@ export function grouped(text, mark = '.') {
   return (found[1] && '\u2212') + digits + (found[3] ? (mark || '.') + found[3] : '');
 }
 
-// A button that saves a file, which is made when it is asked for.
+// This function returns a button that saves a file. The content is created when the user clicks.
 /**
  * @param {string} name
  * @param {() => BlobPart} made
@@ -62,7 +63,8 @@ export function saver(name, made, type = 'text/plain') {
   }, name);
 }
 
-// What is seen of a picture: nearer or farther at a point, moved by parts of it, shifted, or whole.
+// This function controls the visible part of a picture: it zooms at a point, moves by parts of the
+// view, shifts by distances, or shows all.
 /** @type {(svg: SVGSVGElement) => Lens} */
 function lensOf(svg) {
   const whole = svg.viewBox.baseVal;
@@ -86,7 +88,7 @@ function lensOf(svg) {
   };
 }
 
-// Lets the wheel zoom at the pointer, and dragging move.
+// The wheel zooms at the pointer, and dragging moves the picture.
 /** @type {(svg: SVGSVGElement, lens: Lens) => void} */
 function followPointer(svg, lens) {
   /** @type {DOMPoint | null} */
@@ -114,8 +116,8 @@ function followPointer(svg, lens) {
   svg.addEventListener('pointerup', () => { from = null; });
 }
 
-// The picture with its buttons: the wheel zooms at the pointer, dragging moves, buttons and keys do
-// the same.
+// This function shows a picture with its buttons. The wheel zooms at the pointer, dragging moves
+// the picture, and buttons and keys do the same.
 /** @type {(text: string) => HTMLElement} */
 export function pictureOf(text) {
   const drawn = new DOMParser().parseFromString(text, 'image/svg+xml').documentElement;
@@ -143,7 +145,7 @@ export function pictureOf(text) {
       class: 'picture',
       tabindex: 0,
       role: 'group',
-      'aria-label': 'Picture: + and - zoom, arrows move, 0 shows all of it',
+      'aria-label': 'Picture: + and - zoom, arrows move, 0 shows the whole picture',
       onkeydown: (/** @type {KeyboardEvent} */ event) => {
         if (!keys[event.key]) return;
         event.preventDefault();
@@ -156,7 +158,7 @@ export function pictureOf(text) {
       { class: 'zoom' },
       button('+', 'nearer', keys['+']),
       button('−', 'farther', keys['-']),
-      button('↺', 'all of it', keys[0])
+      button('↺', 'whole picture', keys[0])
     )
   );
 }

@@ -1,18 +1,18 @@
 // @ts-check
-// The words of the command line's tool in those of the page: what it says with options is here
-// chosen under Reading or Choices.
+// This file translates the words of the command line's tool into those of the page: the page has
+// choices under Reading or Choices instead of options.
 /** @type {[RegExp, string][]} */
 const WORDS = [
-  [/written by mcf and accepted by mcfcheck/g, 'found and checked in this page by what is proved'],
+  [/written by mcf and accepted by mcfcheck/g, 'found and checked in this page by proved code'],
   [
     /as mcf found and mcfcheck accepted/g,
-    'as was found and checked in this page by what is proved',
+    'as proved code found and checked in this page',
   ],
   [
     /say --decimal , or --decimal \. \(what stands before decimals\)/g,
-    'choose under Reading what stands before decimals',
+    'choose the decimal mark under Reading',
   ],
-  [/or say --decimal$/, 'or choose under Reading what stands before decimals'],
+  [/or say --decimal$/, 'or choose the decimal mark under Reading'],
   [/as --decimal says/g, 'as chosen under Reading'],
   [
     /where a head has another name, say so: --map (\w+)=NAME/g,
@@ -24,7 +24,7 @@ const WORDS = [
   [/\(--short allow lets it be short\)/g, '(a choice lets it be short)'],
   [
     /With --each what each thing would/g,
-    'Where the choice is that each thing gets a person, each would',
+    'If you choose that each thing gets a person, each would',
   ],
   [
     /; LIMITS in `man mcf` has what it takes/g,
@@ -35,7 +35,7 @@ const WORDS = [
 /** @type {(line: string) => string} */
 export const pageWords = (line) => WORDS.reduce((text, [from, to]) => text.replace(from, to), line);
 
-// What the code of a refusal says of a line of a DIMACS text.
+// The meaning of each refusal code for a line of a DIMACS text.
 /** @type {Record<string, string>} */
 export const CODES = {
   kind: 'a line begins with p, n, a or c',

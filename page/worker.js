@@ -1,9 +1,9 @@
 // @ts-check
-// The worker: it holds the compiled module, and solves and judges texts. It knows nothing of
+// The worker: it holds the compiled module, and solves and judges texts. It knows nothing about
 // tables.
 import { accepts, judged } from './module.js';
 
-// tsc's library of the DOM has the calls of a window alone, not those of a worker.
+// tsc's DOM library only has the calls of a window, not those of a worker.
 const worker = /** @type {any} */ (self);
 
 /** @type {Promise<WebAssembly.Module>} */
