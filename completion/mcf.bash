@@ -5,9 +5,9 @@
 _mcf_values()
 {
     case $1 in
-        --engine) echo auto cancel simplex scaling augment sap ;;
+        --engine) echo auto cancel simplex scaling fast sap ;;
         --pricing) echo first best block wide ;;
-        --form) echo 1 2 ;;
+        --form) echo full sparse 1 2 ;;
         --unused | --short) echo allow refuse ;;
         --each) echo who what both ;;
         --decimal) echo , . ;;
@@ -57,7 +57,12 @@ _mcf()
             *:-*) words=$(_mcf_options "$command" "${COMP_WORDS[1]}") ;;
         esac
     fi
-    mapfile -t COMPREPLY < <(compgen -W "$words" -- "$word")
+    # A here-string, since < <(..) needs /dev/fd, which a bare root has only if /proc is mounted.
+    words=$(compgen -W "$words" -- "$word")
+    COMPREPLY=()
+    if [ -n "$words" ]; then
+        mapfile -t COMPREPLY <<< "$words"
+    fi
 }
 
 complete -o bashdefault -o default -F _mcf mcf mcfcheck mcf_plan mcf_explain mcf_one

@@ -1,5 +1,4 @@
-"""Why `mcf` refuses an instance, in words: `man mcf_explain` says how.
+"""Explains why `mcf` refuses an instance: see `man mcf_explain`.
 
-It has the faults of an instance anew, in Python, of which nothing is proved; what it says first is
-compared with what `mcfcheck` accepts as the refusal.
-"""
+This unproved Python finds the faults of an instance again. It compares the first fault with the
+refusal that `mcfcheck` accepts."""

@@ -4,7 +4,7 @@ import sys
 
 import _signal
 
-# As in tools/mcf_explain: an interrupt has its status from here on.
+# As in tools/mcf_explain, an interrupt ends the run with its status from here on.
 if _signal.getsignal(_signal.SIGINT) is _signal.default_int_handler:
     _signal.signal(_signal.SIGINT, lambda *_: os._exit(130))
 

@@ -11,12 +11,12 @@ from mcf_plan.solve import Programs
 from .reading import faults_of
 from .words import magic_of, said_of
 
-# How many further faults of a kind are told, and how much of a line is shown.
+# The most further faults of a kind to report, and the most characters of a line to show.
 TOLD, SHOWN = 3, 100
 
 
 def shown_line(fault):
-    """The line of a fault with a caret below it; of a long line the part around."""
+    """The line of a fault with a caret below it. A long line is cut."""
     if not fault.row:
         return []
     start = (
@@ -41,7 +41,7 @@ def shown_line(fault):
 
 
 def first_lines(name, fault, data):
-    """All that is said of the first fault."""
+    """All lines about the first fault."""
     sentence, cause = said_of(fault)
     lines = [
         f"{name}: line {fault.number}: {sentence} (mcf: r {fault.number} {fault.code})"
@@ -52,7 +52,7 @@ def first_lines(name, fault, data):
 
 
 def further_lines(faults):
-    """What is said of the faults after the first: some of each kind, and how many more."""
+    """The lines about later faults: some of each kind, and the number of the others."""
     kinds = {}
     for fault in faults:
         lines, _ = kinds.setdefault(fault.code, ([], [0, 0]))
@@ -70,8 +70,7 @@ def further_lines(faults):
 
 
 def agreement(programs, data, fault):
-    """A line where what was found first isn't the refusal of the instance, as `mcfcheck` judges
-    it."""
+    """Warns if `mcfcheck` doesn't accept the first fault as the refusal."""
     with tempfile.TemporaryDirectory() as scratch:
         instance, answer = pathlib.Path(scratch, "instance"), pathlib.Path(scratch, "answer")
         instance.write_bytes(data)
@@ -92,7 +91,7 @@ def agreement(programs, data, fault):
 
 
 def explained(name, data, programs):
-    """The lines that are said, and the status."""
+    """The lines to print, and the status."""
     faults = faults_of(data)
     with life.doing("reads the instance"):
         first = next(faults, None)
@@ -112,7 +111,7 @@ def explained(name, data, programs):
 
 
 def programs_in(folder):
-    """The programs, or None where they aren't there and weren't named."""
+    """The programs, or None if they don't exist and no folder was named."""
     try:
         return Programs(folder)
     except Stop:
@@ -130,8 +129,8 @@ def data_of(file):
 
 
 def main(words):
-    """Does what the words ask, and gives the exit status: 0 where there is no fault, 2 where there
-    is one, 3 for anything else."""
+    """Runs the command of the words, and returns the exit status: 0 without a fault, 2 with one, 3
+    for anything else."""
     parser = Parser(
         prog="mcf_explain",
         description="Why mcf refuses an instance: the first fault in words, and all further ones.",

@@ -1,5 +1,5 @@
-"""The faults of an instance: the first one as `mcf` finds it, and those after it as far as can be
-told."""
+"""The faults of an instance: the first one as `mcf` finds it, and the later ones as far as
+possible."""
 import collections
 import re
 
@@ -12,11 +12,11 @@ NODE_LIMIT, ARC_LIMIT, AMOUNT_LIMIT, COST_LIMIT, TOTAL_LIMIT = (
     10**36,
 )
 
-# A line that is no comment and not blank: its number, its bytes, and the places where its fields
-# begin.
+# A line that is neither a comment nor blank: its number, its bytes, the places where its fields
+# begin, and the fields.
 Row = collections.namedtuple("Row", "number line starts fields")
-# What is wrong: a code of `mcf`, the row (None after the last line), the number of the field, and
-# what else the sentence needs.
+# A fault: a code of `mcf`, the row (None after the last line), the number of the field, and facts
+# that the sentence on it needs.
 Fault = collections.namedtuple("Fault", "code number row field known")
 
 
@@ -33,15 +33,15 @@ def rows_of(data):
 
 
 class Reader:
-    """What was read before a line. After a faulty problem line what it should say isn't known, and
-    isn't looked at."""
+    """What was read before a line. After a faulty problem line the sizes are unknown, and nothing
+    is compared with them."""
 
     def __init__(self):
         self.problem = self.nodes = self.arcs = None
         self.header, self.named, self.arc_lines, self.first_arc, self.total = None, {}, 0, None, 0
 
     def fault(self, row):
-        """The first fault of a row, or None; then the row counts as read."""
+        """The first fault of a row, or None. Without a fault, the row counts as read."""
         kind = row.fields[0]
         if kind not in (b"p", b"n", b"a"):
             return self.made("kind", row, 0)
@@ -54,7 +54,7 @@ class Reader:
         return found
 
     def made(self, code, row, field):
-        """A fault of a row, with what was known then."""
+        """Makes a fault of a row, with the facts known there."""
         known = {
             "problem": self.problem,
             "nodes": self.nodes,
@@ -67,12 +67,12 @@ class Reader:
         return Fault(code, row.number, row, field, known)
 
     def counts(self, kind):
-        """The numbers of fields that are right."""
+        """The valid numbers of fields."""
         both = {b"p": (4, 4), b"n": (3, 2), b"a": (6, 4)}[kind]
         return both if self.problem is None else both[:1] if self.problem == b"min" else both[1:]
 
     def form_fault(self, row, kind):
-        """A fault of fields, of the problem, of numbers, or of the order of lines."""
+        """A fault of the fields, the problem, the numbers, or the order of lines."""
         if len(row.fields) not in self.counts(kind):
             return self.made("fields", row, min(len(row.fields) - 1, max(self.counts(kind))))
         if kind == b"p" and row.fields[1] not in (b"min", b"asn"):
@@ -92,7 +92,7 @@ class Reader:
         return None
 
     def header_fault(self, row):
-        """A fault of the sizes of a problem line."""
+        """A fault of the sizes in a problem line."""
         for field, limit in ((2, NODE_LIMIT), (3, ARC_LIMIT)):
             if not 0 <= int(row.fields[field]) <= limit:
                 return self.made("size", row, field)
@@ -111,7 +111,7 @@ class Reader:
         return None if wrong is None else self.made("node", row, wrong)
 
     def node_fault(self, row):
-        """A fault of a node line whose form is right."""
+        """A fault of a node line that has the right form."""
         found = self.end_fault(row, (1,))
         if found or self.first_arc:
             return found or self.made("late-n", row, 0)
@@ -124,7 +124,7 @@ class Reader:
         )
 
     def arc_fault(self, row):
-        """A fault of an arc line whose form is right."""
+        """A fault of an arc line that has the right form."""
         found, numbers = self.end_fault(row, (1, 2)), [int(field) for field in row.fields[1:]]
         if found:
             return found
@@ -166,7 +166,7 @@ class Reader:
 
 
 def weight(numbers):
-    """The size of an arc's cost times the greater size of its bounds."""
+    """The absolute value of an arc's cost times the greater absolute value of its bounds."""
     return abs(numbers[4]) * max(abs(numbers[2]), abs(numbers[3])) if len(numbers) == 5 else 0
 
 

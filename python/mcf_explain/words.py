@@ -1,9 +1,9 @@
-"""What is said of a fault: a sentence, and its usual cause."""
+"""The sentence on a fault, and its usual cause."""
 import re
 
 from mcf_plan.words import count_of
 
-# What files of other kinds begin with.
+# The first bytes of files of other kinds.
 MAGIC = {
     b"\x1f\x8b": (
         "the file is compressed by gzip: unpack it first, as in  gunzip < FILE | mcf solve"
@@ -42,14 +42,14 @@ SHAPES = {
 
 
 def text(field):
-    """A field between quotes, as it can be printed."""
+    """A field in quotes, printable."""
     shown = field.decode("utf-8", "backslashreplace")
     shown = "".join(c if c.isprintable() else f"\\x{ord(c):02x}" for c in shown)
     return "'" + (shown if len(shown) <= 40 else shown[:37] + "...") + "'"
 
 
 def magic_of(data):
-    """What a file is, by what it begins with."""
+    """The kind of a file, by its first bytes."""
     found = next((words for begin, words in MAGIC.items() if data.startswith(begin)), None)
     if not found and b"\r" in data and b"\n" not in data:
         return "lines end with CR alone, as on old Macintoshes:  tr '\\r' '\\n' < FILE"
@@ -57,7 +57,7 @@ def magic_of(data):
 
 
 def kind_words(fault):
-    """A line that is no p, n or a line."""
+    """For a line that begins with none of p, n, a."""
     field = fault.row.fields[0]
     cause = None
     if field.lower() in (b"p", b"n", b"a"):
@@ -80,7 +80,7 @@ def kind_words(fault):
 
 
 def fields_words(fault):
-    """A line with too many fields, or too few."""
+    """For a line with too many or too few fields."""
     kind, problem = fault.row.fields[0], fault.known["problem"]
     shapes = (
         [SHAPES[b"p", None]]
@@ -102,7 +102,7 @@ def fields_words(fault):
 
 
 def number_words(fault):
-    """A field that should be a whole number."""
+    """For a field that should be a whole number."""
     field = fault.row.fields[fault.field]
     cause = None
     if re.fullmatch(rb"[+-]?[0-9]*[.,][0-9]+", field):
@@ -121,7 +121,7 @@ def number_words(fault):
 
 
 def side_words(fault):
-    """An arc of an assignment that doesn't go from a row to a column."""
+    """For an arc of an assignment that doesn't go from a row to a column."""
     tail, head = (int(field) for field in fault.row.fields[1:3])
     rows = "rows are the nodes with a node line"
     if fault.field == 1:
@@ -133,7 +133,7 @@ def side_words(fault):
 
 
 def last_words(fault):
-    """A text that ends too early."""
+    """For a text that ends too early."""
     arcs, lines = fault.known["arcs"], fault.known["arc_lines"]
     if fault.code == "no-p":
         return "there is no problem line, p min NODES ARCS or p asn NODES ARCS", None
@@ -147,7 +147,7 @@ def last_words(fault):
 
 
 def problem_words(fault):
-    """A problem that `mcf` doesn't take."""
+    """For a problem that `mcf` doesn't solve."""
     word = fault.row.fields[1]
     cause = (
         "the words are in small letters" if word.lower() in (b"min", b"asn") else PROBLEMS.get(word)
@@ -156,13 +156,13 @@ def problem_words(fault):
 
 
 def size_words(fault):
-    """A number of nodes, or of arcs, beyond the limits."""
+    """For a number of nodes or arcs beyond the limits."""
     what = "nodes from 0 to 1000000" if fault.field == 2 else "arcs from 0 to 10000000"
     return f"{text(fault.row.fields[fault.field])} isn't a number of {what}", None
 
 
 def node_words(fault):
-    """A node that there isn't."""
+    """For a node that doesn't exist."""
     number = int(fault.row.fields[fault.field])
     which = (
         "the node"
@@ -178,13 +178,13 @@ def node_words(fault):
 
 
 def twice_words(fault):
-    """A second line of one node."""
+    """For a second line of the same node."""
     number = int(fault.row.fields[1])
     return f"node {number} has a node line already, line {fault.known['named'][number]}", None
 
 
 def limit_words(fault):
-    """A number beyond the limits."""
+    """For a number beyond the limits."""
     what, limit = {"supply": ("supplies", 18), "bound": ("bounds", 18), "cost": ("costs", 15)}[
         fault.code
     ]
@@ -203,13 +203,13 @@ def limit_words(fault):
 
 
 def order_words(fault):
-    """Bounds that leave nothing between them."""
+    """For bounds with nothing between them."""
     low, cap = (int(field) for field in fault.row.fields[3:5])
     return f"LOW, {low}, is greater than CAP, {cap}", "are LOW and CAP exchanged?"
 
 
 def place_words(fault):
-    """A line that stands where it may not, or is one too many."""
+    """For a line in a wrong place, or one too many."""
     known = fault.known
     header = f"line {known['header'].number}" if known["header"] else ""
     return {

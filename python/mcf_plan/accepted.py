@@ -1,4 +1,4 @@
-"""What a folder of results says, after mcfcheck has accepted its answer again."""
+"""The content of a folder of results, after mcfcheck has accepted its answer again."""
 import collections
 import json
 import pathlib
@@ -19,9 +19,8 @@ UNITS = re.compile(
 
 
 class Accepted:
-    """The plan of a folder: its cost and its amounts are those of the instance and the answer that
-    mcfcheck accepted. What nodes and arcs are called comes from its record, which must not say
-    otherwise."""
+    """The plan of a folder. Its cost and amounts come from the instance and the answer that
+    mcfcheck accepted; the names of nodes and arcs come from its record, which must agree."""
 
     def __init__(self, name, programs):
         folder = pathlib.Path(name)
@@ -41,7 +40,7 @@ class Accepted:
             raise bad_table(f"{name}: its plan.json can't be read")
 
     def read(self, answer):
-        """Reads the cost and the flows, or the set that blocks."""
+        """Reads the cost and the flows, or the blocking set."""
         kind, number = self.verdict[:2]
         self.cost, self.parts, self.flows, self.blocking = None, [], [], None
         if kind == "blocked":
@@ -49,7 +48,7 @@ class Accepted:
             self.blocking = answer_lines(answer, "i")[0][1], nodes
         elif kind == "flow":
             self.flows = flows_of(answer, self.network.arcs)
-            # The penalty that is there to have little missing is no cost.
+            # The default penalty isn't a cost: it only keeps the missing amount small.
             self.cost = self.total(int(number))
             if not self.record["penalty"]:
                 self.cost -= self.penalty_cost()
@@ -58,7 +57,7 @@ class Accepted:
             raise trouble(f"{self.name}: its answer is a {kind}, and no plan")
 
     def carried(self):
-        """The names and the amount of each route, or of each pair that was chosen."""
+        """The names and the amount of each route or each chosen pair."""
         count, arcs = self.record["routes"], self.network.arcs
         numbers = [*range(1, count + 1), *self.record["more"]]
         if len(numbers) != len(arcs):
@@ -73,7 +72,7 @@ class Accepted:
         return found if self.is_flow else sorted(part for part in found if part[2])
 
     def check(self):
-        """Ends the run where the record says otherwise."""
+        """Ends the run if the record disagrees."""
         if (self.record["cost"] is None) != (self.cost is None):
             raise self.otherwise("whether a plan exists", self.verdict[0])
         if self.cost is None:
@@ -89,7 +88,7 @@ class Accepted:
                 raise self.otherwise(f"{amount} of {' -> '.join(names)}", told)
 
     def otherwise(self, stored, found):
-        """The `Stop` for a record that says otherwise."""
+        """The `Stop` for a record that disagrees with the accepted answer."""
         return trouble(
             f"{self.name}: its plan.json says otherwise than the answer that mcfcheck accepted:"
             f" {stored}, and not {found}"
@@ -109,12 +108,12 @@ class Accepted:
         return Fraction(units.sign * number, units.amounts * units.costs)
 
     def penalty_cost(self):
-        """What is missing costs, in the units of the tables."""
+        """The cost of what is missing, in the units of the tables."""
         flows = zip(self.network.arcs, self.flows if self.is_flow else ())
         return self.total(sum(flow * arc.cost for arc, flow in flows if arc.tail == self.hub))
 
     def unmet(self, is_supply):
-        """What stays (or is missing), by places."""
+        """The amounts that stay (or are missing), by place."""
         found = {}
         for arc, flow in zip(self.network.arcs, self.flows if self.is_flow else ()):
             if flow and self.hub == (arc.head if is_supply else arc.tail):
@@ -122,7 +121,7 @@ class Accepted:
         return found
 
     def delivered(self):
-        """What is taken, by places; of pairs 1 for each thing that is given."""
+        """The amounts that arrive, by place. For pairs, 1 for each assigned thing."""
         if not self.is_flow:
             return collections.Counter(part[1] for part in self.parts)
         missing = self.unmet(False)
@@ -133,7 +132,7 @@ class Accepted:
         }
 
     def why_not(self):
-        """Who blocks, by the set of the answer."""
+        """The text that says which places block, from the set of the answer."""
         network, amount = self.network, self.said.amount
         supply = sum(supply for supply in network.supplies if supply > 0)
         demand = supply - sum(network.supplies)
@@ -148,7 +147,7 @@ class Accepted:
         found, beside, verb = network.bottleneck(side, nodes), 0, side
         if not self.is_flow:
             mine = [node for node in found.nodes if self.is_person(node) == (side == "send")]
-            # In an assignment those beside them are a supply, or a demand, of the set, too.
+            # In an assignment, the other side's nodes in the set add to its supply or demand.
             beside = 0 if self.hub else len(found.nodes) - len(mine)
             found, verb = found._replace(nodes=mine), "get"
         names = list(dict.fromkeys(self.names[node - 1] for node in found.nodes))
@@ -165,7 +164,7 @@ class Accepted:
 
 
 def record_of(name, folder):
-    """The record of a folder, if its instance and its answer are what they were."""
+    """The record of a folder, if its instance and its answer are unchanged."""
     try:
         record = json.loads((folder / "plan.json").read_text(encoding="utf-8"))
         if record["format"] != FORMAT:
@@ -210,7 +209,7 @@ def network_of(path):
 
 
 def flows_of(path, arcs):
-    """What each arc carries by an answer, of either form."""
+    """The flow of each arc in an answer of either form."""
     listed_flows = answer_lines(path, "f")
     if listed_flows:
         return [int(fields[2]) for fields in listed_flows]

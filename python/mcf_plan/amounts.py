@@ -1,5 +1,5 @@
-"""Numbers as tables have them: whole or with decimals, after a point or a comma, with or without
-marks between thousands. All are exact."""
+"""Numbers of tables: whole or with decimals after a point or a comma, with or without marks between
+thousands. All values are exact."""
 import math
 import re
 from fractions import Fraction
@@ -9,13 +9,13 @@ from .faults import At, Stop, shown
 WHOLE = re.compile(r"[+-]?[0-9]{1,1000}")
 # A number with blanks or apostrophes between thousands.
 SPACED = re.compile(r"([+-]?[0-9]{1,3}(?:[ \u00a0\u2009\u202f'’_][0-9]{3})+)([.,][0-9]{1,1000})?")
-# One mark with three digits after it, which may stand between thousands or before decimals.
+# A number with one mark and three digits after it: the mark may separate thousands or decimals.
 EITHER = re.compile(r"[+-]?[1-9][0-9]{0,2}[.,][0-9]{3}")
 ONE_MARK = re.compile(r"[+-]?[0-9]*([.,])[0-9]+")
 SPOT = re.compile(r"[+-]?([0-9]+\.?[0-9]*|\.[0-9]+)([eE][+-]?[0-9]+)?")
 EXPONENT = re.compile(r"[+-]?[0-9]+(?:[.,][0-9]*)?[eE][+-]?[0-9]+")
 OTHER = {",": ".", ".": ","}
-# What stands for a minus in print: hyphens, dashes no longer than a digit, and the sign itself.
+# The characters that print a minus: hyphens, dashes no longer than a digit, and the minus sign.
 MINUS = re.compile("^[\u2010-\u2013\u2212\ufe63\uff0d](?=[.,]?[0-9])")
 NO_LIMIT = ("", "inf", "∞")
 
@@ -25,7 +25,7 @@ class Figure(str):
 
 
 def plain_minus(cell):
-    """A number with the minus of a keyboard."""
+    """A number with the minus of the keyboard."""
     return cell if cell[:1].isascii() else MINUS.sub("-", cell)
 
 
@@ -35,8 +35,8 @@ def without_blanks(cell):
 
 
 def mark_in(cell):
-    """The mark before decimals, if a cell settles it; blanks between thousands leave a mark no
-    other meaning."""
+    """The mark before decimals, if a cell settles it. After blanks between thousands, a mark can
+    only separate decimals."""
     cell = plain_minus(cell)
     if isinstance(cell, Figure) or WHOLE.fullmatch(cell):
         return None
@@ -59,7 +59,7 @@ def mark_in(cell):
 
 
 def value_of(cell, mark):
-    """The value of a cell whose decimals stand after a mark; None where it is no such number."""
+    """The value of a cell with this mark before decimals, or None if it isn't such a number."""
     cell = without_blanks(plain_minus(cell))
     other = OTHER[mark]
     if not re.fullmatch(
@@ -74,14 +74,14 @@ def value_of(cell, mark):
 
 
 class Numbers:
-    """How the numbers of some tables are written: which mark stands before decimals, as was said or
-    as cells show."""
+    """How tables write numbers: the mark before decimals, from an option or from cells that show
+    it."""
 
     def __init__(self, mark=None):
         self.mark, self.shown_by, self.settled = mark, {}, None
 
     def look(self, table, columns):
-        """Looks which mark the cells of some columns show."""
+        """Finds the marks that the cells of some columns show."""
         for line, cells in table.rows:
             for column in columns:
                 mark = mark_in(cells[column]) if column < len(cells) else None
@@ -89,7 +89,7 @@ class Numbers:
                     self.shown_by.setdefault(mark, (table, line, cells[column]))
 
     def settle(self, faults):
-        """Settles the mark, where cells show one and nothing else was said."""
+        """Settles the mark, if cells show one and no option names one."""
         if not self.mark and len(self.shown_by) == 2:
             (table, line, cell), (other, other_line, other_cell) = self.shown_by.values()
             faults.add(
@@ -104,7 +104,7 @@ class Numbers:
         self.mark = self.mark or next(iter(self.shown_by), None)
 
     def read(self, table, line, head, cell, faults):
-        """The number that a cell has."""
+        """The number in a cell."""
         cell = plain_minus(cell)
         if WHOLE.fullmatch(cell):
             return int(cell)
@@ -132,7 +132,7 @@ class Numbers:
         return value
 
     def penalty(self, text):
-        """A cost that isn't below 0, of the command line, written as the tables are."""
+        """A nonnegative cost from the command line, in the notation of the tables."""
         value = (
             None
             if not self.mark and EITHER.fullmatch(without_blanks(text))
@@ -143,7 +143,7 @@ class Numbers:
         return value
 
     def fault(self, cell):
-        """What is wrong with a cell that should be a number: its kind, and a text."""
+        """The fault of a cell that should be a number: its kind and a text."""
         if not cell:
             return "empty", "the number is empty; write 0 for none"
         if EXPONENT.fullmatch(cell):
@@ -169,7 +169,7 @@ class Numbers:
         return "no number", f"{shown(cell)} is no number"
 
     def told(self):
-        """A line on how a number was read that could be read otherwise, where there is one."""
+        """A line on how an ambiguous number was read, if there is one."""
         if not self.settled:
             return []
         if self.mark not in self.shown_by:
@@ -182,7 +182,7 @@ class Numbers:
 
 
 def coordinate_in(table, line, head, cell, faults):
-    """Where a place stands: a number that may have decimals."""
+    """A coordinate of a place: a number that may have decimals."""
     text = plain_minus(cell)
     text = text if "." in text else text.replace(",", ".")
     number = float(text) if SPOT.fullmatch(text) else math.nan
@@ -200,7 +200,7 @@ def coordinate_in(table, line, head, cell, faults):
 
 
 def scale_of(values):
-    """The least power of ten that makes whole numbers of all of them."""
+    """The least power of ten that makes all values whole."""
     scale = 1
     for denominator in {value.denominator for value in values}:
         while scale % denominator:
@@ -209,7 +209,7 @@ def scale_of(values):
 
 
 def decimal_text(number, scale):
-    """A number of parts of a unit, in units: without zeros at its end."""
+    """A number of fractions of a unit as a text in units, without trailing zeros."""
     if scale == 1:
         return Figure(number)
     whole, part = divmod(abs(number), scale)
@@ -218,14 +218,14 @@ def decimal_text(number, scale):
 
 
 class Units:
-    """What whole numbers of an instance are in the units of the tables. Costs may be told with
-    another sign than they have there."""
+    """Converts whole numbers of an instance to the units of the tables. It may also change the sign
+    of costs."""
 
     def __init__(self, amounts=1, costs=1, sign=1):
         self.amounts, self.costs, self.sign = amounts, costs, sign
 
     def amount(self, number):
-        """An amount, as text; no limit is empty."""
+        """An amount as text, which is empty for no limit."""
         return "" if number is None else decimal_text(number, self.amounts)
 
     def rate(self, number):
@@ -237,7 +237,7 @@ class Units:
         return decimal_text(self.sign * number, self.amounts * self.costs)
 
     def comment(self):
-        """The comment of the instance."""
+        """The comment line of the instance."""
         return (
             f"c amounts here are {self.amounts} times those of the tables, costs of a unit"
             f" {self.sign * self.costs} times"
@@ -245,17 +245,17 @@ class Units:
 
 
 class Said:
-    """The same in sentences: with the tables' mark before decimals."""
+    """The same numbers in sentences, with the tables' mark before decimals."""
 
     def __init__(self, units, mark):
         self.units, self.mark = units, mark or "."
 
     def text(self, figure):
-        """A number of a table in a sentence."""
+        """A number from a table, in a sentence."""
         return figure.replace(".", self.mark) if isinstance(figure, Figure) else figure
 
     def amount(self, number):
-        """An amount; no limit is empty."""
+        """An amount, which is empty for no limit."""
         return self.text(self.units.amount(number))
 
     def rate(self, number):

@@ -7,10 +7,10 @@ from .solve import bottlenecks_of
 
 
 class Blocked:
-    """What blocks a network that has no plan, as `mcfcheck` accepted.
+    """The bottlenecks of a network without a plan, which `mcfcheck` accepted.
 
-    Where supplies and demands don't agree, all places together do; and then whatever blocks if what
-    is too much may stay, or be short: that is `eased`.
+    If total supply and total demand differ, all places together are one. Further ones may remain if
+    the surplus may stay or the shortage may be unmet: `eased` is the network for that.
     """
 
     def __init__(self, programs, folder, net):
@@ -30,7 +30,7 @@ class Blocked:
             self.bottlenecks = bottlenecks_of(programs, folder / "instance.min", net, net.hub)
 
     def remaining(self, programs, folder):
-        """What blocks beside the balance."""
+        """The bottlenecks besides the balance."""
         instance, answer = folder / "instance.min", folder / "answer.ans"
         eased = self.eased.instance()
         instance.write_text(eased.text())

@@ -1,5 +1,5 @@
-"""What stands above a page and a picture: the title, the date of the run, the tables that were
-read; and what numbers are in."""
+"""The caption above a page and a picture: the title, the date of the run, the tables that it read,
+and the units of numbers."""
 import collections
 import datetime
 import os
@@ -8,7 +8,7 @@ from .faults import Stop
 from .page import grouped
 from .words import line_of
 
-# The title that was asked for, or none; the date and the tables; what costs are in, what amounts.
+# The title of the option, or none; the date and the tables; the units of costs and of amounts.
 Caption = collections.namedtuple("Caption", "title source currency unit")
 
 
@@ -20,7 +20,7 @@ def caption_of(options, *tables):
 
 
 def date_of_run():
-    """The date of the run, or that of the variable SOURCE_DATE_EPOCH, which is in seconds."""
+    """The date of the run, or the date of the variable SOURCE_DATE_EPOCH, which is in seconds."""
     seconds = os.environ.get("SOURCE_DATE_EPOCH")
     if not seconds:
         return datetime.date.today().isoformat()
@@ -33,20 +33,20 @@ def date_of_run():
 
 
 class Figures:
-    """Numbers of a problem as pages have them: with narrow blanks between their thousands."""
+    """The numbers of a problem as pages show them, with narrow spaces between thousands."""
 
     def __init__(self, problem):
         self.units, self.mark = problem.units, problem.numbers.mark or "."
 
     def amount(self, number, unit=""):
-        """An amount; no limit is empty."""
+        """An amount; an empty text if there is no limit."""
         return with_unit(grouped(self.units.amount(number), self.mark), unit)
 
     def total(self, number, currency=""):
-        """A cost of amounts."""
+        """The cost of amounts."""
         return with_unit(grouped(self.units.total(number), self.mark), currency)
 
 
 def with_unit(number, unit):
-    """A number with its unit, if that was said."""
+    """A number with its unit, if one was given."""
     return f"{number} {unit}" if unit else number

@@ -35,7 +35,7 @@ STATUSES = (
 
 
 class Parser(argparse.ArgumentParser):
-    """A parser whose faults of usage have status 2 and one clear text."""
+    """A parser that reports a usage error as one clear text, with status 2."""
 
     def error(self, message):
         self.print_usage(sys.stderr)
@@ -43,16 +43,16 @@ class Parser(argparse.ArgumentParser):
 
 
 def options_of(words):
-    """What the words of the command line ask."""
+    """The options in the words of the command line."""
     parser = Parser(
         prog="mcf_plan",
-        description="Plans from tables, as mcf solves them and mcfcheck accepts them.",
+        description="Plans from tables: mcf solves them, and mcfcheck must accept each answer.",
         epilog=STATUSES,
     )
     commands = parser.add_subparsers(dest="command", metavar="flow|pairs|diff")
-    add_flow(commands.add_parser("flow", help="the least-cost flow over routes between places"))
-    add_pairs(commands.add_parser("pairs", help="the least-cost pairs of persons and things"))
-    add_diff(commands.add_parser("diff", help="two plans compared"))
+    add_flow(commands.add_parser("flow", help="a least-cost flow over routes between places"))
+    add_pairs(commands.add_parser("pairs", help="least-cost pairs of persons and things"))
+    add_diff(commands.add_parser("diff", help="compare two plans"))
     options = parser.parse_args(words)
     if not options.command:
         parser.error("say what is planned: flow or pairs, or diff")
@@ -70,8 +70,8 @@ def add_flow(command):
         metavar="PLACES [ROUTES]",
         nargs="+",
         help=(
-            "a table with the columns name and supply, perhaps x and y; and one with the columns"
-            " from, to, most and cost, perhaps least; or a workbook with both as sheets"
+            "a table with the columns name and supply (optionally x and y), and one with the"
+            " columns from, to, most and cost (optionally least); or a workbook with both as sheets"
         ),
     )
     add_common(command, flow_command)
@@ -83,9 +83,9 @@ def add_flow(command):
     command.add_argument(
         "--most-flow",
         action="store_true",
-        help="as much as can be sent, at the least cost: --unused allow --short allow",
+        help="send as much as possible, at the least cost: --unused allow --short allow",
     )
-    command.add_argument("--penalty", metavar="N", help="what each unit costs that is missing")
+    command.add_argument("--penalty", metavar="N", help="the cost of each missing unit")
     command.add_argument("--no-picture", action="store_true", help="draw no picture")
 
 
@@ -94,84 +94,94 @@ def add_pairs(command):
     command.add_argument(
         "costs",
         metavar="COSTS",
-        help="a table with the columns who, what and cost, or a matrix of persons by things",
+        help="a table with the columns who, what and cost; or a matrix, a person in each row",
     )
     add_common(command, pairs_command)
     command.add_argument(
         "--each",
         choices=("who", "what", "both"),
         help=(
-            "who gets one: each person (the usual), each thing (where takes or needs are said), or"
-            " both"
+            "who must get exactly one: each person (the default, unless the tables have takes or"
+            " needs), each thing, or both"
         ),
     )
     command.add_argument(
-        "--maximise", "--maximize", action="store_true", help="costs are values: the greatest sum"
+        "--maximise",
+        "--maximize",
+        action="store_true",
+        help="the costs are values: find the greatest sum",
     )
 
 
 def add_diff(command):
     """Adds the words and options of `diff`."""
-    command.add_argument("old", metavar="OLD", help="the folder of one plan")
-    command.add_argument("new", metavar="NEW", help="the folder of another")
-    command.add_argument("--all", action="store_true", help="tell all that differs")
+    command.add_argument("old", metavar="OLD", help="the folder of the first plan")
+    command.add_argument("new", metavar="NEW", help="the folder of the second")
+    command.add_argument("--all", action="store_true", help="list all differences")
     command.add_argument("--programs", metavar="FOLDER", help="where mcf and mcfcheck are")
     command.set_defaults(act=diff_command, map=[], decimal=None, encoding=None, xlsx=False)
 
 
 def add_common(command, act):
-    """Adds the options of all that makes a plan."""
+    """Adds the options of all commands that make a plan."""
     command.add_argument(
         "-o",
         "--output",
         dest="folder",
         metavar="FOLDER",
         required=True,
-        help="where the results are written",
+        help="the folder for the results",
     )
     command.add_argument(
         "--programs",
         metavar="FOLDER",
-        help="where mcf and mcfcheck are, if not beside this tool, in bin/ or on the path",
+        help="the folder of mcf and mcfcheck, if not beside this tool, in bin/ or on the path",
     )
     add_reading(command)
     command.set_defaults(act=act)
 
 
 def add_reading(command):
-    """Adds the options on how tables are read and written."""
+    """Adds the options for reading and writing tables."""
     command.add_argument(
         "--decimal",
         choices=(",", "."),
-        help="what stands before decimals, where the tables don't show it",
+        help="the decimal mark, if the tables don't show it",
     )
     command.add_argument(
-        "--encoding", help="the encoding of the tables, such as windows-1252, if it isn't UTF-8"
+        "--encoding", help="the encoding of the tables, such as windows-1252; UTF-8 by default"
     )
     command.add_argument(
         "--map",
         action="append",
         default=[],
         metavar="HEAD=NAME",
-        help="the column that is wanted as HEAD is called NAME in the tables",
+        help="the column NAME of the tables is the column HEAD",
     )
     command.add_argument(
         "--xlsx",
         action="store_true",
-        help="write the tables as a workbook, too, as is done where a workbook was read",
+        help="also write the tables as a workbook; this is the default if a workbook was read",
     )
     command.add_argument("--title", type=line_of, help="the title of the page and of the picture")
-    command.add_argument("--currency", type=line_of, default="", help="what costs are in, for both")
-    command.add_argument("--unit", type=line_of, default="", help="what amounts are in, for both")
+    command.add_argument(
+        "--currency",
+        type=line_of,
+        default="",
+        help="the currency of costs, for the page and the picture",
+    )
+    command.add_argument(
+        "--unit", type=line_of, default="", help="the unit of amounts, for the page and the picture"
+    )
     command.add_argument(
         "--guard-formulas",
         action="store_true",
-        help="write ' before cells that a spreadsheet would take for a formula",
+        help="write ' before cells that a spreadsheet would read as a formula",
     )
 
 
 def reading_of(options):
-    """How tables are read."""
+    """How to read tables, from the options."""
     wrong = [
         word
         for word in options.map
@@ -187,8 +197,8 @@ def reading_of(options):
 
 
 def prepare():
-    """Opens streams that were closed, lets any text be printed, and lets a signal end the run with
-    its status, after all is tidied up."""
+    """Opens closed streams, makes any text printable, and lets a signal end the run with its
+    status, after tidying up."""
     for number in range(3):
         try:
             os.fstat(number)
@@ -209,7 +219,7 @@ def ended_by(number, _):
 
 
 def told(text, status):
-    """Says on standard error why there is no plan, and gives the status."""
+    """Prints on standard error why there is no plan, and returns the status."""
     try:
         print(
             "\n".join(f"mcf_plan: {line}" for line in text.split("\n")), file=sys.stderr, flush=True
@@ -220,7 +230,7 @@ def told(text, status):
 
 
 def said(lines):
-    """Says the summary on standard output."""
+    """Prints the summary on standard output."""
     try:
         print("\n".join(lines), flush=True)
     except OSError as error:
@@ -231,7 +241,7 @@ def said(lines):
 
 
 def main(words):
-    """Does what the words ask, and gives the exit status."""
+    """Runs the command of the words, and returns the exit status."""
     try:
         prepare()
         options = options_of(words)

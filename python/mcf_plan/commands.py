@@ -1,4 +1,4 @@
-"""What `flow` and `pairs` do: tables in, a folder of results out."""
+"""The commands `flow` and `pairs`. They read tables and write a folder of results."""
 from . import flowpage, life, pairs, pairspage, picture, report, scene
 from .blocked import Blocked
 from .caption import caption_of
@@ -14,7 +14,7 @@ from .solve import Programs, bottlenecks_of, solve
 
 
 def policy_of(options, problem):
-    """What may stay and what may be short."""
+    """Whether supplies may stay and demands may be unmet, from the options."""
     return Policy(
         options.unused == "allow" or options.most_flow,
         options.short == "allow" or options.most_flow,
@@ -23,7 +23,7 @@ def policy_of(options, problem):
 
 
 def flow_command(options, reading):
-    """Does `flow`: gives the lines of the summary and the status."""
+    """Runs `flow`: returns the lines of the summary and the status."""
     if options.penalty and options.short != "allow":
         raise Stop(f"--penalty {options.penalty}: it comes with --short allow", 2)
     with life.doing("reads the tables"):
@@ -44,7 +44,7 @@ def flow_command(options, reading):
 
 
 def plan_results(plan, results, options):
-    """Writes what a plan says, and gives the summary."""
+    """Writes the results of a plan, and returns the summary."""
     problem, folder = plan.problem, results.folder
     caption = caption_of(options, problem.place_table, problem.route_table)
     report.write_flows(results, plan)
@@ -64,7 +64,7 @@ def plan_results(plan, results, options):
 
 
 def blocked_results(blocked, results, options):
-    """Writes why there is no plan, and gives the summary."""
+    """Writes the reasons why there is no plan, and returns the summary."""
     folder, problem = results.folder, blocked.net.problem
     caption = caption_of(options, problem.place_table, problem.route_table)
     report.write_bottlenecks(results, blocked.eased, blocked.all())
@@ -78,7 +78,7 @@ def blocked_results(blocked, results, options):
 
 
 def drawn_in(folder, shown, options):
-    """The picture, which is written, unless none is wanted."""
+    """Draws and writes the picture, unless the options say not to."""
     if options.no_picture:
         return None
     with life.doing("draws the picture"):
@@ -95,7 +95,7 @@ def write_page(folder, page, numbers, caption):
 
 
 def pairs_command(options, reading):
-    """Does `pairs`: gives the lines of the summary and the status."""
+    """Runs `pairs`: returns the lines of the summary and the status."""
     with life.doing("reads the table"):
         roster = Roster(options.costs, reading, options.each, options.maximise)
     programs, net = Programs(options.programs), pairs.RosterNet(roster)

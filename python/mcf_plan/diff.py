@@ -1,4 +1,4 @@
-"""Two plans compared: `mcf_plan diff OLD NEW`."""
+"""Comparison of two plans: `mcf_plan diff OLD NEW`."""
 import collections
 
 from .accepted import Accepted, number_text
@@ -6,12 +6,12 @@ from .faults import bad_table
 from .solve import Programs
 from .words import TOLD_NAMES, listed
 
-# How many lines are told of a kind, unless all are asked for.
+# The most lines of a kind to print, unless the options ask for all.
 TOLD = 20
 
 
 def by_name(parts):
-    """Amounts by their names; names that come again are numbered."""
+    """Amounts by names. Repeated names get numbers."""
     seen, found = collections.Counter(), {}
     for *names, amount in parts:
         key = tuple(names)
@@ -21,13 +21,13 @@ def by_name(parts):
 
 
 def name_text(key):
-    """What a part is called."""
+    """The name of a part."""
     *names, count = key
     return " -> ".join(names) + (f" ({count})" if count > 1 else "")
 
 
 class Comparison:
-    """Two plans, in the numbers of the new one's tables."""
+    """Two plans, with numbers in the notation of the new plan's tables."""
 
     def __init__(self, old, new, show_all):
         self.plans, self.show_all = {"old": old, "new": new}, show_all
@@ -38,7 +38,7 @@ class Comparison:
         return number_text(value, self.mark)
 
     def lines(self):
-        """All that is told."""
+        """All lines of the comparison."""
         old, new = self.plans.values()
         lines = [line for word, plan in self.plans.items() for line in self.plan_lines(word, plan)]
         if None in (old.cost, new.cost):
@@ -52,7 +52,7 @@ class Comparison:
         return lines + self.changes(old.parts, new.parts)
 
     def delivery(self, before, after):
-        """Lines where the plans don't deliver the same: costs of such plans aren't of one task."""
+        """Lines about different deliveries, which make the costs of the plans incomparable."""
         if before == after:
             return []
         was, now = (self.text(sum(amounts.values())) for amounts in (before, after))
@@ -67,7 +67,7 @@ class Comparison:
         )
 
     def plan_lines(self, word, plan):
-        """What a plan costs, what stays and what is missing; or why there is none."""
+        """Lines on the cost of a plan, what stays and what is missing, or on why there is none."""
         if plan.cost is None:
             return [f"{word}: no plan exists, as mcfcheck accepted again: {plan.why_not()}."]
         lines = [f"{word}: cost {self.text(plan.cost)} (accepted again by mcfcheck)"]
@@ -86,7 +86,7 @@ class Comparison:
         return lines
 
     def changes(self, old, new):
-        """Lines on the parts that differ: the greatest changes first."""
+        """Lines about parts that differ, the greatest changes first."""
         before, after = by_name(old), by_name(new)
         keys = {**before, **after}
         differing = [key for key in keys if before.get(key, 0) != after.get(key, 0)]
@@ -106,7 +106,7 @@ class Comparison:
 
 
 def diff_command(options, _):
-    """Does `diff`: gives the lines and the status, which is 0 whether the plans differ or not."""
+    """Runs `diff`: returns the lines and the status, which is 0 whether or not the plans differ."""
     programs = Programs(options.programs)
     old, new = (Accepted(name, programs) for name in (options.old, options.new))
     if old.record["kind"] != new.record["kind"]:

@@ -18,14 +18,14 @@ from .drawing import (
 from .room import Room
 
 DOTS = {"sends": "#5b9a52", "takes": "#4d7fb3", "passes": "#8a949e"}
-# How great a dot is, how far dots of a block stand apart, and between blocks how far at most and at
-# least; how many names and amounts are tried.
+# The radius of a dot; the distance between dots of a block; the greatest and the least distance
+# between blocks; the most names and amounts to try.
 ROUND, STEP, FAR, NEAR, TRIED = 3.4, 16, 220, 90, 1000
 
 
 def dots_svg(scene):
-    """The picture of a scene of many places: dots, on a map or in blocks by how far they are from
-    those that send; routes that matter are arrows."""
+    """The picture of a scene with many places. The dots are on a map, or in blocks by their
+    distance from the places that send. Important routes are arrows."""
     chosen = [link for link in scene.links if link.kind not in QUIET]
     weights, blocking = weights_of(scene, chosen), set().union(*scene.groups)
     spots = dot_spots(scene, weights)
@@ -45,8 +45,7 @@ def dots_svg(scene):
 
 
 def weights_of(scene, links):
-    """How great places are: those that block before all others, then by how wide their routes
-    are."""
+    """The importance of places. Places that block come first, then places with wide routes."""
     weights = [0.0] * len(scene.nodes)
     for link in links:
         weights[link.tail] += link.width
@@ -57,7 +56,7 @@ def weights_of(scene, links):
 
 
 def route(kind, width, title, begin, end):
-    """An arrow between two dots, with a bar before its head where the route is full."""
+    """An arrow between two dots, with a bar before its head if the route is full."""
     far = math.hypot(end[0] - begin[0], end[1] - begin[1]) or 1
     dx, dy = (end[0] - begin[0]) / far, (end[1] - begin[1]) / far
     long, half = min(far / 2, 5 + 1.6 * width), 2 + width
@@ -79,13 +78,13 @@ def route(kind, width, title, begin, end):
     )
 
 
-# The corners of a bar: how far before the head, and on which side.
+# The corners of a bar: the distance before the head, and the side.
 BAR = (1.5, 1), (1.5, -1), (3, -1), (3, 1)
 
 
 def labels(scene, links, weights, spots, size):
-    """The names of the greatest places and the amounts of the greatest routes, in turn, where they
-    cover no dot and no other label; and the edges of all."""
+    """The names of the most important places and the amounts of the widest routes, alternately, at
+    spots that cover no dot and no other label. Also returns the edges of the whole."""
     room, lines = Room(), []
     for x, y in spots:
         room.take((x - ROUND, y - ROUND, x + ROUND, y + ROUND))
@@ -106,7 +105,7 @@ def labels(scene, links, weights, spots, size):
 
 
 def spots_between(begin, end, wide):
-    """Where the amount of a route may stand that is long enough for the arrow to be seen."""
+    """The possible spots for the amount of a route, if its arrow is long enough to see."""
     (ax, ay), (bx, by) = begin, end
     if math.hypot(bx - ax, by - ay) < wide + 20:
         return []
@@ -114,14 +113,14 @@ def spots_between(begin, end, wide):
 
 
 def spots_beside(spot, wide, high):
-    """Where the name of a dot may stand: to the right, the left, above and below."""
+    """The possible spots for the name of a dot: to the right, to the left, above and below."""
     x, y = spot
     aside, over = ROUND + 1 + wide / 2, ROUND + high / 2
     return [(x + aside, y), (x - aside, y), (x, y - over), (x, y + over)]
 
 
 def dot_spots(scene, weights):
-    """Where the dots stand."""
+    """The spots of the dots."""
     spots = [node.spot for node in scene.nodes]
     links = [link[:2] for link in scene.links]
     starts = [number for number, node in enumerate(scene.nodes) if node.kind == "sends"]
@@ -130,13 +129,13 @@ def dot_spots(scene, weights):
         return [(box.x, box.y) for box in layout.map_boxes(task, (PAGE - 200) / len(spots) ** 0.5)]
     levels = layout.levels_of(len(scene.nodes), links, starts)
     blocks = [[] for _ in range(max(levels, default=-1) + 1)]
-    # The greatest of a block stand at its right, where names have room.
+    # The most important dots of a block are at its right, where names have room.
     for node in sorted(range(len(levels)), key=lambda node: weights[node]):
         blocks[levels[node]].append(node)
     high = max(8, math.ceil(math.sqrt(len(levels))))
     wides = [math.ceil(len(block) / high) * STEP for block in blocks]
     between = min(FAR, max(NEAR, (PAGE - sum(wides)) / max(1, len(blocks))))
-    # Rows stand apart as names are high, which are greater in a wider picture.
+    # The distance of rows is the height of names, which are larger in a wider picture.
     down = STEP * growth_of((0, 0, sum(wides) + between * len(wides), 0))
     across, spots = 0, [None] * len(levels)
     for block, wide in zip(blocks, wides):

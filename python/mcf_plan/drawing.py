@@ -20,10 +20,10 @@ COLOURS = {
 FILLS = {"sends": "#dff0dc", "takes": "#dbe8f7", "passes": "#ffffff"}
 KINDS = {"sends": "sends", "takes": "takes", "passes": "passes on"}
 BLOCKS = "places that must send or take more than they can"
-# Routes that matter less.
+# The kinds of routes that matter less.
 QUIET = ("idle", "other")
 CENTRED, LEFT = 'text-anchor="middle"', 'text-anchor="start"'
-# In wider pictures headings and legends are greater.
+# Pictures wider than this have larger headings and legends.
 PAGE = 1400
 
 
@@ -31,19 +31,19 @@ PAGE = 1400
 
 
 def text_width(text, size):
-    """About how wide a text is, in pixels."""
+    """The approximate width of a text, in pixels."""
     return sum(1.0 if unicodedata.east_asian_width(c) in "WF" else 0.62 for c in text) * size
 
 
 def xml_text(text):
-    """A text within SVG."""
+    """A text, escaped for SVG."""
     return html.escape(
         "".join(c if ord(c) not in (0xFFFE, 0xFFFF) else "?" for c in text), quote=False
     )
 
 
 def text_at(x, y, size, text, more=CENTRED):
-    """A text as SVG has it, centred unless something else is said."""
+    """A text in SVG, centred by default."""
     return f'<text x="{x:.1f}" y="{y:.1f}" font-size="{size}" {more}>{xml_text(text)}</text>'
 
 
@@ -51,7 +51,7 @@ def text_at(x, y, size, text, more=CENTRED):
 
 
 def order_of(links):
-    """The numbers of links as they are drawn: those that matter less first, then the widest."""
+    """The numbers of links in drawing order: less important links first, then the widest ones."""
     return sorted(range(len(links)), key=lambda k: (links[k].kind not in QUIET, -links[k].width))
 
 
@@ -66,14 +66,14 @@ def box_at(box, kind, blocks=False, more=""):
 
 
 def path_of(points):
-    """A curve as SVG has it."""
+    """A curve in SVG."""
     words = [f"{x:.1f},{y:.1f}" for x, y in points]
     rows = [" ".join(words[begin : begin + 6]) for begin in range(1, len(words), 6)]
     return f"M{words[0]} C" + "\n".join(rows)
 
 
 def arrow(kind, width, title, points):
-    """The curve of a route, its arrowhead, and the bar before it where the route is full."""
+    """The curve of a route, its arrowhead, and a bar before it if the route is full."""
     colour = COLOURS[kind]
     points, corners, (dx, dy) = head_of(points, width)
     tips = " ".join(f"{x:.1f},{y:.1f}" for x, y in corners)
@@ -95,7 +95,7 @@ def arrow(kind, width, title, points):
 
 
 def head_of(points, width):
-    """A curve cut short for its arrowhead, the corners of the arrowhead, and where it points."""
+    """A curve shortened for its arrowhead, the corners of the arrowhead, and its direction."""
     tip, before = points[-1], layout.samples(points)[-4]
     far = math.hypot(tip[0] - before[0], tip[1] - before[1]) or 1
     dx, dy = (tip[0] - before[0]) / far, (tip[1] - before[1]) / far
@@ -111,7 +111,7 @@ def head_of(points, width):
 
 
 def line_between(x, y, to):
-    """A level line from a spot, as a curve."""
+    """A horizontal line from a spot, as a curve."""
     return [(x + (to - x) * part / 3, y) for part in range(4)]
 
 
@@ -127,7 +127,7 @@ def label_at(link, x, y, size=1):
 
 
 def tag_at(text, x, y, size, more):
-    """A text on a ground of its own."""
+    """A text with a background of its own."""
     wide, high = label_size(text, size)
     return (
         f'<rect class="ground" x="{x - wide / 2:.1f}" y="{y - high / 2:.1f}" width="{wide:.1f}"'
@@ -140,7 +140,7 @@ def tag_at(text, x, y, size, more):
 
 
 def names_of(scene):
-    """What a picture is called, and what is said of it, where it isn't seen."""
+    """The title of a picture and its description for those who can't see it."""
     title = f"{scene.caption.title}: " if scene.caption and scene.caption.title else ""
     places = count_of(len(scene.nodes), "place", "places")
     routes = count_of(len(scene.links), "route", "routes")
@@ -151,8 +151,8 @@ def names_of(scene):
 
 
 def framed(edges, scene, body, legend, kind="boxes"):
-    """A whole picture: its frame, its heading, what stands in it and the legend below. Its kind is
-    a class of the page's style."""
+    """A whole picture: its frame, its heading, its content and the legend below. `kind` is a class
+    in the page's style sheet."""
     size = growth_of(edges)
     (lines, across), (headings, along) = legend, headings_of(scene)
     left, right = edges[0] - 32, edges[2] + 32
@@ -184,18 +184,18 @@ def framed(edges, scene, body, legend, kind="boxes"):
 
 
 def at(x, y, size, lines):
-    """What is drawn around 0, 0, elsewhere and greater."""
+    """Moves and scales lines that are drawn around 0, 0."""
     grown = f" scale({size:.2f})" if size != 1 else ""
     return "\n".join([f'<g transform="translate({x:.1f} {y:.1f}){grown}">', *lines, "</g>"])
 
 
 def growth_of(edges):
-    """How much greater texts are in a picture that is wider than a page."""
+    """The growth of texts in a picture that is wider than a page."""
     return max(1, (edges[2] - edges[0]) / PAGE)
 
 
 def headings_of(scene):
-    """What stands above a picture, and how wide that is: the title, the heading, the tables."""
+    """The lines above a picture (the title, the heading, the tables) and their width."""
     caption = scene.caption
     texts = [caption.title, scene.heading, caption.source] if caption else [scene.heading]
     lines, wide = [], 0
@@ -213,9 +213,9 @@ def sample(kind, x):
 
 
 def legend_of(scene, swatch, route=sample, more=()):
-    """What the colours and the marks mean, and where that ends. A swatch draws a kind of places, or
-    "blocks", and a route one of routes; more entries have how wide a drawing is, the drawing by
-    where it begins, and words."""
+    """The legend of colours and marks, and where it ends. `swatch` draws a kind of places, or
+    "blocks"; `route` draws a kind of routes. Each entry of `more` has the width of a drawing, a
+    function that draws it at its origin, and words."""
     entries = [(22, functools.partial(swatch, kind), words) for kind, words in KINDS.items()]
     entries += [(44, functools.partial(route, kind), words) for kind, words in scene.notes.items()]
     entries += [(24, functools.partial(swatch, "blocks"), BLOCKS)] if scene.groups else []
@@ -227,7 +227,7 @@ def legend_of(scene, swatch, route=sample, more=()):
 
 
 def box_swatch(kind, x):
-    """A box of a kind, or the shade behind those that block, for the legend."""
+    """A box of a kind, or the shade behind places that block, for the legend."""
     if kind == "blocks":
         return shade_at(layout.Box(x + 12, -4, 24, 16), 6)
     return box_at(layout.Box(x + 11, -4, 22, 14), kind)

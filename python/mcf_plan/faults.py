@@ -1,15 +1,15 @@
-"""What ends a run without a plan, and the faults of tables by their kinds."""
+"""The exceptions that end a run without a plan, and the faults of tables by their kinds."""
 import collections
 
-# Where a cell stands: its table, its line, and its column by its head or by its number from 1; or a
-# whole line.
+# The place of a cell: its table, its line, and its column by head or by number from 1. Without a
+# column it is a whole line.
 At = collections.namedtuple("At", "table line column", defaults=("",))
-# How many cells of one kind are named beside the first.
+# How many further cells of one kind a message names.
 TOLD_CELLS = 4
 
 
 class Stop(Exception):
-    """What ends the run without a plan: a text for standard error, and the exit status."""
+    """Ends the run without a plan, with a text for standard error and the exit status."""
 
     def __init__(self, text, status):
         super().__init__(text)
@@ -17,40 +17,39 @@ class Stop(Exception):
 
 
 class Rejected(Exception):
-    """An answer that isn't to be believed: it is kept apart, so that it can be reported."""
+    """The checker rejected an answer. The run keeps it separately, so that it can be reported."""
 
 
 def bad_table(text):
-    """A `Stop` for a table that can't be read as meant."""
+    """A `Stop` for a fault in a table."""
     return Stop(text, 2)
 
 
 def trouble(text):
-    """A `Stop` for whatever is no fault of the tables."""
+    """A `Stop` for anything that isn't a fault of the tables."""
     return Stop(text, 3)
 
 
 def shown(cell):
-    """A cell between quotes, short, with what can't be printed spelt out."""
+    """A cell in quotes, shortened, with unprintable characters spelt out."""
     cell = cell if len(cell) <= 40 else cell[:37] + "..."
     return "'" + "".join(c if c.isprintable() else f"\\x{ord(c) & 0xFF:02x}" for c in cell) + "'"
 
 
 class Kind:
-    """The faults of one kind: the first, how many there are, and the cells and the lines of some
-    more."""
+    """The faults of one kind: the first one, their number, and the cells and lines of some more."""
 
     def __init__(self, text):
         self.text, self.count, self.more = text, 0, {}
 
     def add(self, line, cell):
-        """Counts one."""
+        """Counts a fault."""
         self.count += 1
         if self.count > 1 and len(self.more) < TOLD_CELLS:
             self.more.setdefault(cell, line)
 
     def told(self):
-        """One line."""
+        """The line that reports these faults."""
         if self.count == 1:
             return self.text
         cells = ", ".join(
@@ -60,20 +59,20 @@ class Kind:
 
 
 class Faults:
-    """The faults of tables, which are told together before anything is run: one line for each
-    kind."""
+    """The faults of tables. The run reports them together before it starts a program, one line for
+    each kind."""
 
     def __init__(self):
         self.kinds = {}
 
     def add(self, at, kind, text, cell=""):
-        """Notes what is wrong somewhere in a table."""
+        """Notes a fault in a table."""
         key = at.table.name, kind, at.column if isinstance(at.column, str) else None
         where = f"{at.table.name}, line {at.line}" + (f", column {at.column}" if at.column else "")
         self.kinds.setdefault(key, Kind(f"{where}: {text}")).add(at.line, cell)
 
     def has(self, table, kind):
-        """Whether there was such a fault in a table."""
+        """Whether a table has a fault of a kind."""
         return any(key[:2] == (table.name, kind) for key in self.kinds)
 
     def end(self):

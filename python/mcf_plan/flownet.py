@@ -1,32 +1,32 @@
-"""The network of places and routes, and what a plan says of each of them."""
+"""The network of places and routes, and the results of a plan for each of them."""
 import collections
 
 from .network import Arc, Network, parts_of
 from .solve import Instance
 
 STAYS, MISSING, THROUGH = "(stays)", "(missing)", "(through)"
-# Whether supplies may stay where they are, whether demands may be short, and what each unit short
-# costs: None is so much that as little is short as can be.
+# Whether supplies may stay, whether demands may be unmet, and the cost of each missing unit: None
+# is a penalty so high that as little as possible is missing.
 Policy = collections.namedtuple("Policy", "unused short penalty", defaults=(False, False, None))
-# What a plan says of a route, or of what passes through a place: how much, and what that costs; the
-# room that is left (None: without a limit), what one more unit of room saves, and whether just
-# that. Of a place: minus its price, in which group that is exact, how much stays there or is
-# missing, and what passes through it, where that has bounds.
+# The result of a route, or of the flow through a place: the flow and its cost; the residual
+# capacity (None without a limit); how much one more unit of capacity saves, and whether that is
+# exact. The result of a place: minus its price, the group in which that is exact, how much stays
+# there or is missing, and the RouteResult of the flow through it, if that has bounds.
 RouteResult = collections.namedtuple("RouteResult", "carries cost free saves is_exact")
 PlaceResult = collections.namedtuple("PlaceResult", "price group unmet through")
-# What an arc is for: its kind, the number from 0 of its route or place, and 1, or -1 where it leads
-# a route's other way.
+# The use of an arc: its kind, the number of its route or place from 0, and 1, or -1 for the reverse
+# direction of a route.
 Use = collections.namedtuple("Use", "kind number sign", defaults=(1,))
 
 
 class FlowNet(Network):
-    """The network of a problem: node k is the k-th place, and arc k the k-th route, or its first
-    step; all that is more comes after them.
+    """The network of a problem. Node k is the k-th place, and arc k is the k-th route or its first
+    step. Further nodes and arcs come after these.
 
-    A place with bounds is two nodes with an arc between them: node k has what comes in and what is
-    sent there, the other what goes out and what is taken. Where amounts may stay or be short there
-    is one node more, the hub, which takes what stays, gives what is missing, and has what lacks for
-    a balance as its supply.
+    A place with bounds is two nodes with an arc between them: node k has the inflow and the supply,
+    the other node has the outflow and the demand. If amounts may stay or be missing, there is an
+    extra node, the hub. It takes what stays, gives what is missing, and has the supply that
+    balances the network.
     """
 
     def __init__(self, problem, policy=Policy()):
@@ -45,7 +45,7 @@ class FlowNet(Network):
                     Use("through", number),
                     Arc(number + 1, self.outs[number], place.bounds.least, most, place.bounds.cost),
                 )
-        # No sum of costs along a way without repetition is beyond this.
+        # No simple path costs more than this in absolute value.
         self.bound = sum(abs(arc.cost) for arc in self.arcs)
         total = sum(self.supplies)
         if (
@@ -61,19 +61,19 @@ class FlowNet(Network):
         self.uses.append(use)
 
     def split(self, number, place):
-        """Makes a place two nodes."""
+        """Splits a place into two nodes."""
         self.supplies.append(min(0, place.supply))
         self.supplies[number] = max(0, place.supply)
         self.outs[number] = len(self.supplies)
         self.place_of.append(number)
 
     def add_routes(self):
-        """Adds the routes, each with its first step, then further steps and other ways."""
+        """Adds the first step of each route, then the further steps and reverse directions."""
         reach, more = self.problem.reach(), []
         for number, route in enumerate(self.problem.routes):
             tail, head, rest, arcs = self.outs[route.tail - 1], route.head, route.least, []
             for step in route.steps:
-                # Costs rise, so that what has to be carried fills one step after the other.
+                # Costs rise from step to step, so the least amount fills one step after the other.
                 least = rest if step is route.steps[-1] else min(rest, step.most)
                 arcs.append(
                     Arc(
@@ -102,7 +102,7 @@ class FlowNet(Network):
         """Adds the hub."""
         self.supplies.append(supply)
         self.hub = len(self.supplies)
-        # A unit short costs more than any other way of a unit, both there and back.
+        # A missing unit costs more than any path of a unit and back.
         penalty = 1 + 2 * self.bound if self.policy.penalty is None else self.policy.penalty
         for number, place in enumerate(self.problem.places):
             if place.supply > 0 and self.policy.unused:
@@ -114,7 +114,7 @@ class FlowNet(Network):
                 )
 
     def instance(self):
-        """The network as text, with where its lines come from."""
+        """The network as text, with the origins of its lines."""
         made, problem = Instance("min"), self.problem
         made.add(
             ["c node k is the k-th place, arc k the k-th route", problem.units.comment()]
@@ -129,7 +129,7 @@ class FlowNet(Network):
         return made
 
     def origin(self, use):
-        """Where an arc comes from."""
+        """The place in the tables that an arc comes from."""
         table, rows = (
             (self.problem.route_table, self.problem.routes)
             if use.kind == "route"
@@ -146,8 +146,8 @@ class FlowNet(Network):
         )
 
     def labels(self):
-        """What nodes and arcs are, for the record: of the arcs after the routes' first ones the
-        number of their route, below 0 for its other way, and 0 for those of no route."""
+        """The meaning of nodes and arcs, for the record. An arc after the routes' first arcs has
+        the number of its route, negative for the reverse direction, or 0 without a route."""
         names = [self.problem.places[number].name for number in self.place_of]
         routes = len(self.problem.routes)
         return {
@@ -161,7 +161,7 @@ class FlowNet(Network):
         }
 
     def node_name(self, node):
-        """What a node is called."""
+        """The name of a node."""
         return self.problem.places[self.place_of[node - 1]].name
 
     def ends(self, k):
@@ -175,8 +175,8 @@ class FlowNet(Network):
         ]
 
     def amounts(self, arcs, bound):
-        """The least or the most of some arcs, the steps of a route together: with the first arc of
-        each."""
+        """The sum of the lower bounds (or capacities) of some arcs for each route or place, with
+        its first arc."""
         found = {}
         for k in arcs:
             first, total = found.get(self.uses[k], (k, 0))
@@ -184,12 +184,12 @@ class FlowNet(Network):
         return list(found.values())
 
     def home(self, number):
-        """The node of a place where one unit more is sent, or is taken."""
+        """The node of a place where one more unit of supply enters, or of demand leaves."""
         return number + 1 if self.problem.places[number].supply > 0 else self.outs[number]
 
 
 class FlowPlan:
-    """What a plan says of each route and each place."""
+    """The results of a plan for each route and each place."""
 
     def __init__(self, net, plan):
         self.net, self.problem, self.prices, self.flows = net, net.problem, plan.prices, plan.flows
@@ -209,11 +209,11 @@ class FlowPlan:
             for use, flow, arc in zip(net.uses, plan.flows, net.arcs)
             if use.kind == "missing"
         )
-        # The default penalty is there to have little missing: it's no cost.
+        # The default penalty isn't a cost: it only keeps the missing amount small.
         self.cost = plan.cost - (self.penalties if net.policy.penalty is None else 0)
 
     def place(self, number, arcs_of):
-        """What the plan says of a place."""
+        """The result of a place."""
         place, home = self.problem.places[number], self.net.home(number)
         unmet = sum(
             self.flows[k] for kind in ("stays", "missing") for k in arcs_of.get((kind, number), ())
@@ -226,19 +226,19 @@ class FlowPlan:
         return PlaceResult(-self.prices[home - 1], self.group[home], unmet, through)
 
     def saves(self, k):
-        """What one more unit of room on an arc would save at most: by so much the prices undercut
-        its cost."""
+        """How much one more unit of capacity on an arc would save at most: its negated reduced
+        cost, or 0."""
         arc = self.net.arcs[k]
         return max(0, self.prices[arc.tail - 1] - self.prices[arc.head - 1] - arc.cost)
 
     def result(self, arcs, most, both):
-        """What the plan says of the arcs of a route, or of a place: the room that could be more is
-        that of the last step, either way.
+        """The result of the arcs of a route or of a place. Savings refer to more capacity of the
+        last step, in either direction.
 
-        One more unit of room saves just so much where, if it saves, a unit can go on from the arc's
-        end to its beginning within a group. Nodes of one group are joined by arcs that can carry
-        one unit more, and one less, at no change of cost beyond the prices: they carry amounts
-        between their least and their most, and their reduced cost is 0.
+        A saving is exact if it is 0, or if the arc's head and tail are in the same group: then one
+        more unit can return from head to tail. Arcs of reduced cost 0 with flow strictly between
+        their bounds join the nodes of a group. They can carry one unit more or less at the cost
+        that the prices give.
         """
         carries = sum(self.net.uses[k].sign * self.flows[k] for k in arcs)
         cost = sum(self.net.arcs[k].cost * self.flows[k] for k in arcs)
@@ -258,18 +258,17 @@ class FlowPlan:
         )
 
     def rate(self, number):
-        """What one more unit saves or costs, as text: where it is but the default penalty, in
-        words."""
+        """How much one more unit saves or costs, as text. For the default penalty it is words."""
         if self.net.policy.short and self.net.policy.penalty is None and number > self.net.bound:
             return "less is missing"
         return self.problem.units.rate(number)
 
     def is_full(self, number):
-        """Whether a route carries as much as it may, and that is something."""
+        """Whether a route carries its whole capacity, and more than 0."""
         return self.routes[number].free == 0 and self.routes[number].carries != 0
 
     def unmet(self, is_supply):
-        """The places where something stays (or is missing), with the amounts."""
+        """The places where supply stays (or demand is missing), with the amounts."""
         return [
             (place, result.unmet)
             for place, result in zip(self.problem.places, self.places)
@@ -278,7 +277,7 @@ class FlowPlan:
 
 
 def columns_of(bounds):
-    """The columns of a route, or of a place, that the words of a refusal mean."""
+    """The column of a route or a place that each reason of a refusal is about."""
     farther = (
         "least" if bounds.most is not None and abs(bounds.least) > abs(bounds.most) else "most"
     )

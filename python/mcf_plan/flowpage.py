@@ -32,12 +32,12 @@ THROUGH_COLUMNS = [
     ("passing costs", "in this plan"),
     ("one more saves", "what one more unit of room saves"),
 ]
-# Heads of columns that the page shows anyway.
+# The heads of columns that the page always shows.
 USED = ("from", "to", "least", "most", "cost", "name", "supply", "x", "y")
 
 
 def own_columns(table):
-    """The columns of a table that are the planner's own."""
+    """The planner's own columns of a table."""
     return [place for place in table.kept(*RESULTS) if table.heads[place] not in USED]
 
 
@@ -79,17 +79,17 @@ def plan_page(plan, options, picture):
 
 
 def warnings(net):
-    """What looks like a slip of the tables."""
+    """Warnings about likely slips in the tables."""
     return [f"Warning: {line}" for line in report.slips(net)]
 
 
 def told(number, mark, unit):
-    """A number as sentences have it, with its unit, if that was said."""
+    """A number for a sentence, with its unit if the options give one."""
     return grouped(number, mark or ".") + (f" {unit}" if unit else "")
 
 
 def savings(plan):
-    """The table of what one more unit of room saves."""
+    """The table of savings by one more unit of capacity."""
     rows = [
         ("full", [*ends, "exactly" if result.is_exact else "at most", plan.rate(result.saves)])
         for ends, result in report.savings_of(plan)[:50]
@@ -120,7 +120,7 @@ def routes_sheet(plan):
 
 
 def route_cells(plan, number):
-    """What stands of a route in the columns of routes."""
+    """The cells of a route in the table of the routes."""
     problem, units = plan.problem, plan.problem.units
     route, result = problem.routes[number], plan.routes[number]
     exact = "exactly" if result.is_exact else "at most"
@@ -138,8 +138,7 @@ def route_cells(plan, number):
 
 
 def costs_cell(problem, route):
-    """The cost of each unit of a route; where it rises by steps, all of them, as sentences have
-    them."""
+    """The unit cost of a route, or all its rising costs, in the notation of sentences."""
     if len(route.steps) == 1:
         return problem.units.rate(route.cost)
     return " / ".join(map(problem.said.rate, route.costs()))
@@ -172,7 +171,7 @@ def places_sheet(plan):
 
 
 def through_cells(plan, place, through):
-    """What passes through a place."""
+    """The cells on the flow through a place."""
     if not through:
         return [""] * len(THROUGH_COLUMNS)
     units = plan.problem.units
@@ -185,7 +184,7 @@ def through_cells(plan, place, through):
 
 
 def blocked_page(blocked, options, picture):
-    """The page where no plan exists."""
+    """The page for a problem without a plan."""
     problem = blocked.net.problem
     findings = [balance_finding(problem)] if blocked.is_unbalanced else []
     findings += [
@@ -210,7 +209,7 @@ def blocked_page(blocked, options, picture):
 
 
 def balance_finding(problem):
-    """That supplies and demands don't agree."""
+    """The finding that supplies and demands aren't equal."""
     supply, demand = report.balance_of(problem)
     amount = problem.said.amount
     figures = [
@@ -226,7 +225,7 @@ def balance_finding(problem):
 
 
 def bottleneck_finding(net, bottleneck):
-    """A bottleneck, and what would help."""
+    """The finding on a bottleneck, and what would help."""
     amount = net.problem.said.amount
     short = amount(bottleneck.must - bottleneck.can)
     figures = [

@@ -1,4 +1,4 @@
-"""The folder of the results, which is written whole or not at all."""
+"""The folder of results. A run writes it completely or not at all."""
 import contextlib
 import os
 import pathlib
@@ -8,7 +8,7 @@ import signal
 from .faults import Rejected, Stop, trouble
 from .record import is_record
 
-# What a plan is written into; a folder with anything else in it isn't touched.
+# The files of a plan. A run doesn't touch a folder that has any other file.
 RESULTS = (
     "flows.csv",
     "prices.csv",
@@ -26,8 +26,8 @@ RESULTS = (
 
 @contextlib.contextmanager
 def results_in(name):
-    """A new folder beside the one that is named, which takes its place at the end; where the run
-    ends otherwise, nothing is left of it."""
+    """A new folder beside the named one, which it replaces at the end. If the run fails, the new
+    folder is removed."""
     target = pathlib.Path(os.path.realpath(name))
     check_target(name, target)
     part = target.with_name(f".{target.name}.part-{os.getpid()}")
@@ -46,8 +46,7 @@ def results_in(name):
 
 
 def check_target(name, target):
-    """Ends the run where the folder has anything that isn't a result of this tool, which might be
-    lost."""
+    """Ends the run if the folder has a file that isn't a result of this tool and might be lost."""
     if target.exists() and not target.is_dir():
         raise trouble(f"the folder {name} can't be made: there is a file of this name")
     names = sorted(path.name for path in target.iterdir()) if target.exists() else []
@@ -73,8 +72,7 @@ def check_target(name, target):
 
 
 def swap(part, target):
-    """Puts the new folder where it belongs, and takes an earlier one away; no signal comes
-    between."""
+    """Moves the new folder to its place and removes an earlier one. No signal interrupts this."""
     old = part.with_name(part.name + ".old")
     held = signal.pthread_sigmask(signal.SIG_BLOCK, {signal.SIGINT, signal.SIGTERM, signal.SIGHUP})
     try:
@@ -92,7 +90,7 @@ def swap(part, target):
 
 
 def kept(part, target):
-    """Keeps what was rejected, under another name: gives the folder."""
+    """Keeps a rejected answer under another name, and returns the folder."""
     number = 1
     while target.with_name(f"{target.name}.rejected{number}").exists():
         number += 1

@@ -1,11 +1,12 @@
-"""Heads that aren't the tool's own: those that nearly are, and those that are carried along."""
+"""Heads that the tool doesn't know: those close to a known one, and those that are carried along to
+the results."""
 import re
 
 from .faults import At, shown
 from .tables import cell_at
 from .words import listed
 
-# What the columns of bounds are called elsewhere.
+# Other names for the columns of bounds.
 OTHER_WORDS = {"min": "least", "minimum": "least", "max": "most", "maximum": "most"}
 BOUNDS = ("least", "most", "cost")
 # The heads of results, in groups.
@@ -13,13 +14,13 @@ FLOW_RESULTS = ("carries", "total", "free", "one_more_saves", "exact")
 PLACE_RESULTS = ("one_more_costs", "group")
 THROUGH_RESULTS = ("passes", "passing_costs", "free", "one_more_saves", "exact")
 RESULTS = (FLOW_RESULTS, PLACE_RESULTS, THROUGH_RESULTS)
-# How many columns are named that are carried along.
+# The most carried columns to name.
 NAMED = 24
 
 
 class Heads:
-    """The heads that a table may have, some of which are read together or not at all; and most 2,
-    cost 2 and so on, where it has steps."""
+    """The heads that a table may have. Some are read only together. A table with steps also has
+    most 2, cost 2 and so on."""
 
     def __init__(self, known, together=(), has_steps=False):
         self.known, self.together, self.has_steps = known, together, has_steps
@@ -33,7 +34,7 @@ class Heads:
         return found
 
     def check(self, table, faults):
-        """Notes the heads that nearly are known: what stands below them would be left out."""
+        """Notes the heads that are close to known ones, because their columns would be ignored."""
         steps = self.steps(table)
         for head, title in zip(table.heads, table.titles):
             meant = None if head in (*self.known, *steps, "") else self.meant(head, table.heads)
@@ -48,8 +49,8 @@ class Heads:
                 faults.add(At(table, table.head_line, plain(title)), "near head", text)
 
     def meant(self, head, there):
-        """The column that a head nearly is, or None. By one letter it is only nearly one that isn't
-        there."""
+        """The known column that a head is close to, or None. A difference of one letter counts only
+        if the table doesn't have that column."""
         letters = "".join(filter(str.isalnum, head))
         word, digits = re.fullmatch("(.*?)([0-9]{0,2})", letters).groups()
         word = OTHER_WORDS.get(word, word)
@@ -61,13 +62,13 @@ class Heads:
         return next((meant for meant in found if meant not in there), None)
 
     def numbered(self, base, digits):
-        """The head of a step, or of what has none."""
+        """The head of a step, or the base alone if it has no steps."""
         is_step = self.has_steps and base != "least" and int(digits or 1) > 1
         return f"{base} {int(digits)}" if is_step else base
 
     def carried(self, table):
-        """The columns that are carried along, and not used: those of earlier results aren't, since
-        they are written anew."""
+        """The unused columns, which are carried along to the results. Columns of earlier results
+        aren't among them, because the tool writes them again."""
         used = {*self.known, *self.steps(table)}
         if not table.has(self.together):
             used -= set(self.together)
@@ -80,19 +81,19 @@ class Heads:
 
 
 def carried_lines(columns):
-    """A line on the columns that are carried along, where there are some."""
+    """A line on the columns that are carried along, if there are any."""
     names = listed(list(dict.fromkeys(columns)), NAMED)
     return [f"Columns carried along, not used: {names}."] if names else []
 
 
 def plain(title):
-    """A head in a sentence: short, with what can't be printed spelt out."""
+    """A head in a sentence, shortened, with unprintable characters spelt out."""
     return shown(title)[1:-1]
 
 
 def is_one_letter(one, other):
-    """Whether a letter more, a letter less, another letter, or two exchanged make one text of the
-    other."""
+    """Whether one text becomes the other by adding, dropping or changing one letter, or by swapping
+    two."""
     short, long = sorted((one, other), key=len)
     if len(short) < len(long):
         return any(long[:k] + long[k + 1 :] == short for k in range(len(long)))

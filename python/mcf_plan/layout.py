@@ -1,5 +1,5 @@
-"""Where boxes and curves stand in a picture: by Graphviz where it is there, else by x and y or in
-columns."""
+"""The places of boxes and curves in a picture: by Graphviz if it is installed, otherwise by x and y
+or in columns."""
 import collections
 import json
 import math
@@ -9,32 +9,32 @@ import time
 
 # A box by its centre.
 Box = collections.namedtuple("Box", "x y width height")
-# Boxes of the nodes; for each link its curve of cubic pieces, and the spots where its label may
-# stand, the best first.
+# The boxes of the nodes. For each link, its curve of cubic pieces, and the possible spots for its
+# label, the best first.
 Layout = collections.namedtuple("Layout", "boxes curves labels")
-# What is to be laid out: sizes of boxes, spots on a map or None, links by their nodes from 0, and
-# the size of each label or None.
+# The input of a layout: the sizes of boxes, spots on a map or None, links by their nodes from 0,
+# and the size of each label or None.
 Task = collections.namedtuple("Task", "sizes spots links labels starts")
 
-# Graphviz isn't started where places times places and links are more than this, which takes it
-# about two seconds; what it may take then, in seconds; and a picture in ranks that is wider than
-# the last is laid out by springs, as are nets of many routes both ways.
+# The most work for Graphviz, as places times places and links (this takes it about two seconds);
+# its time limit in seconds; the greatest width of a picture in ranks. Springs lay out wider
+# pictures, and nets with many routes in both directions.
 WORK, PATIENCE, WIDEST = 16_000, 4, 2400
-# How far the places of a map stand apart; what boxes keep between them, and in how many rounds that
-# is sought; how often the order within columns is made anew.
+# The distance of places on a map; the gap between boxes; the most rounds to reach that gap; how
+# often to reorder the columns.
 SPREAD, APART, ROUNDS, SWEEPS = 235, 14, 60, 6
-# Which parts of its way along a link its label may stand at.
+# The possible positions of a label along its link, as fractions of the link.
 PARTS = 0.45, 0.55, 0.35, 0.65, 0.25, 0.75, 0.15, 0.85
 
 
 def laid_out(task):
-    """The layout of a task: by Graphviz where that is there and doesn't take long."""
+    """The layout of a task, by Graphviz if it is installed and fast enough."""
     program, count = shutil.which("dot"), len(task.sizes)
     if program and count * (count + len(task.links)) <= WORK:
         try:
             return by_graphviz(program, task)
         except (OSError, ValueError, LookupError, subprocess.SubprocessError):
-            # A Graphviz that fails is as good as none.
+            # If Graphviz fails, lay out the task without it.
             pass
     return straight(parted(map_boxes(task)) if task.spots else column_boxes(task), task)
 
@@ -54,7 +54,7 @@ def by_graphviz(program, task):
 
 
 def graphviz(program, words, task, boxes, until):
-    """The layout by Graphviz, of boxes that stand on a map or anywhere."""
+    """The layout by Graphviz, of boxes with or without fixed places on a map."""
     words = [program, *words, "-Tjson"]
     done = subprocess.run(
         words,
@@ -68,8 +68,8 @@ def graphviz(program, words, task, boxes, until):
 
 
 def graph_text(task, boxes):
-    """The graph as Graphviz reads it: lengths are in inches, y goes up."""
-    # Few ranks of many places stand farther apart, so that the picture isn't a tower.
+    """The graph in Graphviz's language. Lengths are in inches, and y points up."""
+    # If there are few ranks of many places, they are farther apart, to keep the picture wide.
     ranks = 1 + max(levels_of(len(task.sizes), task.links, task.starts), default=0)
     apart = min(4, max(1.1, len(task.sizes) / ranks / 4))
     lines = [
@@ -83,14 +83,14 @@ def graph_text(task, boxes):
         spot = f', pos="{boxes[node].x:.1f},{-boxes[node].y:.1f}"' if boxes else ""
         lines.append(f"n{node} [width={width / 72:.3f}, height={height / 72:.3f}{spot}];")
     for number, ((tail, head), label) in enumerate(zip(task.links, task.labels)):
-        # What a label says doesn't matter to Graphviz, but how wide it is does.
+        # Only the width of a label matters to Graphviz.
         text = f', xlabel="{"0" * max(1, round(label / 6.6))}"' if label else ""
         lines.append(f'n{tail} -> n{head} [id="{number}"{text}];')
     return "\n".join(lines) + "\n}\n"
 
 
 def layout_of(graph, task):
-    """The layout that Graphviz gives."""
+    """Graphviz's layout."""
     boxes = [None] * len(task.sizes)
     for item in graph.get("objects", []):
         node = int(item["name"][1:])
@@ -107,13 +107,13 @@ def layout_of(graph, task):
 
 
 def pair_of(word):
-    """A point of Graphviz, y going down."""
+    """A point of Graphviz, with y pointing down."""
     x, y = word.split(",")
     return float(x), -float(y)
 
 
 def forward(points, tail):
-    """A curve that begins at the end which is nearer to the box of its tail."""
+    """A curve, reversed if needed to begin at the box of its tail."""
 
     def far(point):
         return math.hypot(point[0] - tail.x, point[1] - tail.y)
@@ -125,8 +125,8 @@ def forward(points, tail):
 
 
 def map_boxes(task, spread=SPREAD):
-    """Boxes on a map, y going up."""
-    # Halves, whose differences are no greater than a float can be.
+    """Boxes on a map, with y pointing up."""
+    # The differences of halves don't overflow a float.
     xs, ys = [x / 2 for x, _ in task.spots], [y / 2 for _, y in task.spots]
     (left, right), (low, high), wide = (
         (min(xs), max(xs)),
@@ -142,8 +142,8 @@ def map_boxes(task, spread=SPREAD):
 
 
 def levels_of(count, links, starts):
-    """For each node how many links lead to it from the nearest start; what isn't reached begins
-    anew, first where no link leads to."""
+    """For each node, the number of links from the nearest start. Unreached nodes become new starts,
+    first those without an incoming link."""
     after, heads = [[] for _ in range(count)], {head for _, head in links}
     for tail, head in links:
         after[tail].append(head)
@@ -160,7 +160,7 @@ def levels_of(count, links, starts):
 
 
 def parted(boxes):
-    """The same boxes, moved apart where they overlap."""
+    """The same boxes, moved apart if they overlap."""
     boxes = list(boxes)
     for _ in range(ROUNDS):
         moved = False
@@ -181,13 +181,13 @@ def parted(boxes):
 
 
 def edge_right(box):
-    """Where a box ends to the right."""
+    """The right edge of a box."""
     return box.x + box.width / 2
 
 
 def steps_apart(one, other):
-    """How far the first of two boxes moves, and the second the other way, along the axis on which
-    they overlap less; None where they don't."""
+    """How far the first of two overlapping boxes moves along the axis of the smaller overlap, while
+    the second moves the other way. None if they don't overlap."""
     dx = (one.width + other.width) / 2 + APART - abs(one.x - other.x)
     dy = (one.height + other.height) / 2 + APART - abs(one.y - other.y)
     if dx <= 0.1 or dy <= 0.1:
@@ -198,8 +198,8 @@ def steps_apart(one, other):
 
 
 def columns_of(task):
-    """The nodes in columns by how far they are from those that send, ordered so that links cross
-    little: each after the middle of those that it is linked with before or after its column."""
+    """The nodes in columns by their distance from the nodes that send. To have few crossings, each
+    node is near the middle of its neighbours in the column before or after."""
     levels = levels_of(len(task.sizes), task.links, task.starts)
     columns = [[] for _ in range(max(levels, default=-1) + 1)]
     near, place = [[] for _ in levels], [0] * len(levels)
@@ -240,8 +240,8 @@ def column_boxes(task):
 
 
 def straight(boxes, task):
-    """The layout of boxes that stand: lines between them, which are bowed where several join the
-    same boxes, or others stand between."""
+    """The layout of boxes with fixed places. Links are lines, or curves if several join the same
+    boxes or other boxes are between."""
     seen, curves = collections.Counter(), []
     for tail, head in task.links:
         nth = seen[min(tail, head), max(tail, head)]
@@ -256,7 +256,7 @@ def straight(boxes, task):
 
 
 def around(boxes, one, other):
-    """How far a link between two boxes, one above the other, goes round those between them."""
+    """How far a link between two boxes, one above the other, bends around those between them."""
     if abs(one.x - other.x) >= (one.width + other.width) / 2:
         return 0
     between = [
@@ -269,13 +269,13 @@ def around(boxes, one, other):
 
 
 def loop_at(box):
-    """The curve of a link from a box to itself, at its right upper corner."""
+    """The curve of a link from a box to itself, at the upper right corner."""
     right, top = box.x + box.width / 2, box.y - box.height / 2
     return [(right - 14, top), (right - 14, top - 34), (right + 34, top + 10), (right, top + 10)]
 
 
 def bowed(tail, head, bow):
-    """A curve from one box to another that stands off the straight line by `bow` in its middle."""
+    """A curve from one box to another, `bow` off the straight line in its middle."""
     dx, dy = head.x - tail.x, head.y - tail.y
     far = math.hypot(dx, dy) or 1
     over = tail.x + dx / 2 - dy / far * bow * 2, tail.y + dy / 2 + dx / far * bow * 2
@@ -289,7 +289,7 @@ def bowed(tail, head, bow):
 
 
 def edge_of(box, to):
-    """Where the line from the middle of a box to a point leaves the box."""
+    """The point where the line from the middle of a box to a point leaves the box."""
     dx, dy = to[0] - box.x, to[1] - box.y
     part = min(
         box.width / 2 / abs(dx) if dx else math.inf, box.height / 2 / abs(dy) if dy else math.inf, 1
@@ -307,7 +307,7 @@ def edges_of(points):
 
 
 def point_at(piece, part):
-    """The point of a cubic piece at a part of it, from 0 to 1."""
+    """The point of a cubic piece at a fraction of it, from 0 to 1."""
     rest = 1 - part
     weights = rest**3, 3 * rest * rest * part, 3 * rest * part * part, part**3
     return tuple(
@@ -324,6 +324,6 @@ def samples(points, count=24):
 
 
 def spots_along(points):
-    """Spots along a curve: a little before its middle, then farther and farther from there."""
+    """Spots along a curve: a little before its middle, then farther and farther away."""
     along = samples(points, 12)
     return [along[int(part * (len(along) - 1))] for part in PARTS]

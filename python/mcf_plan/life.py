@@ -1,4 +1,4 @@
-"""Warnings, and a sign of life where standard error is a terminal."""
+"""Warnings, and a sign of life if standard error is a terminal."""
 import contextlib
 import sys
 import threading
@@ -6,7 +6,7 @@ import time
 
 
 def warn(lines):
-    """Says warnings on standard error, if that can be written."""
+    """Prints warnings on standard error, if possible."""
     for line in lines if sys.stderr else ():
         with contextlib.suppress(OSError):
             print(f"mcf_plan: warning: {line}", file=sys.stderr, flush=True)
@@ -14,7 +14,7 @@ def warn(lines):
 
 @contextlib.contextmanager
 def doing(what):
-    """While it is done, says what is done and for how many seconds, from the first second on."""
+    """Prints the current work and its seconds, after the first second."""
     if not sys.stderr or not sys.stderr.isatty():
         yield
         return
@@ -29,7 +29,7 @@ def doing(what):
 
 
 def tell(what, done, begun):
-    """Says each second what is done, and takes it back at the end."""
+    """Prints the current work each second, and erases it at the end."""
     while not done.wait(1):
         sys.stderr.write(f"\rmcf_plan: {what} .. {time.monotonic() - begun:.0f} s\033[K")
         sys.stderr.flush()

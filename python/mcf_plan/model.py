@@ -1,4 +1,4 @@
-"""Places and routes, as tables have them, and the network that they make."""
+"""Places and routes, read from tables and converted to whole numbers."""
 import collections
 import difflib
 
@@ -16,38 +16,38 @@ PLACES = Heads((*PLACE_HEADS, *SPOT_HEADS, *BOUND_HEADS), together=SPOT_HEADS)
 ROUTES = Heads((*ROUTE_HEADS, "least", "both"), has_steps=True)
 YES, NO = ("yes", "y", "x", "1", "true", "ja", "j"), ("", "no", "n", "0", "false", "nein")
 
-# A place: what passes through it, which comes in or is sent there, has bounds and a cost of its own
-# if they are said (else None); its line and its cells.
+# A place. `bounds` limits the flow through it (its inflow and its supply) or is None; `line` and
+# `cells` are those of its table.
 Place = collections.namedtuple("Place", "name supply spot bounds line cells")
-# How much may pass through a place, and what each unit costs there; a most of None is no limit.
+# The least and the most flow through a place, and the cost of each unit there. A most of None means
+# no limit.
 Bounds = collections.namedtuple("Bounds", "least most cost")
-# A part of what a route carries: so much at most, each unit at this cost. Costs rise from step to
-# step.
+# A part of a route's flow: at most `most` units at this cost each. Costs rise from step to step.
 Step = collections.namedtuple("Step", "most cost")
 
 
 class Route(collections.namedtuple("Route", "tail head least steps both line cells")):
-    """A route between two places by their numbers from 1, perhaps to be used both ways, with the
-    line and the cells of its table."""
+    """A route between two places, which are numbered from 1. `both` allows both directions. `line`
+    and `cells` are those of its table."""
 
     @property
     def most(self):
-        """What it carries at most; None is no limit."""
+        """The capacity of the route. None means no limit."""
         return None if self.steps[-1].most is None else sum(step.most for step in self.steps)
 
     @property
     def cost(self):
-        """What each of its first units costs."""
+        """The unit cost of the first step."""
         return self.steps[0].cost
 
     def costs(self):
-        """What all its units cost, for the tables of people: a cost for each step."""
+        """The unit costs of all steps, for readers."""
         return [step.cost for step in self.steps]
 
 
 class Problem:
-    """The places and the routes of two tables, in whole numbers; `units` says what these are in the
-    tables."""
+    """The places and the routes of two tables, in whole numbers. `units` converts these back to
+    numbers of the tables."""
 
     def __init__(self, tables, places, routes, numbers, penalty=None):
         self.place_table, self.route_table = tables
@@ -81,8 +81,8 @@ class Problem:
 
     @classmethod
     def read(cls, paths, reading, penalty=None):
-        """The problem of two files, or of a workbook with two sheets. The penalty is a cost, as
-        text, that comes with them."""
+        """Reads the problem from two files, or from a workbook with two sheets. The penalty is the
+        cost of a missing unit, as text in the notation of the tables."""
         faults, numbers = Faults(), Numbers(reading.decimal)
         tables = tables_of(paths, (PLACE_HEADS, ROUTE_HEADS), reading, faults)
         check_heads(*tables, faults)
@@ -109,11 +109,11 @@ class Problem:
         return carried_lines(carried) + self.numbers.told()
 
     def whole(self, amount):
-        """An amount in whole numbers."""
+        """An amount as a whole number."""
         return None if amount is None else int(amount * self.units.amounts)
 
     def whole_cost(self, cost):
-        """A cost of a unit in whole numbers."""
+        """A unit cost as a whole number."""
         return int(cost * self.units.costs)
 
     def whole_bounds(self, bounds):
@@ -123,11 +123,11 @@ class Problem:
         )
 
     def reach(self):
-        """What no route without a limit carries beyond its least, in some plan that costs least
-        where no cost is below 0.
+        """A capacity that replaces no limit: some least-cost plan stays within it beyond the lower
+        bound of each route, if no cost is negative.
 
-        Beyond the leasts such a plan has no round trip, so each route carries a part of what
-        places, leasts and a hub, which gives what is missing, send on.
+        Beyond the lower bounds such a plan has no cycle. So each route carries a part of what is
+        sent by places, lower bounds, and a hub that gives what is missing.
         """
         leasts = [route.least for route in self.routes] + [
             place.bounds.least for place in self.places if place.bounds
@@ -135,8 +135,8 @@ class Problem:
         return 1 + sum(abs(place.supply) for place in self.places) + sum(map(abs, leasts))
 
     def throughput(self):
-        """What passes through no place, whatever the plan, where no route is without a limit; and
-        beyond the reach where one is."""
+        """An amount that no plan sends through a place if all routes have a limit, and that is
+        above `reach` if one has none."""
         limited = [route for route in self.routes if route.most is not None]
         return self.reach() + sum(
             (abs(route.least) + abs(route.most)) * (2 if route.both else 1) for route in limited
@@ -148,7 +148,7 @@ class Problem:
 
 
 def check_heads(place_table, route_table, faults):
-    """Ends the run where heads are missing; tables that were exchanged are told."""
+    """Ends the run if heads are missing. The message says if the two tables are exchanged."""
     exchanged = route_table.has(PLACE_HEADS) and place_table.has(ROUTE_HEADS[:2])
     place_table.need(
         PLACE_HEADS,
@@ -168,7 +168,7 @@ def check_heads(place_table, route_table, faults):
 
 
 def matrix_hint(place_table, route_table):
-    """Words where the heads of a table of routes are names of places."""
+    """A hint for a table of routes whose heads are names of places."""
     if not place_table.has(PLACE_HEADS[:1]):
         return ""
     column = place_table.heads.index(PLACE_HEADS[0])
@@ -188,7 +188,7 @@ def places_of(table, numbers, faults):
         name = name_in(table, line, "name", cell_at(cells, name_column), faults)
         if name:
             once(At(table, line, "name"), key_of(name), f"a place {shown(name)}", seen, faults)
-        # A place that only passes on is often left empty.
+        # The supply of a place that only passes on is often left empty.
         supply = numbers.read(table, line, "supply", cell_at(cells, supply_column) or "0", faults)
         spot = (
             tuple(
@@ -205,7 +205,7 @@ def places_of(table, numbers, faults):
 
 
 def bounds_of(table, line, cells, numbers, faults):
-    """The bounds of what passes through a place, where any is said."""
+    """The bounds on the flow through a place, or None if its cells are empty."""
     least, most, cost = (cell_at(cells, table.perhaps(head)) for head in BOUND_HEADS)
     if not (least or most or cost):
         return None
@@ -232,7 +232,7 @@ def end_of(table, line, head, cell, numbers, faults):
 
 
 def near_to(name, names):
-    """The names, of some thousands, that are nearly a name."""
+    """The names that are similar to a name, among the first thousands."""
     return [
         other for other in names if other.casefold() == name.casefold()
     ] or difflib.get_close_matches(name, names[:10_000], 1)
@@ -285,7 +285,7 @@ def step_columns(table):
 
 
 def steps_of(table, row, columns, numbers, faults):
-    """The steps of a route: the first, and those that are filled."""
+    """The steps of a route: the first one, and those with filled cells."""
     (line, cells), found = row, []
     for heads, places in columns:
         most, cost = (cell_at(cells, place) for place in places)
@@ -326,7 +326,8 @@ def steps_of(table, row, columns, numbers, faults):
 
 
 def check_limits(tables, places, routes, faults):
-    """Notes routes without a limit where a cost is below 0: a round trip could earn without end."""
+    """Notes routes without a limit if a cost is negative, because a cycle could then lower the cost
+    without end."""
     below = [f"line {route.line}" for route in routes if route.cost < 0]
     below += [
         f"{tables[0].name}, line {place.line}"

@@ -1,10 +1,10 @@
-"""Networks in whole numbers, their texts, and the sets of nodes that block every flow."""
+"""Networks in whole numbers, their texts, and the node sets that block every flow."""
 import collections
 
-# An arc between nodes, which are numbered from 1, and the cost of each unit that it carries.
+# An arc between nodes, which are numbered from 1, with its bounds and its unit cost.
 Arc = collections.namedtuple("Arc", "tail head least most cost")
-# Nodes that must send (or take) more than they can, over the arcs by which they could. Arcs are
-# numbered from 0.
+# A set of nodes that must send (or take) more than it can; the arcs that force it, by their lower
+# bounds, and the arcs that limit it, by their capacities. Arcs are numbered from 0.
 Bottleneck = collections.namedtuple("Bottleneck", "side nodes must can forcing limiting")
 
 
@@ -23,18 +23,18 @@ class Network:
         )
 
     def turned(self):
-        """The network with each arc turned round, and with demands for supplies: what must take
-        there must send here."""
+        """The network with all arcs reversed and all supplies negated. A set that must take in one
+        network must send in the other."""
         return Network(
             [-supply for supply in self.supplies],
             [arc._replace(tail=arc.head, head=arc.tail) for arc in self.arcs],
         )
 
     def bottleneck(self, side, nodes):
-        """What a set must and can send (or take).
+        """The amounts that a set must and can send (or take).
 
-        It must send its supplies and what arcs bring by their least; it can send the most of the
-        arcs that lead out. Of a set that takes it is the other way round.
+        A set must send its supplies and the lower bounds of incoming arcs. It can send at most the
+        capacities of outgoing arcs. For a set that takes, swap the directions and the signs.
         """
         leaving = [
             k for k, arc in enumerate(self.arcs) if arc.tail in nodes and arc.head not in nodes
@@ -54,15 +54,15 @@ class Network:
         )
 
     def blocking_parts(self, side, nodes):
-        """The bottlenecks that a blocking set falls into: no arc joins two of its parts, so that
-        one at least blocks by itself."""
+        """The bottlenecks among the parts of a blocking set. No arc joins two parts, so at least
+        one part blocks by itself."""
         found = (self.bottleneck(side, part) for part in parts_of(nodes, self.arcs))
         return [bottleneck for bottleneck in found if bottleneck.must > bottleneck.can]
 
 
 def parts_of(nodes, arcs):
-    """The parts of a set of nodes that no arc within the set connects, each as a set; by their
-    least nodes."""
+    """The connected parts of a set of nodes, by the arcs within the set, in order of their least
+    nodes."""
     nodes = set(nodes)
     neighbours = {node: [] for node in nodes}
     for tail, head, *_ in arcs:
@@ -78,7 +78,7 @@ def parts_of(nodes, arcs):
 
 
 def part_at(begin, neighbours):
-    """All that neighbours connect with a node."""
+    """All nodes that are connected with a node."""
     part, waiting = {begin}, [begin]
     while waiting:
         fresh = [node for node in neighbours[waiting.pop()] if node not in part]

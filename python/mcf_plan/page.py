@@ -1,4 +1,4 @@
-"""The page of a plan: one file that needs no network, for a browser, a mail or the printer."""
+"""The page of a plan: one file that works offline, for a browser, a mail or a printer."""
 import collections
 import hashlib
 import html
@@ -7,15 +7,15 @@ import re
 
 from .amounts import Figure
 
-# A page: what stands at its top, whether a plan exists, facts as pairs of a value and its words,
-# findings as paragraphs, the picture or None, and sheets.
+# A page: its title, its headline, whether a plan exists, the text below the headline, facts as
+# pairs of a value and its words, findings as paragraphs, the picture or None, and sheets.
 Page = collections.namedtuple("Page", "title headline is_plan lead facts findings picture sheets")
-# A table of the page. Columns are pairs of a head and what it means; rows are pairs of a class and
-# cells; totals stand below them.
+# A table of the page. Columns are pairs of a head and its meaning; rows are pairs of a class and
+# cells; totals are below the rows.
 Sheet = collections.namedtuple("Sheet", "title columns rows totals note", defaults=((), ""))
 # A cell that shows a part of a whole, in percent.
 Share = collections.namedtuple("Share", "percent")
-# More rows than these aren't listed: a browser would be slow.
+# The most rows of a table, since a browser is slow with more.
 LISTED = 5000
 
 PROVED = (
@@ -26,12 +26,12 @@ PROVED = (
 
 
 def text(value):
-    """A text within HTML."""
+    """A text, escaped for HTML."""
     return html.escape(str(value))
 
 
 def grouped(number, mark="."):
-    """A number with narrow blanks between its thousands."""
+    """A number with narrow spaces between thousands."""
     whole, point, decimals = str(number).partition(".")
     sign, digits = ("\u2212", whole[1:]) if whole.startswith("-") else ("", whole)
     if len(digits) > 4:
@@ -40,7 +40,7 @@ def grouped(number, mark="."):
 
 
 class Writer:
-    """What makes a page of its parts."""
+    """Assembles a page from its parts."""
 
     def __init__(self, folder, mark, caption):
         self.folder, self.mark, self.caption = folder, mark or ".", caption
@@ -73,7 +73,7 @@ class Writer:
         return "\n".join(head + parts + [f"<script>\n{script}</script>", "</html>"]) + "\n"
 
     def facts(self, page):
-        """What stands in boxes below the headline."""
+        """The boxes below the headline."""
         boxes = "".join(
             f"<li><b>{text(self.figure(value))}</b>{text(words)}</li>"
             for value, words in page.facts
@@ -101,7 +101,7 @@ class Writer:
         )
 
     def seal(self):
-        """Below the headline: by which instance and which answer it holds."""
+        """The lines below the headline: the instance and the accepted answer."""
         sums = " &middot; ".join(
             f"{name} <code>{sha256_of(self.folder / name)[:16]}</code>"
             for name in (self.instance, "answer.ans")
@@ -112,7 +112,7 @@ class Writer:
         )
 
     def figure(self, value):
-        """A value as it is shown."""
+        """A value in the notation of the page."""
         return grouped(value, self.mark) if isinstance(value, Figure) else value
 
     def cell(self, value):
@@ -164,7 +164,7 @@ class Writer:
         )
 
     def cell_in(self, value, is_number):
-        """A cell of a column; one that is empty among numbers is none."""
+        """A cell of a column; None if it is empty among numbers."""
         return (
             '<td class="number" data-value=""></td>'
             if is_number and value == ""
@@ -172,7 +172,7 @@ class Writer:
         )
 
     def proof(self):
-        """What was accepted, and how to have it judged again."""
+        """The section on what mcfcheck accepted, and how to judge it again."""
         rows = "".join(
             f"<dt>{name}</dt><dd><code>{sha256_of(self.folder / name)}</code></dd>"
             for name in (self.instance, "answer.ans")
@@ -201,8 +201,8 @@ def finding(sentence, figures, cure):
 
 
 def listed_rows(rows):
-    """The rows of a table that are listed, and a note on the others: of very many those that carry
-    nothing are left out."""
+    """The rows of a table to list, and a note on the others. If there are very many rows, those
+    that carry nothing are left out."""
     if len(rows) <= LISTED:
         return rows, ""
     chosen = [row for row in rows if row[0] != "idle"][:LISTED]

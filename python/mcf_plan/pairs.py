@@ -7,16 +7,17 @@ from .words import TOLD_NAMES, count_of, listed
 
 
 class RosterNet(Network):
-    """The network of a roster: nodes are the persons, then the things; arc k is the k-th pair.
+    """The network of a roster. The nodes are the persons and then the things; arc k is the k-th
+    pair.
 
-    After them, one node more: from it an arc leads to each person, which carries how many it takes,
-    and one from each thing, which carries how many it needs.
+    An extra node follows. An arc from it to each person carries the number of things that the
+    person takes, and an arc to it from each thing carries the number of persons that it needs.
     """
 
     def __init__(self, roster):
         takes, needs = roster.takes, roster.needs
-        # As many persons as things, none has more than one, and all of one side have to have one:
-        # so have all of the other.
+        # There are as many persons as things, none has more than one, and all of one side must have
+        # one. Then all of the other side have one, too.
         self.is_assignment = (
             len(takes) == len(needs)
             and all(most == 1 for _, most in takes + needs)
@@ -36,8 +37,8 @@ class RosterNet(Network):
         super().__init__([0] * self.hub, arcs)
 
     def instance(self):
-        """The network as text, with where its lines come from; an assignment in its own form, which
-        has no such node more."""
+        """The network as text, with the origins of its lines. An assignment has its own format,
+        without the extra node."""
         table, persons = self.roster.table, self.persons
         arcs = [(table, pair.line, {"cost": pair.column}) for pair in self.roster.pairs]
         size = [(table, table.head_line, {"size": 1})]
@@ -63,7 +64,7 @@ class RosterNet(Network):
         return made
 
     def labels(self):
-        """What nodes and arcs are, for the record: only the pairs are told."""
+        """The meaning of nodes and arcs, for the record, which names only the pairs."""
         hubs = 0 if self.is_assignment else 1
         return {
             "names": self.roster.persons.names + self.roster.things.names + [None] * hubs,
@@ -81,8 +82,8 @@ class RosterNet(Network):
         )
 
     def whole(self, bottleneck):
-        """A bottleneck with the things (or persons) beside it that limit it no less than the pairs
-        that lead to them do."""
+        """A bottleneck, extended by the things (or persons) of the other side that limit it at
+        least as much as the pairs that lead to them."""
         outside = [
             self.arcs[k].head if bottleneck.side == "send" else self.arcs[k].tail
             for k in bottleneck.limiting
@@ -96,8 +97,8 @@ class RosterNet(Network):
         return self.bottleneck(bottleneck.side, set(bottleneck.nodes) | more)
 
     def sides(self, bottleneck):
-        """Those who must, with how many at least; and those by whom they can, with how many at
-        most: persons and things, or things and persons."""
+        """The nodes of the side that must, with their least numbers, and those of the other side,
+        with their greatest numbers: persons and things, or things and persons."""
         mine = {k: arc for k, arc in enumerate(self.arcs) if k >= len(self.roster.pairs)}
         node = {k: arc.head if arc.tail == self.hub else arc.tail for k, arc in mine.items()}
         must = [(node[k], mine[k].least) for k in bottleneck.forcing if k in mine]
@@ -109,7 +110,8 @@ class RosterNet(Network):
 
 
 def blocked_sentence(net, bottleneck):
-    """These persons compete for too few things, or these things want too few persons."""
+    """The sentence that these persons compete for too few things, or that these things can get too
+    few persons."""
     must, can, pairs = net.sides(bottleneck)
     names, others = [net.name(node) for node, _ in must], [net.name(node) for node, _ in can]
     is_send = bottleneck.side == "send"
@@ -138,8 +140,8 @@ def blocked_sentence(net, bottleneck):
 
 
 def write_bottlenecks(results, net, bottlenecks):
-    """Writes bottleneck.csv: of each bottleneck the column must adds up to what persons must take
-    (things need), the column can to what can be."""
+    """Writes bottleneck.csv. For each bottleneck, the column `must` sums to the number that its
+    persons must take (or its things need), and the column `can` to the number that is possible."""
     rows = []
     for count, bottleneck in enumerate(bottlenecks, 1):
         must, can, pairs = net.sides(bottleneck)
@@ -166,7 +168,7 @@ def write_bottlenecks(results, net, bottlenecks):
 
 
 def write_pairs(results, roster, chosen):
-    """Writes pairs.csv: of a list the lines of the pairs, by the persons."""
+    """Writes pairs.csv by persons, with the lines of the table if it is a list."""
     if roster.is_list:
         rows = [pair.cells for pair in chosen]
         results.table("pairs", roster.table, roster.table.titles, rows)
@@ -183,7 +185,7 @@ def write_pairs(results, roster, chosen):
 
 
 def summary(roster, chosen, cost):
-    """What a person wants to know of pairs first."""
+    """The summary of the chosen pairs."""
     which = "Pairs of the greatest value" if roster.units.sign < 0 else "Least-cost pairs"
     word = "value" if roster.units.sign < 0 else "cost"
     lines = [
@@ -204,14 +206,14 @@ def summary(roster, chosen, cost):
 
 
 def blocked_lines(net, bottlenecks):
-    """Why there are no such pairs."""
+    """Lines that say why no such pairs exist."""
     lines = ["No such pairs exist, as mcf found and mcfcheck accepted:"]
     lines += ["  " + blocked_sentence(net, bottleneck) for bottleneck in bottlenecks[:TOLD_NAMES]]
     return lines + each_hint(net.roster)
 
 
 def each_hint(roster):
-    """A line where there are more persons than things, and each person has to get one."""
+    """A hint, if there are more persons than things and each person must get one."""
     if (
         len(roster.takes) > len(roster.needs)
         and all(least == 1 for least, _ in roster.takes)

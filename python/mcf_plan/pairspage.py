@@ -44,7 +44,7 @@ def plan_page(roster, chosen, cost, lines, options):
 
 
 def blocked_page(net, bottlenecks, options):
-    """The page where no such pairs exist."""
+    """The page for a roster without such pairs."""
     findings = []
     for bottleneck in bottlenecks:
         figures = [

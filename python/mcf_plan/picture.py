@@ -1,5 +1,5 @@
-"""The picture of a scene, as SVG: boxes and arrows; of many places dots, or rows where some send
-and the others take."""
+"""The picture of a scene, as SVG. It has boxes and arrows; for many places it has dots, or rows if
+some places send and the others take."""
 from . import layout, rows
 from .dots import dots_svg
 from .drawing import (
@@ -23,9 +23,9 @@ from .drawing import (
 )
 from .room import Room
 
-# Of more places or routes than these no boxes are drawn but dots.
+# With more places or routes than these, a picture has dots instead of boxes.
 BOXES, CURVES = 300, 1500
-# How far labels may stand within boxes, beside their texts.
+# How far labels may reach into boxes, beside the text.
 INNER = 3
 
 
@@ -37,7 +37,7 @@ def svg_of(scene):
 
 
 def task_of(scene):
-    """What is to be laid out of a scene."""
+    """The task of laying out a scene."""
     spots = [node.spot for node in scene.nodes]
     starts = [number for number, node in enumerate(scene.nodes) if node.kind == "sends"]
     return layout.Task(
@@ -77,8 +77,8 @@ def boxes_svg(scene):
 
 
 def free_labels(links, boxes, labels):
-    """The labels of the routes, the widest first, where they cover no place and no other label; one
-    that finds no such spot is left out, since the arrow tells it, too."""
+    """The labels of the routes, the widest first, at spots that cover no place and no other label.
+    A label without such a spot is left out, because the arrow has the amount, too."""
     room, lines = Room(), []
     for box in boxes:
         wide, high = box.width / 2 - INNER, box.height / 2 - INNER

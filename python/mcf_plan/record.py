@@ -1,20 +1,20 @@
-"""What a folder says of itself: plan.json, by which two plans are compared, and by which a folder
-is known as one of this tool's."""
+"""The record of a folder, plan.json. The tool compares plans by it, and recognises its own
+folders."""
 import json
 import re
 
 from .page import sha256_of
 
 FORMAT = 2
-# How a record of any version begins.
+# The beginning of a record of any version.
 BEGINS = re.compile(
     r'\{\n"format": [0-9]+,\n"kind": "(flow|pairs)",\n"instance": "instance\.(min|asn)",\n'
 )
 
 
 def write_record(folder, kind, net, mark, cost=None, parts=()):
-    """Writes plan.json. Parts are lists of names with an amount; of a plan that can't be there is
-    no cost. The network says what its nodes and its arcs are."""
+    """Writes plan.json. Parts are lists of names with an amount. If no plan exists, there is no
+    cost. The network names its nodes and arcs."""
     instance = next(folder.glob("instance.*")).name
     record = {
         "format": FORMAT,
@@ -33,7 +33,7 @@ def write_record(folder, kind, net, mark, cost=None, parts=()):
 
 
 def is_record(path):
-    """Whether a file begins as a record does."""
+    """Whether a file begins like a record."""
     try:
         with open(path, encoding="utf-8") as record:
             return bool(BEGINS.match(record.read(200)))

@@ -1,4 +1,4 @@
-"""What is written and said of a flow: tables, and a summary."""
+"""The results of a flow: tables, and a summary."""
 from .amounts import Figure
 from .flownet import MISSING, STAYS, THROUGH
 from .heads import FLOW_RESULTS, PLACE_RESULTS, THROUGH_RESULTS
@@ -7,8 +7,8 @@ from .words import TOLD_NAMES, count_of, listed
 
 
 def write_flows(results, plan):
-    """Writes flows.csv: the routes in their order, with the columns that they had; then what stays
-    and what is missing."""
+    """Writes flows.csv: the routes in their order, with the columns of their table, and then what
+    stays and what is missing."""
     units, table, rows = plan.problem.units, plan.problem.route_table, []
     for route, result in zip(plan.problem.routes, plan.routes):
         free, exact = units.amount(result.free), "yes" if result.is_exact else "no"
@@ -43,8 +43,8 @@ def write_flows(results, plan):
 
 
 def write_prices(results, plan):
-    """Writes prices.csv: the places in their order, with the columns that they had. What a unit
-    costs at a place is minus its price."""
+    """Writes prices.csv: the places in their order, with the columns of their table. The cost of a
+    unit at a place is minus its price."""
     has_bounds = any(place.bounds for place in plan.problem.places)
     rows = [
         (
@@ -59,7 +59,7 @@ def write_prices(results, plan):
 
 
 def through_cells(plan, through):
-    """What passes through a place, as a route has it."""
+    """The flow through a place, in the cells of a route."""
     units = plan.problem.units
     if not through:
         return [""] * 5
@@ -73,8 +73,8 @@ def through_cells(plan, through):
 
 
 def write_bottlenecks(results, net, bottlenecks):
-    """Writes bottleneck.csv: of each bottleneck the column must adds up to what must be sent (or
-    taken), the column can to what can be."""
+    """Writes bottleneck.csv. For each bottleneck, the column `must` sums to the amount that it must
+    send (or take), and the column `can` to the amount that it can."""
     amount, rows = net.problem.units.amount, []
     for count, bottleneck in enumerate(bottlenecks, 1):
         sign = 1 if bottleneck.side == "send" else -1
@@ -100,7 +100,7 @@ def write_bottlenecks(results, net, bottlenecks):
 
 
 def arc_cells(net, k):
-    """What an arc is, as cells."""
+    """An arc, as cells."""
     return (
         ["through", net.ends(k)[0], "", ""]
         if net.uses[k].kind == "through"
@@ -117,7 +117,7 @@ def balance_of(problem):
 
 
 def slips(net):
-    """What looks like a slip of the tables, though they can be read."""
+    """Likely slips in tables that are readable."""
     supply, demand = balance_of(net.problem)
     if supply and not demand:
         stays = ", and all that is sent stays" if net.policy.unused else ""
@@ -140,7 +140,7 @@ def slips(net):
 
 
 def balance_sentence(problem):
-    """What is wrong where supplies and demands don't agree."""
+    """The sentence that total supply and total demand differ."""
     amount = problem.said.amount
     supply, demand = balance_of(problem)
     more, less, cure = (
@@ -155,7 +155,7 @@ def balance_sentence(problem):
 
 
 def bottleneck_sentence(net, bottleneck):
-    """These places must send (or take) N, and can only M, over these routes: short by N - M."""
+    """The sentence that these places must send (or take) N, but can only M, over these routes."""
     amount = net.problem.said.amount
     places = list(dict.fromkeys(net.node_name(node) for node in bottleneck.nodes))
     named = listed(places) + (" together" if len(places) > 1 else "")
@@ -176,7 +176,7 @@ def bottleneck_sentence(net, bottleneck):
 
 
 def route_text(net, k, number):
-    """A route, or what passes through a place, with an amount."""
+    """A route, or the flow through a place, with an amount."""
     name = (
         f"through {net.ends(k)[0]}" if net.uses[k].kind == "through" else " -> ".join(net.ends(k))
     )
@@ -184,7 +184,7 @@ def route_text(net, k, number):
 
 
 def blocked_summary(blocked):
-    """Why there is no plan."""
+    """The lines that say why there is no plan."""
     lines = ["No plan exists, as mcf found and mcfcheck accepted:"]
     if blocked.is_unbalanced:
         lines.append("  " + balance_sentence(blocked.net.problem))
@@ -200,7 +200,7 @@ def blocked_summary(blocked):
 
 
 def flow_summary(plan):
-    """What a person wants to know of a plan first."""
+    """The summary of a plan."""
     problem = plan.problem
     carrying = sum(1 for result in plan.routes if result.carries)
     full = sum(1 for result in plan.routes if result.free == 0)
@@ -232,7 +232,7 @@ def flow_summary(plan):
 
 
 def savings_of(plan):
-    """The routes and the places where more room would save, the greatest savings first."""
+    """The routes and places where more capacity would save cost, the greatest savings first."""
     problem = plan.problem
     found = [(problem.ends(route), result) for route, result in zip(problem.routes, plan.routes)]
     found += [
@@ -246,7 +246,7 @@ def savings_of(plan):
 
 
 def unmet_lines(plan):
-    """What stays and what is missing."""
+    """Lines on what stays and what is missing."""
     amount, policy, lines = plan.problem.said.amount, plan.net.policy, []
     for is_supply, allowed in ((True, policy.unused), (False, policy.short)):
         found = plan.unmet(is_supply)

@@ -1,5 +1,5 @@
-"""The tables that are written: as CSV like those that were read, and as a workbook where one was
-read or is asked for."""
+"""Writes the tables of results: as CSV in the format of the input, and as a workbook if the input
+is one or the options request one."""
 import csv
 
 from .amounts import Figure
@@ -17,8 +17,7 @@ class Results:
         self.sheets = [] if options.xlsx or any(table.book for table in tables) else None
 
     def table(self, name, like, heads, rows):
-        """Writes a table with the separator, and with or without the byte-order mark, of
-        another."""
+        """Writes a table with the separator and the byte-order mark, if any, of another."""
         rows = list(rows)
         with open(
             self.folder / f"{name}.csv",
@@ -35,8 +34,8 @@ class Results:
             self.sheets.append((name, heads, rows))
 
     def after(self, name, like, results, rows):
-        """Writes a table of another's columns, and of groups of results after them, for the rows of
-        which the cells of both are given."""
+        """Writes a table with the columns of another, followed by groups of results. Each row has
+        the cells of both."""
         places = like.kept(*results)
         heads = [like.titles[place] for place in places] + [
             head for group in results for head in group
@@ -49,7 +48,7 @@ class Results:
         )
 
     def cell(self, value):
-        """A cell as CSV has it."""
+        """A cell, escaped for CSV."""
         if isinstance(value, Figure):
             return value.replace(".", self.mark)
         if (
@@ -62,11 +61,11 @@ class Results:
         return value
 
     def finish(self):
-        """Writes the workbook, where there is one."""
+        """Writes the workbook, if there is one."""
         if self.sheets:
             write_workbook(self.folder / "plan.xlsx", self.sheets)
 
     @staticmethod
     def check(path):
-        """Ends the run where a workbook is asked for and can't be written."""
+        """Ends the run if a workbook is requested and can't be written."""
         openpyxl_for(path)

@@ -1,8 +1,8 @@
-"""What stands in a picture already, so that no label covers it."""
+"""The occupied parts of a picture, so that no label covers them."""
 import collections
 import math
 
-# Rectangles are kept by the squares that they touch, which are so wide.
+# The width of the squares by which rectangles are indexed.
 SQUARE = 64
 
 
@@ -13,12 +13,12 @@ class Room:
         self.taken = collections.defaultdict(list)
 
     def take(self, edges):
-        """Notes a rectangle."""
+        """Marks a rectangle as occupied."""
         for square in squares_of(edges):
             self.taken[square].append(edges)
 
     def is_free(self, edges):
-        """Whether a rectangle overlaps none of those that were noted."""
+        """Whether a rectangle overlaps no occupied one."""
         left, top, right, bottom = edges
         return not any(
             other[0] < right and left < other[2] and other[1] < bottom and top < other[3]
@@ -27,8 +27,8 @@ class Room:
         )
 
     def first(self, spots, size):
-        """The first of some spots around which a rectangle of this size is free, which is taken;
-        None where there is none."""
+        """Occupies the first spot where a rectangle of this size is free, and returns it, or None
+        if there is none."""
         wide, high = size
         for x, y in spots:
             edges = x - wide / 2, y - high / 2, x + wide / 2, y + high / 2
@@ -38,7 +38,7 @@ class Room:
         return None
 
     def bounds(self):
-        """The edges of all that was noted."""
+        """The edges of all that is occupied."""
         found = [edges for several in self.taken.values() for edges in several]
         sides = list(zip(*found))
         return min(sides[0]), min(sides[1]), max(sides[2]), max(sides[3])

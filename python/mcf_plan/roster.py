@@ -1,4 +1,4 @@
-"""Persons, things and the pairs of them that may be, as tables have them."""
+"""Persons, things and their allowed pairs, read from tables."""
 import collections
 import re
 
@@ -11,31 +11,30 @@ from .workbook import tables_of
 
 PAIR_HEADS = ("who", "what", "cost")
 PAIRS = Heads((*PAIR_HEADS, "takes", "needs"))
-# What stands in place of a cost where a pair is forbidden.
+# The cells that forbid a pair.
 FORBIDDEN = ("", "x", "-", "–", "—")
 RANGE = re.compile(r"([0-9]{1,18})(?:\s*(?:-|–|\.\.|to|bis)\s*([0-9]{1,18}))?")
-# A person and a thing by their numbers from 1, with the line and the column of the cost and the
-# cells of the line.
+# A person and a thing, both numbered from 1, with the line and the column of the cost and the cells
+# of the line.
 Pair = collections.namedtuple("Pair", "who what cost line column cells")
 
 
 class Side:
-    """The persons, or the things, each numbered from 1 in the order in which they come; how many
-    each may have, where that is said."""
+    """The persons, or the things, numbered from 1 in order of appearance, and how many each may
+    have, if a cell says so."""
 
     def __init__(self, head):
         self.head, self.names, self.numbers, self.said = head, [], {}, {}
 
     def number(self, name):
-        """The number of a name, which is new or was there."""
+        """The number of a name. A new name gets the next number."""
         if key_of(name) not in self.numbers:
             self.names.append(name)
             self.numbers[key_of(name)] = len(self.names)
         return self.numbers[key_of(name)]
 
     def say(self, at, number, cell, faults):
-        """Notes how many one may have, in a cell that isn't empty; what was said before must be the
-        same."""
+        """Notes how many one may have, from a cell that isn't empty. An earlier cell must agree."""
         found = RANGE.fullmatch(cell)
         if cell and (not found or int(found[1]) > int(found[2] or found[1])):
             faults.add(
@@ -56,12 +55,12 @@ class Side:
             )
 
     def range_of(self, number, is_each):
-        """How many one gets, at least and at most: just one of those that each have to, else at
-        most one; or what was said."""
+        """How many one gets, at least and at most: the numbers of its cell, or by default exactly
+        one if `is_each`, and otherwise at most one."""
         least, most = self.said.get(number, (None, "1"))
         if most is not None:
             return (1 if is_each else 0) if least is None else int(least), int(most)
-        # One number alone is all that a thing needs, and the most that a person takes.
+        # A single number is exactly what a thing needs, but the most that a person takes.
         return int(least) if self.head == "needs" else min(int(least), 1 if is_each else 0), int(
             least
         )
@@ -100,7 +99,7 @@ class Roster:
         ]
 
     def check_read(self, faults):
-        """Notes that no person or no thing is read, with what is."""
+        """Notes if no person or no thing was found, with what was found instead."""
         for word, side in (("thing", self.things), ("person", self.persons)):
             if not side.names:
                 lines = count_of(len(self.table.rows), "line", "lines")
@@ -118,7 +117,8 @@ class Roster:
         return carried_lines(carried) + self.numbers.told()
 
     def listed(self, faults):
-        """The pairs of a table with the columns who, what and cost, perhaps takes and needs."""
+        """The pairs of a table with the columns who, what and cost, and optionally takes and
+        needs."""
         table, pairs, seen = self.table, [], {}
         PAIRS.check(table, faults)
         table.need(PAIR_HEADS, faults)
@@ -151,8 +151,8 @@ class Roster:
         return pairs
 
     def matrix(self, faults):
-        """The pairs of a matrix: a person each row, a thing each column; perhaps a column takes and
-        a row needs."""
+        """The pairs of a matrix with a person in each row and a thing in each column, and
+        optionally a column takes and a row needs."""
         table, pairs, seen = self.table, [], {}
         takes, things = table.perhaps("takes"), self.matrix_things(faults)
         self.numbers.look(table, [place for place, _ in things])
@@ -181,7 +181,7 @@ class Roster:
         return pairs
 
     def matrix_things(self, faults):
-        """The columns of the matrix that have a thing, each with its number."""
+        """The columns of the matrix that name a thing, each with its number."""
         table, found, seen = self.table, [], {}
         for place, title in enumerate(table.titles[1:], 1):
             if table.heads[place] != "takes" and (

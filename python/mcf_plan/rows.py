@@ -1,6 +1,6 @@
-"""The picture of many places that send and others that take, as SVG: a row for each route, in
-columns. The rows of one place stand together, beside its box; that of the other end may stand
-several times."""
+"""The picture of many places that send and others that take, as SVG. Each route has a row, and the
+rows are in columns. The rows of one place are together, beside its box. The place at the other end
+may appear several times."""
 import collections
 
 from . import layout
@@ -20,10 +20,11 @@ from .drawing import (
     xml_text,
 )
 
-# Of more places than this on a side, rows are drawn. How high a row is, and a block of rows at
-# least; between blocks; between columns; how wide all may be; how many rows a block has at most.
+# With more places than MANY on a side, a picture has rows. Then: the height of a row; the least
+# height of a block; the gap between blocks; the gap between columns; the greatest width; the most
+# rows of a block.
 MANY, ROW, LEAST, GAP, APART, WIDE, LONGEST = 20, 20, 36, 8, 40, 1440, 40
-# An edge of what stands several times.
+# The edge of a place that appears several times.
 DASHED = ' stroke-dasharray="4 3"'
 
 # The rows of one place: its number, and its links.
@@ -31,8 +32,8 @@ Block = collections.namedtuple("Block", "node links")
 
 
 def are_better(scene):
-    """Whether a scene is drawn as rows: many places send or take, no route leads on from where one
-    leads to, and the places have no spots."""
+    """Whether rows suit a scene: many places send or take, no route continues from the end of
+    another, and the places have no spots."""
     tails, heads = ({link[side] for link in scene.links} for side in (0, 1))
     is_map = all(node.spot for node in scene.nodes)
     return max(len(tails), len(heads)) > MANY and not tails & heads and not is_map
@@ -55,7 +56,8 @@ def rows_svg(scene):
 
 
 class Rows:
-    """What is drawn: the places of one side, 0 that of those that send, have blocks of rows."""
+    """The content of the picture. The places of one side (0 is the side that sends) have blocks of
+    rows."""
 
     def __init__(self, scene, side):
         self.scene, self.side = scene, side
@@ -73,7 +75,7 @@ class Rows:
         self.blocking = set().union(*scene.groups)
 
     def has_several(self):
-        """Whether a place stands several times."""
+        """Whether a place appears several times."""
         return max(self.count.values()) > 1
 
     def block(self, block, left, top):
@@ -91,8 +93,8 @@ class Rows:
         return lines + [self.place(block.node, self.side, left, (top + high / 2, high))]
 
     def place(self, number, side, left, upright):
-        """The box of a place on a side of its column, by its middle and its height; one that is
-        high enough has its note, too."""
+        """The box of a place on a side of its column, by its middle and its height. A box that is
+        high enough has the note, too."""
         node, (y, high), wide = self.scene.nodes[number], upright, self.widths[side]
         x = left + (self.wide - wide / 2 if side else wide / 2)
         has_note, told = high >= LEAST and node.note, f"{node.name}: {node.note}"
@@ -112,14 +114,14 @@ class Rows:
 
 
 def name_width(node, has_note):
-    """How wide a place's texts are."""
+    """The width of a place's texts."""
     note = text_width(node.note, 11) if has_note else 0
     return max(text_width(node.short, 12), note)
 
 
 def blocks_of(scene, side):
-    """The blocks of the places on a side, and of those that no route is drawn of; of many routes
-    several, each with the widest first."""
+    """The blocks of the places on a side, and of the places without a drawn route. A place with
+    many routes has several blocks. The widest routes come first."""
     links, other = collections.defaultdict(list), {link[1 - side] for link in scene.links}
     for link in scene.links:
         links[link[side]].append(link)
@@ -133,18 +135,17 @@ def blocks_of(scene, side):
 
 
 def height_of(block):
-    """How high a block is."""
+    """The height of a block."""
     return max(LEAST, ROW * len(block.links))
 
 
 def total_of(blocks):
-    """How high blocks below one another are."""
+    """The height of blocks below one another."""
     return sum(map(height_of, blocks)) + GAP * (len(blocks) - 1)
 
 
 def columns_of(blocks, wide):
-    """Blocks in columns, which are as many as make a picture that is twice as wide as high, or as
-    fit."""
+    """Blocks in columns: as many columns as make the picture twice as wide as high, or as fit."""
     most = max(1, int((WIDE + APART) / (wide + APART)))
     for count in range(1, most + 1):
         columns = split(blocks, count)
@@ -154,7 +155,7 @@ def columns_of(blocks, wide):
 
 
 def split(blocks, count):
-    """Blocks in so many columns of about the same height."""
+    """Splits blocks into this many columns of about the same height."""
     limit = max(total_of(blocks) / count, max(map(height_of, blocks)))
     while True:
         columns = [[]]
@@ -168,5 +169,5 @@ def split(blocks, count):
 
 
 def several_swatch(x):
-    """A box of what stands several times, for the legend."""
+    """The box of a place that appears several times, for the legend."""
     return box_at(layout.Box(x + 11, -4, 22, 14), "takes", more=DASHED)

@@ -1,4 +1,4 @@
-"""What is drawn of a plan, or of what blocks one."""
+"""The content of the picture of a plan, or of the bottlenecks if no plan exists."""
 import collections
 import functools
 import os
@@ -7,26 +7,27 @@ from .caption import Figures
 from .flownet import Use
 from .report import balance_of
 
-# Of more routes than the first, those that carry nothing are left out; where no plan exists, of
-# more places than the second those that block are drawn, and those next to them.
+# With more than ALL_ROUTES routes, a picture leaves out those that carry nothing. If no plan exists
+# and there are more than NEAR places, it has only those that block and their neighbours.
 ALL_ROUTES, NEAR = 90, 60
-# How long a name in a box may be, and what stays of its beginning and its end where it is cut.
+# The greatest length of a name in a box, and the lengths of the beginning and the end of a cut
+# name.
 LONGEST, BEGIN, END = 24, 12, 11
-# A place: its name, and what stands of it in its box, what else stands there, whether it sends,
-# takes or passes on, and its spot on a map. A route: from one place to another by their numbers
-# from 0, how wide it is, its kind (a word of COLOURS), its label and what is told of it.
+# A place: its name, the text of the name in its box, a note there, whether it sends, takes or
+# passes on, and its spot on a map. A route: its two places by numbers from 0, its width, its kind
+# (a word of COLOURS), its label and its title.
 Node = collections.namedtuple("Node", "name short note kind spot")
 Link = collections.namedtuple("Link", "tail head width kind label title")
-# What is drawn: groups are sets of nodes that block, notes are what the legend says of the routes,
-# by their kinds; a caption stands above all.
+# The content of a picture: groups are sets of nodes that block, notes are the legend's texts on
+# routes by their kinds, and the caption is at the top.
 Scene = collections.namedtuple(
     "Scene", "heading nodes links groups notes caption", defaults=(None,)
 )
 
 
 def plan_scene(plan, caption):
-    """What is drawn of a plan: all routes if they aren't many, else those that carry something or
-    are shut."""
+    """The picture of a plan. It has all routes if there are few, and otherwise those that carry
+    something or are shut."""
     problem, figures = plan.problem, Figures(plan.problem)
     widest, links = max((abs(result.carries) for result in plan.routes), default=0), []
     for number, (route, result) in enumerate(zip(problem.routes, plan.routes)):
@@ -56,7 +57,7 @@ def plan_scene(plan, caption):
 
 
 def plan_link(problem, route, result, kind, widest):
-    """A route as it is drawn in a plan: one that is used its other way leads there."""
+    """A route in the picture of a plan. A route that is used backward points that way."""
     turned, figures = route.both and result.carries < 0, Figures(problem)
     carries = abs(result.carries) if turned else result.carries
     (tail, head), names = (route.tail, route.head)[:: -1 if turned else 1], problem.ends(route)[
@@ -71,8 +72,8 @@ def plan_link(problem, route, result, kind, widest):
 
 
 def blocked_scene(blocked, caption):
-    """What is drawn where no plan exists: the bottlenecks, and of many places just those and what
-    is next to them."""
+    """The picture if no plan exists. It shows the bottlenecks; if there are many places, it shows
+    only those that block and their neighbours."""
     net, problem = blocked.eased, blocked.net.problem
     amount = Figures(problem).amount
     marked = {
@@ -110,7 +111,7 @@ def blocked_scene(blocked, caption):
 
 
 def blocked_heading(blocked, unit):
-    """Why no plan exists, in a line."""
+    """The reason why no plan exists, in one line."""
     amount = functools.partial(Figures(blocked.net.problem).amount, unit=unit)
     if blocked.is_unbalanced:
         supply, demand = balance_of(blocked.net.problem)
@@ -122,7 +123,7 @@ def blocked_heading(blocked, unit):
 
 
 def limited(node, is_limited, place, amount):
-    """A place as it is drawn, with what may pass through it where that limits a bottleneck."""
+    """A place in the picture, with its bounds if they limit a bottleneck."""
     return (
         node._replace(
             note=", ".join(filter(None, [node.note, f"≤ {amount(place.bounds.most)} pass"]))
@@ -133,7 +134,7 @@ def limited(node, is_limited, place, amount):
 
 
 def near_scene(scene):
-    """The places of a scene that block, and those that a route joins with them."""
+    """The places of a scene that block, and their neighbours."""
     blocking = set().union(*scene.groups)
     near = sorted(
         blocking.union(
@@ -157,7 +158,7 @@ def near_scene(scene):
 
 
 def node_of(problem, place, short, unmet=0):
-    """A place as it is drawn."""
+    """A place for the picture."""
     kind = "sends" if place.supply > 0 else "takes" if place.supply < 0 else "passes"
     amount = Figures(problem).amount
     note = f"{kind} {amount(abs(place.supply))}" if place.supply else ""
@@ -172,7 +173,7 @@ def node_of(problem, place, short, unmet=0):
 
 
 def limits_text(problem, route):
-    """What a route carries at least and at most."""
+    """The least and the greatest amount of a route."""
     least, most = map(Figures(problem).amount, (route.least, route.most))
     if route.both:
         return f"{most or 'any amount'}, either way"
@@ -180,15 +181,15 @@ def limits_text(problem, route):
 
 
 def short_names(names):
-    """What stands of each name in its box: of long ones their beginning and their end, and of such
-    as would read alike then what is different."""
+    """The text of each name in its box. Long names keep their beginning and their end; names that
+    would look alike keep the part that differs."""
     shorts = [cut(name, len(name) - END) for name in names]
     tell_apart(names, shorts, range(len(names)), 0)
     return shorts
 
 
 def cut(name, begin):
-    """A name, where it is too long its beginning and what begins at a letter."""
+    """A name. If it is too long, its beginning and its end, which starts with a word."""
     if len(name) <= LONGEST:
         return name
     rest = name[max(BEGIN, min(begin, len(name) - END)) :]
@@ -196,8 +197,7 @@ def cut(name, begin):
 
 
 def tell_apart(names, shorts, numbers, begin):
-    """Cuts names that read alike where they begin to be different, which is farther on than a
-    letter."""
+    """Shortens names that look alike at the place where they begin to differ."""
     alike = collections.defaultdict(list)
     for number in numbers:
         alike[shorts[number]].append(number)

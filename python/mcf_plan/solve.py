@@ -1,4 +1,4 @@
-"""The two programs. Nothing is shown of what `mcf` writes before `mcfcheck` has accepted it."""
+"""Runs the two programs. Nothing that `mcf` writes is shown before `mcfcheck` has accepted it."""
 import collections
 import os
 import pathlib
@@ -10,7 +10,7 @@ import tempfile
 from . import life
 from .faults import Rejected, bad_table, trouble
 
-# A least cost, what each arc carries, and the price of each node.
+# The least cost, the flow of each arc, and the price of each node.
 Plan = collections.namedtuple("Plan", "cost flows prices")
 KINDS = {0: "flow", 1: "blocked", 2: "refusal"}
 REFUSALS = {
@@ -22,38 +22,35 @@ REFUSALS = {
     "size": "more places or routes (persons, things or pairs) than mcf takes",
 }
 OTHER_SIDE = {"send": "take", "take": "send"}
-# A flow problem of more nodes than this goes to the search that is judged: docs/BENCH.md, "What the
-# tools choose".
-LARGE = 2**14
 TOP = pathlib.Path(__file__).resolve().parents[2]
 
 
 class Instance:
-    """An instance as text, and for each of its lines the table, its line and its columns by the
-    word of a refusal."""
+    """An instance as text, and for each of its lines the origin: the table, its line, and its
+    columns by the code of a refusal."""
 
     def __init__(self, suffix):
         self.name, self.lines, self.origins = f"instance.{suffix}", [], []
 
     def add(self, lines, origins=()):
-        """Adds lines, and where they came from, as far as that is known."""
+        """Adds lines, and their origins as far as they are known."""
         self.lines += lines
         self.origins += origins
         self.origins += [None] * (len(self.lines) - len(self.origins))
 
     def options(self):
-        """The options of `mcf solve` that suit the size."""
-        _, problem, nodes, _ = next(line for line in self.lines if line.startswith("p ")).split()
-        return suited(problem, int(nodes))
+        """The options of `mcf solve` for the problem."""
+        problem = next(line for line in self.lines if line.startswith("p ")).split()[1]
+        return options_for(problem)
 
     def text(self):
         """The whole text."""
         return "\n".join(self.lines) + "\n"
 
 
-def suited(problem, nodes):
-    """The options of `mcf solve` that suit a problem of so many nodes."""
-    return ["--engine", "augment"] if problem == "min" and nodes > LARGE else []
+def options_for(problem):
+    """The options of `mcf solve` for a problem: flow problems go to `fast`, whatever their size."""
+    return ["--engine", "fast"] if problem == "min" else []
 
 
 class Programs:
@@ -64,7 +61,7 @@ class Programs:
 
     @staticmethod
     def find(name, folder):
-        """Where a program is: in the folder that was named, here or by MCF_BIN; else beside this
+        """The path of a program: in `folder` or MCF_BIN if one is given, and otherwise beside this
         tool, in the repository's bin/, or on the path."""
         folder = folder or os.environ.get("MCF_BIN")
         folders = [folder] if folder else [pathlib.Path(sys.argv[0]).resolve().parent, TOP / "bin"]
@@ -83,8 +80,8 @@ class Programs:
 
     @staticmethod
     def run(words, output):
-        """Runs a program, its standard output going to an open file, and gives its status and what
-        it said on standard error."""
+        """Runs a program with its standard output in an open file. Returns its status and its
+        standard error."""
         try:
             done = subprocess.run(
                 words, stdin=subprocess.DEVNULL, stdout=output, stderr=subprocess.PIPE
@@ -94,8 +91,8 @@ class Programs:
         return done.returncode, done.stderr.decode("utf-8", "replace").strip()
 
     def solve(self, instance, answer, *options):
-        """Has `mcf` answer the instance of one file into another. Gives its status: 0 a flow, 1 a
-        set that blocks, 2 a refusal."""
+        """Has `mcf` answer an instance file, and write to an answer file. Returns its status: 0 for
+        a flow, 1 for a blocking set, 2 for a refusal."""
         with open(answer, "wb") as output, life.doing("mcf solves"):
             status, said = self.run([self.solver, "solve", *options, str(instance)], output)
         if status not in KINDS:
@@ -103,8 +100,8 @@ class Programs:
         return status
 
     def verdict(self, instance, answer):
-        """The words of `mcfcheck` on an answer that it accepts; it ends the run where it
-        doesn't."""
+        """The words of `mcfcheck` on an accepted answer. Raises an exception if it rejects the
+        answer."""
         with tempfile.TemporaryFile() as output, life.doing("mcfcheck judges the answer"):
             status, said = self.run([self.checker, str(instance), str(answer)], output)
             output.seek(0)
@@ -126,8 +123,8 @@ def answer_lines(path, letter):
 
 
 def refused(answer, instance):
-    """The `Stop` for a refusal: it names the line of the table that the bad line of the instance
-    came from."""
+    """The `Stop` for a refusal. It names the table's line from which the faulty line of the
+    instance comes."""
     line, code = answer_lines(answer, "r")[0]
     origin = instance.origins[int(line) - 1] if int(line) <= len(instance.origins) else None
     if not origin or code not in origin[2]:
@@ -142,7 +139,7 @@ def refused(answer, instance):
 
 
 def solve(programs, folder, instance):
-    """The accepted plan of an instance, or None where no plan exists, which was accepted, too."""
+    """The plan of an instance, or None if no plan exists. `mcfcheck` accepts either answer."""
     instance_path, answer_path = folder / instance.name, folder / "answer.ans"
     instance_path.write_text(instance.text())
     status = programs.solve(instance_path, answer_path, *instance.options())
@@ -161,8 +158,8 @@ def solve(programs, folder, instance):
 def blocking_set(programs, network):
     """A set of a network that must send more than it can.
 
-    Cost scaling is asked, since its set is the least of those that must send the most beyond what
-    they can: it has nothing in it that doesn't matter.
+    Cost scaling finds it, because its set has the largest shortfall, and is the smallest of these
+    sets. So every node in it matters.
     """
     with tempfile.TemporaryDirectory() as scratch:
         instance, answer = pathlib.Path(scratch, "instance.min"), pathlib.Path(
@@ -179,7 +176,7 @@ def blocking_set(programs, network):
 
 
 def check_set(programs, instance_path, side, nodes):
-    """Has `mcfcheck` accept that a set blocks: what isn't accepted isn't shown."""
+    """Has `mcfcheck` accept that a set blocks. Ends the run if it doesn't."""
     with tempfile.TemporaryDirectory() as scratch:
         answer = pathlib.Path(scratch, "answer.ans")
         answer.write_text(
@@ -191,8 +188,8 @@ def check_set(programs, instance_path, side, nodes):
 def bottlenecks_of(programs, instance_path, network, hub=None, whole=None):
     """The bottlenecks of a balanced network without a plan, each accepted by `mcfcheck`.
 
-    They are told from the side, of those that send and those that take, that has fewer nodes; and
-    from the side of the cut on which no hub is. `whole` adds to one what belongs to it.
+    Each bottleneck is the sending or the taking set, whichever has fewer nodes, and the side of the
+    cut without the hub. `whole` extends a bottleneck by what belongs to it.
     """
     choices = []
     for side, turned in (("send", network), ("take", network.turned())):

@@ -1,4 +1,4 @@
-"""Tables: read from files, and found by the heads of their columns."""
+"""Reads tables from files, and finds columns by their heads."""
 import collections
 import csv
 import io
@@ -9,12 +9,12 @@ import unicodedata
 from .faults import At, Faults, bad_table, shown
 from .words import listed
 
-# How tables are read: the mark before decimals, the encoding, and own heads by those that are
-# wanted.
+# How to read tables: the mark before decimals, the encoding, and the user's heads by the wanted
+# ones.
 Reading = collections.namedtuple("Reading", "decimal encoding heads", defaults=(None, None, {}))
 
-# What is no part of a cell at its ends, as in the page: a mark of byte order stands within a file
-# that was put together of several.
+# The characters to strip from the ends of a cell, the same as in the page. A byte-order mark is
+# within a file that was joined from several.
 BLANKS = (
     "\t\n\v\f\r"
     " \u00a0\u1680\u2000\u2001\u2002\u2003\u2004\u2005\u2006\u2007\u2008\u2009\u200a"
@@ -24,9 +24,9 @@ CONTROL = re.compile("[\x00-\x1f\x7f-\x9f]")
 SEPARATOR_LINE = re.compile(r'"?sep=([^" ])"?\s*', re.IGNORECASE)
 # The separators that heads show by themselves.
 SEPARATORS = ",;\t"
-# In how many lines heads are looked for that aren't in the first.
+# The number of lines to search for heads.
 LOOKED = 10
-# What other files begin with.
+# The first bytes of other kinds of files.
 OTHER_FILES = {
     b"\x1f\x8b": "this is compressed (gzip): unpack it first",
     b"\xd0\xcf\x11\xe0": "this is an old Excel workbook: save it as .xlsx, or as CSV UTF-8",
@@ -36,7 +36,7 @@ csv.field_size_limit(1 << 30)
 
 
 def is_workbook(data):
-    """Whether bytes are those of an Excel workbook, or of another zip archive."""
+    """Whether bytes begin like an Excel workbook or another zip archive."""
     return data[:4] == b"PK\x03\x04"
 
 
@@ -53,8 +53,8 @@ def bytes_of(path):
 
 
 def text_of(path, data, encoding):
-    """The text of a file. What isn't UTF-8, and hasn't its encoding named, is read as Windows-1252
-    with a fault: that it isn't."""
+    """The text of a file. If the file isn't UTF-8 and no option names an encoding, reads it as
+    Windows-1252 and notes a fault."""
     if data[:2] in (b"\xff\xfe", b"\xfe\xff"):
         encoding = "utf-16"
     try:
@@ -102,7 +102,8 @@ def records_of(text, separator, name):
 
 
 class Table:
-    """A table: its heads, and its rows as lines and cells. It is written as it was read."""
+    """A table: its heads, and its rows as lines and cells. Results are written in the same
+    format."""
 
     def __init__(self, name, records, reading, separator=",", mark=True):
         self.name, self.separator, self.mark, self.book = name, separator, mark, None
@@ -120,8 +121,8 @@ class Table:
 
     @classmethod
     def of_text(cls, path, data, wanted, reading, faults):
-        """The table of a file of text. The separator is the one that the file names, or that gives
-        most of the heads."""
+        """The table of a text file. Its separator is the one that the file names, or the one that
+        gives most of the wanted heads."""
         text, wrong = text_of(path, data, reading.encoding)
         text = text.replace("\r\n", "\n").replace("\r", "\n")
         first = next((line for line in text.split("\n") if line.strip()), "")
@@ -145,7 +146,7 @@ class Table:
         return table
 
     def need(self, wanted, faults, hint="wanted are"):
-        """Notes the columns that are wanted and aren't there, or are there twice."""
+        """Notes wanted columns that are missing or that occur twice."""
         lacking = [head for head in wanted if head not in self.heads]
         if lacking:
             below = self.line_with([self.own.get(head, head) for head in lacking])
@@ -166,7 +167,7 @@ class Table:
                 )
 
     def line_with(self, heads):
-        """The line, of the first ones below the heads, that has these, however it was split."""
+        """The first line that has these heads, with any separator, a little below the heads."""
         for line, cells in self.rows[:LOOKED]:
             found = {cell.strip(BLANKS).casefold() for cell in re.split("[,;\t]", ",".join(cells))}
             if {head.casefold() for head in heads} <= found:
@@ -174,26 +175,26 @@ class Table:
         return None
 
     def heads_text(self):
-        """The heads as they were read, the first ones of many."""
+        """The heads in the spelling of the table, only the first ones if there are many."""
         return f"{listed(list(map(shown, self.titles)))} (split at {shown(self.separator)})"
 
     def columns(self, wanted):
-        """The places of the columns with these heads, each of which has to be there once."""
+        """The places of the columns with these heads. Each must occur once."""
         faults = Faults()
         self.need(wanted, faults)
         faults.end()
         return [self.heads.index(head) for head in wanted]
 
     def perhaps(self, head):
-        """The place of a column that may be there, or None."""
+        """The place of an optional column, or None."""
         return self.columns([head])[0] if head in self.heads else None
 
     def has(self, wanted):
-        """Whether there are columns with all these heads."""
+        """Whether all these heads have columns."""
         return set(wanted) <= set(self.heads)
 
     def check_widths(self, faults):
-        """Notes the cells that stand beyond the last head."""
+        """Notes cells beyond the last head."""
         for line, cells in self.rows:
             for place in range(len(self.titles), len(cells)):
                 if cells[place]:
@@ -205,26 +206,26 @@ class Table:
                     )
 
     def kept(self, *results):
-        """The places of the columns that results are written after: all but those of earlier
-        results, which are there as a whole if they are."""
+        """The places of the columns that results keep: all except groups of earlier results, if the
+        table has a group completely."""
         titles = [title.casefold() for title in self.titles]
         gone = {head for heads in results if set(heads) <= set(titles) for head in heads}
         return [place for place, title in enumerate(titles) if title not in gone]
 
 
 def rank_of(line, separator, known):
-    """How well a separator suits the line of the heads."""
+    """The rank of a separator by how well it splits the line of the heads."""
     heads = [head.strip(BLANKS).strip('"').casefold() for head in line.split(separator)]
     return len(set(heads) & known), len(heads)
 
 
 def cell_at(cells, place):
-    """The cell at a place of a row, empty where the row is shorter or there is no such place."""
+    """The cell at a place of a row, empty if the row is shorter or the place is None."""
     return cells[place] if place is not None and place < len(cells) else ""
 
 
 def name_in(table, line, head, cell, faults):
-    """The name that a cell has: any text of one line that isn't empty."""
+    """The name in a cell: any nonempty text of one line."""
     if not cell:
         faults.add(At(table, line, head), "empty name", "the name is empty")
     elif CONTROL.search(cell):
@@ -238,12 +239,12 @@ def name_in(table, line, head, cell, faults):
 
 
 def key_of(name):
-    """What a name is compared by: accents written in two ways are the same."""
+    """The key for comparing names. Different encodings of an accent have the same key."""
     return name if name.isascii() else unicodedata.normalize("NFC", name)
 
 
 def once(at, key, text, seen, faults):
-    """Notes a fault where the key was seen on an earlier line; else remembers it."""
+    """Notes a fault if an earlier line has the same key, and otherwise remembers the key."""
     if key in seen:
         faults.add(
             at,

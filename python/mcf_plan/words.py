@@ -1,11 +1,11 @@
 """Sentences for people."""
 
-# How many names a sentence has.
+# The most names in a sentence.
 TOLD_NAMES = 8
 
 
 def listed(texts, most=TOLD_NAMES):
-    """Some texts with commas between them, and how many more there are."""
+    """The first texts, separated by commas, and the number of the others."""
     more = len(texts) - most
     return ", ".join(texts[:most]) + (f" and {more} more" if more > 0 else "")
 
@@ -16,7 +16,7 @@ def count_of(number, one, many):
 
 
 def line_of(text):
-    """A text of the command line, or the name of a file, in one line that a page can have: with "?"
-    for bytes that are no text."""
+    """A text of the command line, or the name of a file, as one line that a page can show. Bytes
+    that aren't text become "?"."""
     text = "".join(" " if ord(c) < 32 or ord(c) == 127 else c for c in text)
     return text.encode("utf-8", "replace").decode("utf-8").strip()

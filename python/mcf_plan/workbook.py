@@ -1,5 +1,5 @@
-"""Excel workbooks, where openpyxl is there: read by sheets, and written with the same sheets as
-there are tables."""
+"""Reads and writes Excel workbooks, if openpyxl is installed. A written workbook has a sheet for
+each table."""
 import decimal
 import io
 
@@ -9,8 +9,8 @@ from .tables import Table, bytes_of, is_workbook
 
 
 def tables_of(paths, wanted, reading, faults):
-    """The tables of some files, each with the heads that are wanted of it; a workbook has the
-    sheets of those that aren't named."""
+    """The tables of some files, each with its wanted heads. Tables without a file are sheets of the
+    workbook."""
     found, books = [], {}
     for path, heads in zip(list(paths) + [paths[-1]] * (len(wanted) - len(paths)), wanted):
         data = bytes_of(path)
@@ -32,8 +32,7 @@ def tables_of(paths, wanted, reading, faults):
 
 
 def note_lacking(tables, head, own, faults):
-    """Notes that no table has a column of the planner's; if a line below the heads has it, of that
-    table."""
+    """Notes if no table has a column that the options name, or if a line below the heads has it."""
     table = next((table for table in tables if table.line_with([own])), tables[-1])
     below, others = table.line_with([own]), [other.name for other in tables if other is not table]
     where = (
@@ -65,7 +64,7 @@ def sheets_of(path, data):
             openpyxl.load_workbook(io.BytesIO(data), data_only=data_only)
             for data_only in (True, False)
         )
-    except Exception as error:  # What openpyxl raises is anything.
+    except Exception as error:  # openpyxl raises exceptions of any kind.
         raise bad_table(
             f"{path}: this can't be read as an Excel workbook: {' '.join(str(error).split())}"
         )
@@ -94,8 +93,8 @@ def records_of(name, sheet, formulas):
 
 
 def text_of_cell(value):
-    """A cell as text. A number has the fifteen digits that a spreadsheet has of it, where a sum of
-    tenths is exact; a date is one, and no number."""
+    """A cell as text. A number has the fifteen digits of a spreadsheet, so that a sum of tenths is
+    exact. A date stays a date, not a number."""
     if value is None:
         return ""
     if isinstance(value, float):
@@ -106,7 +105,7 @@ def text_of_cell(value):
 
 
 def sheet_with(path, sheets, wanted, reading):
-    """The table of the sheet that has most of the heads that are wanted."""
+    """The table of the sheet that has most of the wanted heads."""
     own = {reading.heads.get(head, head).casefold() for head in wanted}
     ranked = [
         (len(own & {cell.casefold() for cell in records[0][1]}), -number)
@@ -122,8 +121,8 @@ def sheet_with(path, sheets, wanted, reading):
 
 
 def write_workbook(path, sheets):
-    """Writes a workbook of titles with heads and rows: numbers as numbers, all else as text, so
-    that nothing is a formula."""
+    """Writes a workbook of titles with heads and rows. Numbers stay numbers, and everything else is
+    text, so that nothing is a formula."""
     openpyxl = openpyxl_for(path)
     book = openpyxl.Workbook()
     book.remove(book.active)

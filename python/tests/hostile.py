@@ -206,7 +206,7 @@ class Numbers(unittest.TestCase):
         chance, seen = random.Random(1), collections.Counter()
         for _ in range(4000):
             supplies, arcs = problem_of(chance)
-            engine = chance.choice(("auto", "scaling", "augment", "cancel"))
+            engine = chance.choice(("auto", "scaling", "fast", "cancel"))
             seen[self.kind_of(supplies, arcs, engine)] += 1
         for kind in ("flow", "blocked", "supply", "node", "bound", "order", "cost"):
             self.assertGreater(seen[kind], 20, seen)
@@ -464,7 +464,7 @@ class Texts(unittest.TestCase):
                 )
             kind, answer = mcf.solve_text(
                 text,
-                engine=chance.choice(("auto", "augment", "scaling")),
+                engine=chance.choice(("auto", "fast", "scaling")),
                 form=chance.choice((1, 2)),
             )
             verdict = mcf.check_text(text, answer)

@@ -165,7 +165,7 @@ class Solving(unittest.TestCase):
         self.assertEqual((r.flow, r.cost), ([0.1, 0.2, 0], 0.55))
 
     def test_engines(self):
-        for engine in ("auto", "cancel", "simplex", "scaling", "sap", "augment"):
+        for engine in ("auto", "cancel", "simplex", "scaling", "sap", "fast"):
             for pricing in ("first", "best", "block", "wide"):
                 r = mcf.solve(
                     [5, 0, -5],
@@ -179,13 +179,12 @@ class Solving(unittest.TestCase):
             with self.assertRaises(ValueError):
                 mcf.solve([0], [], **options)
 
-    def test_what_suits_a_size(self):
-        many, suited = 2**14 + 1, mcf._solving.suited
+    def test_what_solves_a_flow_problem(self):
+        many, chosen = 2**14 + 1, mcf._solving.flow_choice
         for choice, engine, pricing, block in (
-            (suited(many - 1), 0, 0, 0),
-            (suited(many), 5, 0, 0),
-            (suited(many, block=64), 0, 0, 64),
-            (suited(many, "scaling", "first"), 3, 1, 0),
+            (chosen(), 5, 0, 0),
+            (chosen(block=64), 0, 0, 64),
+            (chosen("scaling", "first"), 3, 1, 0),
         ):
             self.assertEqual(
                 (choice.engine, choice.pricing, choice.block), (engine, pricing, block)

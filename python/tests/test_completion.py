@@ -99,7 +99,7 @@ class Bash(unittest.TestCase):
         self.assertEqual(bash("/usr/bin/mcf", "s"), ["solve"])
         self.assertEqual(bash("mcf", "solve", "--engine", "s"), ["simplex", "scaling", "sap"])
         self.assertEqual(bash("mcf", "solve", "--pricing", "=", "b"), ["best", "block"])
-        self.assertEqual(bash("mcf", "solve", "--form", "="), ["1", "2"])
+        self.assertEqual(bash("mcf", "solve", "--form", "="), ["full", "sparse", "1", "2"])
         self.assertEqual(bash("mcf_plan", ""), ["flow", "pairs", "diff"])
         for words in (
             ("mcfcheck", ""),

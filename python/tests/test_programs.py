@@ -1,7 +1,5 @@
 """Programs that are missing, that fail, or that say what isn't so."""
-import re
 import shutil
-from unittest import mock
 
 from mcf_plan import solve
 from mcf_plan.solve import Programs as Found
@@ -63,11 +61,8 @@ class Programs(WithFolder):
         self.assertEqual((status, said), (3, ""))
         self.assertIn("MCFCHECK SAYS NO: rejected node", told)
 
-    def words_for(self, large):
-        """The options that `mcf` is given for a plan of three places, where so many are not
-        large."""
+    def test_a_plan_goes_to_fast(self):
         words = self.folder / "words"
-        words.unlink(missing_ok=True)
         script(
             self.folder / "mcf",
             (
@@ -76,25 +71,15 @@ class Programs(WithFolder):
             ),
         )
         shutil.copy(Found(None).checker, self.folder / "mcfcheck")
-        with mock.patch.object(solve, "LARGE", large):
-            self.assertEqual(self.flow(PLACES, ROUTES, "--programs", self.folder)[0], 0)
-        return words.read_text() if words.exists() else ""
+        self.assertEqual(self.flow(PLACES, ROUTES, "--programs", self.folder)[0], 0)
+        self.assertEqual(words.read_text(), "--engine fast\n")
 
-    def test_a_large_plan_goes_to_the_search_that_is_judged(self):
-        self.assertEqual(self.words_for(2), "--engine augment\n")
-        self.assertEqual(self.words_for(3), "")
-
-    def test_which_engine_suits_a_size(self):
+    def test_which_engine_a_problem_goes_to(self):
         for line, options in (
-            (f"p min {2**14} {2**17}", []),
-            (f"p min {2**14 + 1} {2**17}", ["--engine", "augment"]),
+            ("p min 3 3", ["--engine", "fast"]),
+            (f"p min {2**14 + 1} {2**17}", ["--engine", "fast"]),
             (f"p asn {2**17} {2**18}", []),
         ):
             instance = solve.Instance("min")
             instance.add(["c a remark", line])
             self.assertEqual(instance.options(), options, line)
-
-    def test_the_module_and_the_page_choose_by_the_same_size(self):
-        for path in ("python/mcf/_solving.py", "page/module.js"):
-            exponents = re.findall(r"LARGE = 2 ?\*\* ?(\d+)", (solve.TOP / path).read_text())
-            self.assertEqual([2 ** int(exponent) for exponent in exponents], [solve.LARGE], path)
