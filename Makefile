@@ -1,24 +1,25 @@
 # make        proves and builds the programs into bin/ and runs them on examples/
-# make test   every proof, the tests, the programs, the tools: what a change must pass; the edits aside
-# make edits  every edit that must fail, in groups, and what shows that none is taken for refused that isn't; after make
-# make memory-test   refuses each allocation of the tests of a few worked rows in turn, with ALL=1 of every test
-# make lint   formatters and linters over Python, JavaScript, shell and C, those that are there
-# make quick  what takes seconds over what is built, and rt check of the crates that changed: under five minutes
-# make clean  takes away what was proved and built: bin/, bench/out/, and out/ of each crate
-# make bench  the measurements of bench/
-# make tools-test   the tests of python/ and tools/, on the plans of examples/plans/ too, and of make install and make uninstall: needs the programs of bin/ and Python 3.8; a part of make test
+# make test   runs the proofs and tests that a change must pass, besides make edits
+# make edits  tries every edit that must fail, and tests the script that does so; run make first
+# make memory-test   refuses each allocation of a few tests in turn; with ALL=1, of every test
+# make lint   runs the installed formatters and linters for Python, JavaScript, shell and C
+# make quick  runs the fast checks, and rt check of the changed crates: under five minutes
+# make clean  removes what was proved and built: bin/, bench/out/, and out/ of each crate
+# make bench  runs the measurements of bench/
+# make tools-test   tests python/, tools/ and make install; needs bin/ and Python 3.8
 # make library      proves and builds the library for C: bin/libmcf.so, bin/libmcf.a and bin/mcf.h
-# make library-test the library called from C, Rust and Python, and its header read by C++, where these are there; four minutes at most
-# make dist         packs programs, tools, library and Python module into bin/dist/, as a .deb, a wheel and a tar.gz
-# make dist-test    installs these packages where nothing of the repository is, and runs them: needs debootstrap and root for the .deb
-# make page         the page that solves, bin/mcf.html: needs rt, Binaryen and LLVM's library of builtins for wasm64
-# make page-test    clicks through that page in headless Chromium and Firefox, where these are there, by node: a minute
-# make install      puts the programs, the tools, the manual pages and the completion of the shells, and the library, its Python package and the page where they are built, under PREFIX (and DESTDIR before it); make uninstall removes just these
+# make library-test tests the library from C, C++, Rust and Python: at most four minutes
+# make dist         packs programs, tools and library into bin/dist/: a .deb, a wheel and a tar.gz
+# make dist-test    tests these packages elsewhere; the .deb needs debootstrap and root
+# make page         builds the page bin/mcf.html; needs rt, Binaryen and LLVM's wasm64 builtins
+# make page-test    tests the page in headless Chromium and Firefox, by node: a minute
+# make install      installs everything that is built under PREFIX, with DESTDIR before it
+# make uninstall    removes exactly what make install installs
 
 .PHONY: all kit lint quick test edits memory-test clean bench tools-test library library-test dist dist-test page page-test install install-library uninstall
 .NOTPARALLEL:
 
-# The programs among the crates that crates.txt lists; the log is bin/proofs.log.
+# Builds the programs among the crates of crates.txt. The log is bin/proofs.log.
 all: kit
 	@scripts/build.py
 	@scripts/examples.sh
@@ -26,7 +27,8 @@ all: kit
 kit:
 	@command -v rt >/dev/null || { echo "make: rt isn't on the path; it comes with the Rattle kit, whose first page is START-HERE.md at the top of the kit's folder" >&2; exit 1; }
 
-# First, whether docs/ says what the code and the spec files say, and whether `mcf --version` names the logic of the kit that is used.
+# First checks that docs/ agrees with the code and the spec files, and that `mcf --version` names
+# the logic of this kit.
 test: kit
 	@scripts/documents.py check
 	@grep -qF "with Rattle, $$(rt version | sed 's/.* logic /logic /')\\n" crates/mcf_suite/src/version.rt || { echo "make test: crates/mcf_suite/src/version.rt names another logic than: $$(rt version)" >&2; exit 1; }
@@ -36,18 +38,20 @@ test: kit
 	@$(MAKE) --no-print-directory tools-test
 	@scripts/page_test.sh
 
-# Stands on the libraries that make, or make test, leaves, and tries what changed since the last time.
+# Uses the libraries that make or make test built, and tries only what changed since the last time.
 edits: kit
 	@scripts/edits_test.py
 	@scripts/edits.py
 
-# Each allocation refused in turn on a few worked rows, and with ALL=1 in every test: the tests are proved and built first, which takes as long as make.
-WITH_TESTS = mcf_suite_tests mcf_text_tests mcf_tests mcf_engine_tests
+# Refuses each allocation in turn in tests of a few worked rows, or with ALL=1 in every test. It
+# proves and builds the tests first, which takes as long as make.
+WITH_TESTS = mcf_suite_tests mcf_text_tests mcf_net_tests mcf_tests mcf_engine_tests mcf_matrix_tests mcf_plan_tests
 memory-test: kit
 	@python3 scripts/refuse_memory.py $(if $(ALL),,--only six_rows) $(WITH_TESTS)
 
 lint:
 	@scripts/documents.py check
+	@scripts/comments.py check
 	@scripts/words.py check
 	@scripts/pictures.py check
 	@scripts/allocations.py
@@ -72,7 +76,7 @@ library: kit
 library-test:
 	@scripts/library_test.sh
 
-# Nothing is built here either: what `make` and `make library` left in bin/ is packed.
+# Builds nothing: it packs the results of `make` and `make library` in bin/.
 dist:
 	@scripts/dist.py
 
@@ -100,7 +104,7 @@ LIB = $(DESTDIR)$(PREFIX)/lib
 INCLUDE = $(DESTDIR)$(PREFIX)/include
 VERSION = $(shell sed -n 's/.*"mcf \([0-9.]*\).*/\1/p' crates/mcf_suite/src/version.rt)
 
-# Nothing is built here, so that what was proved by one user can be installed by another.
+# Builds nothing, so that one user can install what another user proved.
 install:
 	@test -x bin/mcf && test -x bin/mcfcheck || { echo "make install: bin/mcf and bin/mcfcheck aren't there; run make first" >&2; exit 1; }
 	install -d "$(BIN)" "$(MAN)" "$(BASH)" "$(ZSH)" $(PACKAGES:%="$(PYTHON)/%")

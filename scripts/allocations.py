@@ -14,18 +14,17 @@ from pathlib import Path
 
 TOP = Path(__file__).resolve().parent.parent
 
-# The places that request an allocator, and how often: a table of arcs that becomes wide requests
-# that of its narrow form.
+# The places that request an allocator, and how often. A table of arcs that becomes wide requests
+# the allocator of its narrow form.
 ALLOCATORS = {"mcf_flows/src/arc_table.rt": 2}
 
-# The places that ignore a result: memory is reserved at the start, and the call is made only if it
-# suffices.
+# The places that ignore a result. They reserve memory at the start, and call only if it suffices.
 DROPPED = {
     "mcf_engine/src/heap.rt": "self.entries.push",
     "mcf_offers/src/offers.rt": "self.heap.push",
 }
 
-# The project's own calls that share the name of one that grows, and return nothing.
+# The project's own calls that share a name with a growing call, but return nothing.
 OWN = {
     "done.insert",
     "matching.extend",

@@ -31,7 +31,7 @@ COPY = BIN / "proofs"
 LOG = BIN / "proofs.log"
 # The gate takes libraries in out/rlib/ of a crate alone.
 LIBRARIES = TOP / "crates" / "mcf_c" / "out" / "rlib"
-# The words of one run of each program that is handed to users, which ends with status 0.
+# The example on which each program that users get runs once. The run must end with status 0.
 EXAMPLE = "examples/transport"
 WORDS = {"mcfcheck": [EXAMPLE + ".min", EXAMPLE + ".ans"], "mcf": ["solve", EXAMPLE + ".min"]}
 
@@ -107,8 +107,8 @@ def stale(names):
 
 
 class Progress:
-    """Lines after the time passed; on a terminal, each replaces the previous one, unless that
-    stays."""
+    """Prints lines with the elapsed time. On a terminal, each line replaces the previous one,
+    unless that one stays."""
 
     def __init__(self):
         self.begun = time.time()
@@ -122,7 +122,7 @@ class Progress:
         self.is_open = self.live
 
     def tell(self, text):
-        """A line that stays."""
+        """Prints a line that stays."""
         self.show(text)
         self.end()
 
@@ -151,8 +151,8 @@ def copy_crates(names):
 
 
 def put(name):
-    """Puts the built files of a crate where they belong, and runs it, if it is a program. Returns
-    whether it ended well."""
+    """Puts the built files of a crate where they belong, and runs it if it is a program. Returns
+    whether that succeeded."""
     made = COPY / "crates" / name / "out"
     if (made / name).is_file():
         shutil.copy(made / name, BIN / f"{name}.new")
@@ -174,8 +174,8 @@ def put_tests(name):
 
 
 def run(name):
-    """Runs a program on the example, or without words if users don't get it. Returns whether it
-    ended well."""
+    """Runs a program on the example, or without words if users don't get it. Returns whether that
+    succeeded."""
     return (
         subprocess.run(
             [BIN / name, *WORDS.get(name, [])], cwd=TOP, stdout=subprocess.DEVNULL
@@ -228,8 +228,8 @@ def take(name, left, progress):
 
 
 def renew(programs):
-    """Runs programs that are built from the current sources, and gives them today's time. Returns
-    whether all exist and end well."""
+    """Runs programs that are built from the current sources, and updates their times. Returns
+    whether all exist and succeed."""
     if not all(run(name) for name in programs):
         return False
     for name in programs:

@@ -54,7 +54,7 @@ STEPS = (
 
 
 def lacking(step: Step) -> Optional[str]:
-    """The first missing tool of the step."""
+    """The first missing tool of a step, or None."""
     for names in step.tools:
         if not any(shutil.which(name) for name in names):
             return f"there is no {' or '.join(names)}"
@@ -99,14 +99,14 @@ def changed() -> List[str]:
 
 
 def quick() -> List[Step]:
-    """The steps that take seconds, and the checks of changed crates."""
+    """The steps of `--quick`: those that take seconds, and the checks of changed crates."""
     check = "cd crates/{} && rt check"
     checks = [Step(f"{name}", ("sh", "-c", check.format(name)), KIT) for name in changed()]
     return [LINT, TOOLS, PAGE, *checks]
 
 
 def table(results: List[Result]) -> None:
-    """A line for each step, and for each thing that wasn't run."""
+    """Prints a line for each step, and for each thing that wasn't run."""
     print("\nci: step | result | minutes")
     for result in results:
         print(f"ci: {result.step.name} | {result.status} | {result.minutes:.1f}")

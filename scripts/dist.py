@@ -1,13 +1,14 @@
 #!/usr/bin/env python3
-"""Packs what `make` and `make library` left in bin/: a tar.gz, a .deb if dpkg-deb is installed, and
-a wheel, with PROVENANCE and SHA256SUMS beside them.
+"""Packs the results of `make` and `make library` in bin/ as a tar.gz, a .deb (if dpkg-deb is
+installed) and a wheel, with PROVENANCE and SHA256SUMS beside them.
 
-It builds nothing. The packages contain what `make install` installs; packaging/ has their texts.
-The same commit with the same programs and the same tools gives the same bytes: times are the
-commit's, owners are root, files are in order.
+The script builds nothing. The packages contain what `make install` installs; packaging/ has their
+texts. The same commit with the same programs and the same tools gives the same bytes: times are
+those of the commit, owners are root, and files are sorted.
 
-Usage: scripts/dist.py [FOLDER]      into bin/dist, which it replaces, or into a folder that doesn't
-exist yet
+Usage: scripts/dist.py [FOLDER]
+
+Without FOLDER the script replaces bin/dist. FOLDER must not exist yet.
 """
 import base64
 import gzip
@@ -26,10 +27,10 @@ import zipfile
 TOP = pathlib.Path(__file__).resolve().parent.parent
 BIN = TOP / "bin"
 PACKAGING = TOP / "packaging"
-# The targets that leave something in bin/, each with the line of its kit in bin/PART.kit.
+# The targets that build parts of bin/. Each leaves the line of its kit in bin/PART.kit.
 TARGETS = {"programs": "make", "library": "make library", "page": "make page"}
-# What is packed of bin/, the part that it is of, and what it is made of. The page alone may be left
-# out.
+# The packed files of bin/, the part that each belongs to, and its sources. Only the page may be
+# missing.
 BUILT = {
     "mcf": ("programs", "crates/"),
     "mcfcheck": ("programs", "crates/"),
@@ -75,7 +76,7 @@ def read_version():
 
 
 def look(version, proved):
-    """Stops if bin/ lacks something, or has files that can't belong to this commit."""
+    """Stops if bin/ lacks a file, or has files that can't belong to this commit."""
     if (platform.system(), platform.machine()) != ("Linux", "x86_64"):
         stop("packages are for Linux on x86-64, and made there")
     for name, (part, *sources) in BUILT.items():
@@ -97,8 +98,8 @@ def look(version, proved):
 
 
 def kits(proved):
-    """A line for each packed part, with the line of the kit that built it; its logic is that of the
-    proof."""
+    """A line for each packed part, with the line of the kit that built it. Each kit must have the
+    logic of the proof."""
     said = []
     for part in sorted({part for name, (part, *_) in BUILT.items() if (BIN / name).is_file()}):
         file = BIN / f"{part}.kit"
@@ -113,7 +114,7 @@ def kits(proved):
 
 
 def libc(*paths):
-    """The oldest C library, as 2.N, with every symbol that these files need from it."""
+    """The oldest version of the C library, as 2.N, that has all symbols that these files need."""
     return max(int(n) for path in paths for n in re.findall(rb"GLIBC_2\.(\d+)", path.read_bytes()))
 
 
@@ -125,13 +126,13 @@ def filled(path, **words):
 
 
 def put(path, text):
-    """Writes a file, and makes its folder."""
+    """Writes a file, and makes its folder first."""
     path.parent.mkdir(parents=True, exist_ok=True)
     path.write_text(text)
 
 
 def stage(tree, provenance):
-    """Installs everything into a folder, as below /usr."""
+    """Installs everything into a folder, with usr/ for /usr."""
     shared = tree / "usr/share"
     words = [
         "make",
@@ -148,7 +149,7 @@ def stage(tree, provenance):
 
 
 def pack_tar(tree, path, top, at):
-    """A tar.gz of what is below usr/, in a relocatable folder."""
+    """Packs the files below usr/ as a tar.gz with a relocatable folder."""
     pc = tree / "lib/pkgconfig/mcf.pc"
     installed = pc.read_text()
     pc.write_text(installed.replace("prefix=/usr\n", "prefix=${pcfiledir}/../..\n"))
@@ -172,7 +173,8 @@ def pack_tar(tree, path, top, at):
 
 
 def pack_deb(tree, path, version, at):
-    """A Debian package: the Python module and zsh's completion go where Debian looks for them."""
+    """Packs a Debian package. The Python module and zsh's completion go where Debian expects
+    them."""
     packages = tree / "usr/lib/python3/dist-packages"
     packages.mkdir(parents=True)
     (tree / "usr/share/mcf/python/mcf").rename(packages / "mcf")
@@ -205,7 +207,7 @@ def pack_deb(tree, path, version, at):
 
 
 def pack_wheel(folder, version, provenance, at):
-    """A wheel of the module with the library beside it. Returns its path."""
+    """Packs a wheel of the module with the library beside it. Returns its path."""
     needed = libc(BIN / "libmcf.so.1")
     tag = f"py3-none-{'manylinux2014' if needed <= 17 else f'manylinux_2_{needed}'}_x86_64"
     about = f"yokdelm-{version}.dist-info"

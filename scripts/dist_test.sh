@@ -13,7 +13,7 @@ top=$PWD
 dist=$top/bin/dist
 failed=0
 export PYTHONDONTWRITEBYTECODE=1
-# Run what is packed, and no other module or library.
+# The test must run the packed module and library, and no others.
 unset PYTHONPATH MCF_LIBRARY
 
 skip() { echo "dist-test: skipped: $1"; }
@@ -120,7 +120,7 @@ tarball() {
     fi
 }
 
-# Each package of bin/dist/ has its checksum, and another run gives the same bytes.
+# Each package of bin/dist/ must match its checksum, and another run must give the same bytes.
 same() {
     step "sums" sh -c "cd '$dist' && sha256sum -c --strict SHA256SUMS"
     step "packed again" scripts/dist.py "$scratch/again"

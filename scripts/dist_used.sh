@@ -1,6 +1,6 @@
 #!/bin/sh
-# Runs the programs and the tools of the path, for scripts/dist_test.sh, on the examples of one
-# folder, with results in another: each package must pass.
+# Runs the programs and the tools of the path on the examples of one folder, with results in
+# another. scripts/dist_test.sh calls it for each package.
 #
 #     scripts/dist_used.sh EXAMPLES FOLDER
 set -eu

@@ -40,7 +40,7 @@ def wrapped(text):
 
 
 def words(text):
-    """The names in a text, each once, in their order."""
+    """The names in a text, each once, in order of appearance."""
     return list(dict.fromkeys(re.findall(WORD, text)))
 
 
@@ -55,7 +55,7 @@ Module = collections.namedtuple("Module", "crate name note imports is_private")
 
 
 def parted(comment):
-    """A comment without its source, and the source that it names, if it does."""
+    """A comment without its source line, and the source that it names, if any."""
     sources = [line.removeprefix("Source: ") for line in comment if line.startswith("Source: ")]
     return (
         " ".join(line for line in comment if line and not line.startswith("Source: ")),
@@ -64,8 +64,8 @@ def parted(comment):
 
 
 def split_file(crate, path):
-    """A spec file as a module and its definitions in order. A line `-- Source: ..` tells where a
-    definition is from; the one at the head is that of each definition without its own."""
+    """A spec file as a module and its definitions in order. A line `-- Source: ..` names the source
+    of a definition; the one at the head applies to each definition without its own."""
     is_private = path.parent.name == "Private"
     found, imports, head, comment, name, body = [], {}, None, [], None, []
 
@@ -121,7 +121,7 @@ def crates():
 
 
 def spec_files(crate):
-    """The spec files of a crate that have definitions, the public ones first."""
+    """The spec files of a crate that have definitions, public ones first."""
     files = (
         path
         for path in (CRATES / crate / "specs").glob("**/*.antt")
@@ -148,8 +148,8 @@ IMPL = re.compile(r"(?:pub )?(impl|trait)(?:<[^{]*?>)? (?:([\w:<>, ']+) for )?(\
 
 
 def end_of(lines, first, indent):
-    """The line behind the head of a function, and what of that still belongs to the head: it ends
-    at a lone brace, at one that ends its line, or at a semicolon."""
+    """The line after the head of a function, and the part of that line which belongs to the head.
+    The head ends at a line with only a brace, at a brace that ends its line, or at a semicolon."""
     for place in range(first, len(lines)):
         line = lines[place]
         if line in (indent + "{", indent + "{}"):
@@ -162,8 +162,8 @@ def end_of(lines, first, indent):
 
 
 def seen_of(lines):
-    """A type as callers see it: whole where it is an enum or all its fields are public, else
-    nothing."""
+    """The text of a type that callers see: all of it for an enum or a type with only public fields,
+    and otherwise nothing."""
     fields = [line.strip() for line in lines[1:-1] if not line.strip().startswith(("//", "#["))]
     is_open = (
         lines[0].startswith(("pub enum", "pub type"))
@@ -227,8 +227,8 @@ def items_of(path):
 
 
 def exported(crate):
-    """The names that a crate hands out of its own, in the order of its lib.rt, and what is said at
-    the head of it."""
+    """The names of its own that a crate exports, in the order of its lib.rt, and the comment at the
+    head of that file."""
     text = (CRATES / crate / "src" / "lib.rt").read_text()
     heads = (
         line.removeprefix("//!").removeprefix(" ")
@@ -239,7 +239,7 @@ def exported(crate):
     for path, group in re.findall(r"^pub use ([\w:]+?)(?:::\{([^}]*)\})?;", text, re.M | re.S):
         if not path.startswith("mcf_"):
             names += re.findall(r"\w+", group) if group else [path.split("::")[-1]]
-    # What a static library hands to C stands in its modules.
+    # The exports of a static library to C are in its modules.
     for path in sorted((CRATES / crate / "src").glob("*.rt")):
         names += (
             re.findall(
@@ -257,7 +257,7 @@ def exported(crate):
 
 
 def is_static(crate):
-    """Whether a crate is a static library, for C."""
+    """Whether a crate is a static library for C."""
     return re.search(rf"^{crate} staticlib:", (TOP / "crates.txt").read_text(), re.M) is not None
 
 
@@ -267,7 +267,7 @@ def libraries():
 
 
 def public_items(crate):
-    """What is declared public in the files of a crate, in their order."""
+    """The public items in the files of a crate, in order."""
     files = sorted((CRATES / crate / "src").glob("**/*.rt"))
     return [item for path in files for item in items_of(path) if item.is_public]
 
@@ -327,7 +327,7 @@ the symbols in [HEADLINE.md](HEADLINE.md). Crates that only test or measure aren
 
 
 def said(note):
-    """A comment of the code as paragraphs of a page: its headings are words in bold there."""
+    """A comment of the code as paragraphs of a page, with its headings in bold."""
     return (
         wrapped("\n".join(re.sub(r"^#+ (.*)", r"**\1.**\n", line) for line in note)) + "\n"
         if note
@@ -336,7 +336,7 @@ def said(note):
 
 
 def facts_of(items):
-    """The facts of each trait that a type has, or of the trait itself."""
+    """The facts of each trait of a type, or of the trait itself."""
     for trait in dict.fromkeys(item.trait for item in items if item.name is None):
         facts = [item for item in items if item.name is None and item.trait == trait]
         text = "\n".join(
@@ -346,7 +346,7 @@ def facts_of(items):
 
 
 def contracts_of(crate):
-    """A crate's public items, each with what its comment says and its clauses."""
+    """A crate's public items, each with its comment and its clauses."""
     head, names = exported(crate)
     items = public_items(crate)
     yield f"## {crate}\n\n{wrapped(head)}\n"
@@ -367,8 +367,8 @@ def contracts_of(crate):
 
 
 def contracts_page():
-    """What is proved of each public function, in its own words and clauses. What is only tested is
-    kept."""
+    """The page with the comment and the proved clauses of each public function. The page's
+    handwritten part on what is only tested stays."""
     text = (DOCS / "CONTRACTS.md").read_text()
     made = "\n".join(part for crate in libraries() for part in contracts_of(crate))
     return CONTRACTS_HEAD + "\n" + made + "\n" + text[text.index(BY_HAND) :]
@@ -387,8 +387,8 @@ FUNCTIONS = {
     "judge": ("mcf_checker", "command.rt"),
 }
 
-# What a part tells: the definitions that these clauses cite, these ones, and all that those need,
-# but for what is told by an earlier part or named here for a later one.
+# The content of a part: the definitions that these clauses cite, these definitions, and all that
+# they need, except those of an earlier part and those that a later part names here.
 PARTS = {
     "core": Part(
         {
@@ -405,9 +405,9 @@ PARTS = {
     "made": Part({}, ["HasMadeFlow", "HasShapedFlow", "IsMadeBy"]),
 }
 
-# What is named and not gone into. The verdict: a clause of `check` says that it accepts exactly
-# where the answer text is correct. The words of codes, which a table has. What a command line asks,
-# of which the manual page tells.
+# The definitions that the page names without their text. For the verdict, a clause of `check` says
+# that it accepts exactly if the answer text is correct. A table has the words of codes. The manual
+# page explains command lines.
 LEAVES = {
     "verdict",
     "code_word",
@@ -430,7 +430,7 @@ def clauses_of(text):
 
 
 def signature(function):
-    """The signature and the clauses of one of the functions, as the code has them."""
+    """The signature and the clauses of one of the functions, as in the code."""
     crate, file = FUNCTIONS[function]
     return next(
         item.text for item in items_of(CRATES / crate / "src" / file) if item.name == function
@@ -456,7 +456,8 @@ class Specs:
         return [key for key, d in self.definitions.items() if d.name == name and not d.is_private]
 
     def cited(self, clauses):
-        """What clauses of functions cite, by the `ghost use` lines of their files."""
+        """The definitions that clauses of functions cite, by the `ghost use` lines of their
+        files."""
         for function, names in clauses.items():
             crate, file = FUNCTIONS[function]
             found = clauses_of(signature(function))
@@ -475,8 +476,8 @@ class Specs:
             )
 
     def needs(self, key):
-        """The definitions that one names, in its order, and the types of the code as crate and
-        path."""
+        """The definitions that one definition names, in order, and the types of the code that it
+        names, as crate and path."""
         crate, module, _ = key
         imports = self.modules[crate, module].imports
         for word in words(self.definitions[key].text):
@@ -492,7 +493,7 @@ class Specs:
                 yield of, path, was
 
     def visit(self, key, stops, part, order):
-        """Depth first: a definition, and then what it needs that hasn't been told."""
+        """Adds a definition and then, depth first, what it needs that the page doesn't have yet."""
         if key in self.part_of or key[2] in stops or key not in self.definitions:
             return
         self.part_of[key] = part
@@ -501,14 +502,14 @@ class Specs:
             self.visit(needed, stops, part, order)
 
     def types(self, part):
-        """The types of the code that a part's definitions name, as crate and path."""
+        """The types of the code that the definitions of a part name, as crate and path."""
         paths = {(of, path) for key in self.orders[part] for of, path, _ in self.needs(key)}
         found = {(of, re.match(r"declared\.(.*?)(?:\.TheVariants)?$", path)) for of, path in paths}
         return sorted({(of, path[1]) for of, path in found if path})
 
     def text(self, key):
-        """A definition with its comment. What was renamed for an import has its own name, a case
-        that of its type before it, and a number that the code fixes is written out."""
+        """A definition with its comment. A name that an import renamed becomes its own name again,
+        a case gets the name of its type before it, and a constant of the code becomes a number."""
         definition = self.definitions[key]
         text = definition.text
         for now, (of, path, was) in self.modules[key[:2]].imports.items():
@@ -522,7 +523,8 @@ class Specs:
 
 
 def constant(crate, path, name):
-    """The number of a constant of the code, a great one as a power of ten; another by its name."""
+    """The number of a constant of the code, as a power of ten if it is large. A constant without a
+    number keeps its name."""
     file = CRATES / crate / "src" / f"{path.split('.')[-2]}.rt"
     found = re.search(rf"pub const {name}: \w+ = ([0-9_]+);", file.read_text())
     digits = found[1].replace("_", "") if found else ""
@@ -531,7 +533,7 @@ def constant(crate, path, name):
 
 
 def type_text(crate, path):
-    """The struct or enum of the code, as it stands there with its comment."""
+    """The text of a struct or enum of the code, with its comment."""
     *modules, name = path.split(".")
     pattern = (
         r"((?:^///[^\n]*\n)*)(?:^#\[[^\n]*\n)*(^pub(?:\(crate\))? (?:struct|enum)"
@@ -545,8 +547,7 @@ def type_text(crate, path):
 
 
 def models():
-    """As what the clauses see the values of types that have a view of their own, by the types'
-    names."""
+    """The views by which clauses see values, by the names of the types that define one."""
     files = [
         path for crate in libraries() for path in sorted((CRATES / crate / "src").glob("**/*.rt"))
     ]
@@ -559,7 +560,7 @@ def models():
 
 
 class Page:
-    """A page from its template, whose lines that begin with `@` are made."""
+    """A page from a template. Lines of the template that begin with `@` become generated parts."""
 
     def __init__(self, specs, template):
         self.specs = specs
@@ -577,7 +578,7 @@ class Page:
         return fence("rust", signature(function))
 
     def chapter(self, part, *modules):
-        """The definitions of a part in these modules, in the order in which they are needed."""
+        """The definitions of a part in these modules, in the order in which a reader needs them."""
         keys = [key for key in self.specs.orders[part] if f"{key[0]}/{key[1]}" in modules]
         self.told.update(keys)
         files = dict.fromkeys(f"`{key[0]}/specs/{key[1]}.antt`" for key in keys)
@@ -588,8 +589,8 @@ class Page:
         )
 
     def types(self, part, *more):
-        """The types of the code that a part's definitions name, and these, but for the codes of
-        faults and for constants; what comments say of fields and cases stands in CONTRACTS."""
+        """The types of the code that the definitions of a part name, and the types in `more`,
+        without fault codes and constants. CONTRACTS has the comments on fields and cases."""
         earlier = list(PARTS)[: list(PARTS).index(part)]
         known = {kind for other in earlier for kind in self.specs.types(other)} | {
             ("mcf_flows", "code.Code")
@@ -603,7 +604,7 @@ class Page:
         return fence("rust", re.sub(r"(?m)^ +///.*\n", "", "\n\n".join(texts)))
 
     def models(self, *names):
-        """As what values of these types are seen."""
+        """The views of the values of these types."""
         seen = dict(models())
         return "\n".join(
             [row("Type", "Seen as"), row("---", "---")]
@@ -611,7 +612,7 @@ class Page:
         )
 
     def codes(self):
-        """The codes of faults with their words and what they say."""
+        """The codes of faults with their words and meanings."""
         text = self.specs.definitions["mcf_flows", "Codes", "code_word"].text
         spelled = dict(re.findall(r'^code_word (\w+) = codes "(.*)"', text, re.M))
         cases = re.findall(r"    /// (.*)\n    (\w+),", type_text("mcf_flows", "code.Code"))
@@ -619,14 +620,14 @@ class Page:
         return "\n".join([row("Code", "Word", "What is wrong"), row("---", "---", "---")] + rows)
 
     def count(self, part):
-        """How many definitions a part has, and in how many lines."""
+        """The number of definitions of a part, and of their lines."""
         keys = self.specs.orders[part]
         lines = sum(len(self.specs.text(key).splitlines()) for key in keys)
         return f"{len(keys)} definitions in {lines} lines, comments among them"
 
 
 def page(template, *parts):
-    """A page that tells some parts, all of them."""
+    """A page that must contain some parts completely."""
     specs = Specs()
     made = Page(specs, template)
     missing = [key for part in parts for key in specs.orders[part] if key not in made.told]
@@ -647,12 +648,12 @@ PAGES = {
 }
 
 
-# How many words a reader is asked for.
+# The most words of a page.
 LENGTHS = {"README.md": 600, "docs/HEADLINE.md": 8000}
 
 
 def faults():
-    """What isn't as it should be."""
+    """The faults of the documents, as texts."""
     for name, most in LENGTHS.items():
         count = len((TOP / name).read_text().split())
         if count > most:

@@ -1,6 +1,6 @@
 #!/usr/bin/env python3
-"""Tests that scripts/edits.py reports no edit as refused that isn't: in a copy of a small crate, it
-tries edits that change nothing, don't compile, wait for others, or can't be applied.
+"""Tests that scripts/edits.py reports an edit as refused only if it is. In a copy of a small crate,
+it tries edits that change nothing, don't compile, wait for others, or can't be applied.
 
     scripts/edits_test.py
 """
@@ -45,7 +45,7 @@ class Tried(unittest.TestCase):
     """Each test tries edits of the crate, as if none of its functions called another."""
 
     def tried(self, which):
-        """What each edit came out as, what each was told as in its first check, and the closing
+        """The result of each edit, the report on each edit in its first check, and the closing
         lines with the status."""
         with tempfile.TemporaryDirectory(prefix="edits-test-") as room:
             top = pathlib.Path(room)
@@ -107,7 +107,7 @@ class Tried(unittest.TestCase):
 
 
 def noting(judge, first):
-    """A judge that notes what each edit is told as by its first check."""
+    """A judge that notes the report on each edit in its first check."""
 
     def judged(crate, group, texts, ended):
         found = judge(crate, group, texts, ended)

@@ -81,7 +81,7 @@ tells() {
         report "$*: status $status, and not '$text' on standard error alone"
 }
 
-# The same with little memory, if the shell can limit it.
+# The same test with little memory, if the shell can limit it.
 tells_with_little() {
     (ulimit -v 300000) 2> /dev/null || return 0
     text=$1

@@ -10,7 +10,7 @@ failed=0
 fail() { echo "install-test: failed: $1"; failed=1; }
 skip() { echo "install-test: skipped: $1"; }
 
-# Makes a target for the folder.
+# Runs a target of make for the folder.
 made() { make --no-print-directory "$1" DESTDIR="$root" PREFIX=/usr > "$scratch/said" 2>&1 || { fail "make $1"; cat "$scratch/said"; }; }
 
 # Runs a command with the installed tools and the system's on the path; checks its status and a

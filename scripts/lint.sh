@@ -1,5 +1,5 @@
 #!/bin/bash
-# Runs formatters, linters and type checkers over Python, JavaScript, shell and C: all but Rattle.
+# Runs formatters, linters and type checkers over Python, JavaScript, shell and C, but not Rattle.
 # It reports each missing tool and skips it. Debian has all except ruff; black, isort and flake8
 # replace that, with the same rules. Settings: pyproject.toml, .flake8, jsconfig.json,
 # .eslintrc.json, .shellcheckrc, .clang-format. It changes nothing; `scripts/lint.sh --fix` formats.

@@ -1,6 +1,6 @@
 #!/bin/sh
 # Builds the page's module (page/build.sh), packs the page, and runs the tests that need only node.
-# Reports what it skips, and why.
+# It reports what it skips, and why.
 set -u
 cd "$(dirname "$0")/.." || exit 1
 

@@ -1,7 +1,8 @@
 #!/usr/bin/env python3
-"""Draws the pictures of docs/ from data: what each claim rests on, speed, and the crates.
+"""Draws the pictures of docs/: the basis of each claim, speed, the crates, one pivot, the types
+from bytes to bytes, and the phases of the engine `fast`.
 
-    scripts/pictures.py write     writes docs/trust.svg, docs/speed.svg and docs/crates.svg
+    scripts/pictures.py write     writes docs/NAME.svg for each name in DRAWINGS
     scripts/pictures.py check     compares them with what `write` would write; status 1 if one
                                   differs
 
@@ -36,7 +37,7 @@ ARROW = (
 
 
 class Box(NamedTuple):
-    """A box with its lines of text, the first of them greater, and what stands below it."""
+    """A box with its lines of text, the first of them larger, and the lines below the box."""
 
     x: int
     y: int
@@ -166,7 +167,7 @@ def speed() -> str:
 
 
 def stands_on() -> Dict[str, List[str]]:
-    """The crates that programs and libraries are made of, each with those right below it."""
+    """The crates that programs and libraries depend on, each with the crates directly below it."""
     found = {}
     for line in (TOP / "crates.txt").read_text().splitlines():
         name, colon, below = line.partition(":")
@@ -178,7 +179,7 @@ def stands_on() -> Dict[str, List[str]]:
 
 
 def rows_of(below: Dict[str, List[str]]) -> List[List[str]]:
-    """The crates by layers: each as low as those below it let it stand."""
+    """The crates by layers. Each crate is in the lowest layer above its dependencies."""
     height: Dict[str, int] = {}
 
     def visit(name: str) -> int:
@@ -224,7 +225,159 @@ def crates() -> str:
     )
 
 
-DRAWINGS = {"trust.svg": trust, "speed.svg": speed, "crates.svg": crates}
+# ---- one pivot of the network simplex
+
+
+Spots = Dict[str, Tuple[int, int]]
+BEFORE: Spots = {
+    "root": (170, 70),
+    "1": (90, 140),
+    "2": (250, 140),
+    "3": (50, 210),
+    "4": (130, 210),
+    "5": (250, 210),
+    "6": (130, 280),
+    "7": (250, 280),
+}
+AFTER: Spots = {
+    "root": (170, 70),
+    "1": (90, 140),
+    "2": (250, 140),
+    "3": (90, 210),
+    "5": (250, 210),
+    "7": (250, 280),
+    "6": (250, 350),
+    "4": (250, 420),
+}
+
+
+def edge(spots: Spots, left: int, low: str, high: str, kind: str) -> str:
+    """The tree arc from a node up to its parent."""
+    (x, y), (u, v) = spots[low], spots[high]
+    return f'<path d="M{left + x},{y} L{left + u},{v}" class="{kind}"/>'
+
+
+def node(spots: Spots, left: int, name: str) -> Iterable[str]:
+    x, y = spots[name]
+    yield f'<circle cx="{left + x}" cy="{y}" r="17" class="box"/>'
+    yield text(left + x, y + 5, name if name != "root" else "0")
+
+
+def pivot() -> str:
+    far = 380
+    parts = [
+        text(170, 28, "before"),
+        text(far + 170, 28, "after"),
+        text(130, 318, "inner", "note"),
+        text(250, 318, "outer", "note"),
+        text(222, 64, "apex, the root here", "note", "start"),
+        text(120, 172, "leaving arc", "note", "start"),
+        text(190, 270, "entering arc", "note"),
+        text(far + 276, 424, "the stem from 6 to 4 is turned,", "note", "start"),
+        text(far + 276, 442, "and its part has new depths and prices", "note", "start"),
+    ]
+    cycle = [("6", "4"), ("4", "1"), ("1", "root"), ("7", "5"), ("5", "2"), ("2", "root")]
+    for low, high in cycle:
+        parts.append(edge(BEFORE, 0, low, high, "key a" if low != "4" else "key c"))
+    parts.append(edge(BEFORE, 0, "3", "1", "line"))
+    parts.append('<path d="M130,280 L250,280" class="key b" stroke-dasharray="6 4"/>')
+    for low, high in (("1", "root"), ("2", "root"), ("3", "1"), ("5", "2"), ("7", "5")):
+        parts.append(edge(AFTER, far, low, high, "line"))
+    parts.append(edge(AFTER, far, "6", "7", "key b"))
+    parts.append(edge(AFTER, far, "4", "6", "key a"))
+    for spots, left in ((BEFORE, 0), (AFTER, far)):
+        for name in spots:
+            parts += node(spots, left, name)
+    return drawing(930, 460, "One pivot: a tree arc leaves, another enters, a part moves", parts)
+
+
+# ---- from bytes to bytes
+
+
+STAGES = (
+    ("text", "bytes", "the caller's"),
+    ("Reader", "lines, rows, arcs", "mcf_instance"),
+    ("Instance", "bounds, costs, supplies", "mcf_flows"),
+    ("Net", "widths, without lower bounds", "mcf_network"),
+    ("Engine", "solve", "mcf_solver chooses it"),
+    ("State, prices", "or NodeSet, Side", "mcf_network"),
+    ("Answer", "full or sparse flow, or a set", "mcf_answer"),
+    ("text", "bytes", "written to a sink"),
+)
+
+
+def walk() -> str:
+    wide, high, gap, row = 200, 56, 46, 4
+    parts = []
+    spots = []
+    for k, (name, what, whose) in enumerate(STAGES):
+        down, across = divmod(k, row)
+        place = across if down == 0 else row - 1 - across
+        box = Box(
+            10 + place * (wide + gap), 20 + down * 140, wide, high, "box", [name, what], [whose]
+        )
+        spots.append(box)
+        parts += boxed(box)
+    for one, two in zip(spots, spots[1:]):
+        if one.y == two.y:
+            way = 1 if two.x > one.x else -1
+            begin = one.x + (one.width if way > 0 else 0)
+            end = two.x + (0 if way > 0 else two.width)
+            middle = one.y + high // 2
+            parts.append(arrow(f"M{begin},{middle} L{end - 2 * way},{middle}"))
+        else:
+            x = one.x + one.width + 14
+            y, v = one.y + high // 2, two.y + high // 2
+            parts.append(arrow(f"M{one.x + wide},{y} L{x},{y} L{x},{v} L{two.x + wide + 2},{v}"))
+    return drawing(row * (wide + gap), 260, "From bytes to bytes: the types on the way", parts)
+
+
+# ---- the engine `fast`
+
+
+def fast() -> str:
+    boxes = {
+        "start": Box(10, 90, 130, 56, "box", ["net", "sparse enough?"]),
+        "simplex": Box(210, 20, 190, 56, "proved", ["network simplex", "watched every n/4 pivots"]),
+        "refine": Box(210, 160, 190, 56, "box", ["price refinement", "are the prices e-optimal?"]),
+        "phase": Box(450, 160, 190, 56, "box", ["phase at slack e", "augment, update prices"]),
+        "finish": Box(690, 160, 170, 56, "box", ["finish", "look for exact prices"]),
+        "judge": Box(910, 160, 130, 56, "proved", ["judge", "proved"]),
+        "answer": Box(910, 20, 130, 56, "proved", ["greatest prices", "proved"]),
+    }
+    parts: List[str] = []
+    for box in boxes.values():
+        parts += boxed(box)
+    for way in (
+        "M140,104 C170,90 170,48 207,48",
+        "M400,48 L907,48",
+        "M305,76 L305,157",
+        "M400,188 L447,188",
+        "M640,188 L687,188",
+        "M860,188 L907,188",
+        "M975,160 L975,79",
+        "M775,216 C775,262 305,262 305,219",
+        "M910,174 C800,110 500,110 340,79",
+    ):
+        parts.append(arrow(way))
+    parts += [
+        text(312, 122, "a bad case", "note", "start"),
+        text(650, 40, "no eligible arc is left", "note"),
+        text(540, 262, "halve e, again", "note"),
+        text(650, 96, "not right, or out of budget: the simplex solves it", "note"),
+        text(983, 122, "right", "note", "start"),
+    ]
+    return drawing(1050, 280, "The phases of the engine fast", parts)
+
+
+DRAWINGS = {
+    "trust.svg": trust,
+    "speed.svg": speed,
+    "crates.svg": crates,
+    "pivot.svg": pivot,
+    "walk.svg": walk,
+    "fast.svg": fast,
+}
 
 
 def main(words: List[str]) -> int:

@@ -1,5 +1,6 @@
-/* Replaces calls of the C library by LD_PRELOAD: refuses allocation number REFUSED (from 1), and
-   reports it on standard error. A growth counts, a shrink or a release doesn't. */
+/* Replaces calls of the C library through LD_PRELOAD. It refuses allocation number REFUSED (from 1)
+   and reports that on standard error. A growth counts as an allocation; a shrink or a release
+   doesn't. */
 #define _GNU_SOURCE
 #include <dlfcn.h>
 #include <malloc.h>

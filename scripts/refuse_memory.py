@@ -30,7 +30,7 @@ import time
 
 HERE = pathlib.Path(__file__).resolve().parent
 CRATES, BIN, EXAMPLES = (HERE.parent / name for name in ("crates", "bin", "examples"))
-ENGINES = ("auto", "cancel", "simplex", "scaling", "augment", "sap")
+ENGINES = ("auto", "cancel", "simplex", "scaling", "fast", "sap")
 WITHOUT_INSTANCE = (
     ["--version"],
     ["solve", "--help"],
@@ -53,7 +53,8 @@ def with_tests():
 
 
 def run(program, test, refused, shim):
-    """Whether the run met a refusal, and how it ended: well, without memory, or wrong."""
+    """Runs a test once. Returns whether the run met a refusal, and how it ended: well, without
+    memory, or wrong."""
     environment = {"PATH": "/usr/bin:/bin", "LD_PRELOAD": str(shim), "REFUSED": str(refused)}
     try:
         ran = subprocess.run(
@@ -72,7 +73,8 @@ def run(program, test, refused, shim):
 
 
 def judge(program, test, most, until, shim):
-    """Refuses each allocation of a test; whether all were, and no run was wrong."""
+    """Refuses each allocation of a test in turn. Returns whether it reached all, and no run was
+    wrong."""
     ends = {"well": 0, "without memory": 0, "wrong": 0}
     in_time = True
     for refused in range(1, most + 1):
@@ -113,7 +115,8 @@ def calls(name):
 
 
 def run_program(name, words, refused, shim):
-    """Whether the run met a refusal, its status, and its two outputs."""
+    """Runs a program once. Returns whether the run met a refusal, its status, and its two
+    outputs."""
     environment = {
         "PATH": "/usr/bin:/bin",
         **({"LD_PRELOAD": str(shim), "REFUSED": str(refused)} if refused else {}),
@@ -129,7 +132,7 @@ def run_program(name, words, refused, shim):
 
 
 def refuse_each(name, words, most, until, shim):
-    """Refuses each allocation of a call of a program; how its runs ended."""
+    """Refuses each allocation of a call of a program in turn. Returns how its runs ended."""
     ends, want, ample = (
         collections.Counter(),
         (3, b"", f"{name}: out of memory\n".encode()),
@@ -150,7 +153,8 @@ def refuse_each(name, words, most, until, shim):
 
 
 def judge_program(name, most, until, shim):
-    """Refuses each allocation of each call of a program; whether all were, and no run was wrong."""
+    """Refuses each allocation of each call of a program in turn. Returns whether it reached all,
+    and no run was wrong."""
     failed = 0
     for group, each in calls(name).items():
         ends = sum(
@@ -170,8 +174,8 @@ def judge_program(name, most, until, shim):
 
 
 def judge_tests(name, words, until, shim):
-    """Refuses each allocation of each requested test of a crate; the number of these tests, and
-    whether all were right."""
+    """Refuses each allocation of each requested test of a crate in turn. Returns the number of
+    these tests, and whether all were right."""
     program = CRATES / name / "out" / f"{name}_tests"
     if not program.exists():
         print(f"{name}: FAILED: its tests aren't built; `make test` builds them")

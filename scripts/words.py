@@ -51,7 +51,7 @@ def by_number(path, begin, arm):
 
 
 def chosen(function):
-    """The choices that have numbers in C, from 0 on."""
+    """The choices in the order of their numbers in C, from 0 on."""
     arm = r"(?P<number>\d+) => Some\(\w+::(?P<name>\w+)\)"
     return [name.lower() for name in by_number(CHOOSING, f"fn {function}(", arm)]
 
@@ -66,7 +66,7 @@ def verdicts():
 
 
 def statuses():
-    """The statuses of C's calls, from 0 on; a call that judges has other words for 0 and 1."""
+    """The statuses of the C calls, from 0 on. A judging call has other words for 0 and 1."""
     text = text_of("crates/mcf_c/src/statuses.rt")
     rows = {int(number): name for name, number in re.findall(r"const (\w+): u32 = (\d+);", text)}
     rows.update({0: "FLOW", 1: "BLOCKED"})
@@ -117,10 +117,11 @@ def in_header(fact):
 
 
 def in_modules(fact):
-    """The lists of the Python module, of the page's, and of the tool that explains refusals."""
+    """The lists of the Python module, of the page's module, and of the tool that explains
+    refusals."""
     codes = ["", *fact["codes"]]
     statuses = [word.upper() for word in fact["statuses"][1:]]
-    yield Place(PYTHON, "\nFLOW", "= range(", r"\w+", statuses)
+    yield Place(PYTHON, "(\n    FLOW", ") = range(", r"\w+", statuses)
     yield Place(PYTHON, "CODES = (", ")\n", QUOTED, codes)
     yield Place(PYTHON, "VERDICTS = (", ")\n", QUOTED, fact["verdicts"])
     yield Place(PYTHON, "ENGINES = {", "}", QUOTED, fact["engines"])

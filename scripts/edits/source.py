@@ -3,7 +3,7 @@ import dataclasses
 import re
 from typing import Dict, List, Optional, Tuple
 
-FUNCTION = re.compile(r"( *)(?:pub(?:\([a-z]+\))? )?(?:const )?fn (\w+)")
+FUNCTION = re.compile(r'( *)(?:pub(?:\([a-z]+\))? )?(?:const )?(?:extern "C" )?fn (\w+)')
 OWNER = re.compile(r"(?:pub(?:\([a-z]+\))? )?(?:impl|trait)\b")
 Key = Tuple[str, str, int]
 
