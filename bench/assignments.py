@@ -1,11 +1,11 @@
 """The part `assign` of run.py: `mcf solve --engine sap` beside dlib and LEMON, as whole processes.
 
-Dense instances, of uniform costs and of costs (i * j) mod 101, are solved beside dlib's assignment,
-sparse ones of 8 arcs a row beside LEMON's network simplex. Of the smallest of these there are
-twelve, since one says little: the first is judged, and the mean. The answer has the second form,
-which names the arcs that carry something; the peers write the cost alone. Printed are the least
-seconds of a processor of several runs. A peer whose library isn't there is skipped with a word, and
-so is the whole part where the program has no engine `sap`.
+The peer is dlib's assignment for dense instances, with uniform costs and with costs (i * j) mod
+101, and LEMON's network simplex for sparse instances with 8 arcs a row. The smallest sparse size
+has twelve instances, because one says little: the limits apply to the first one and to the mean.
+The answer has the sparse form, which names the arcs that carry something; the peers write only the
+cost. The script prints the least processor seconds of several runs. It skips a peer without its
+library, and the whole part if the program has no engine `sap`, and says so.
 """
 import os
 import pathlib
@@ -20,17 +20,18 @@ BENCH = pathlib.Path(__file__).resolve().parent
 OUT = BENCH / "out"
 PROGRAM = programs.built("mcf")
 
-# the rows of the instances, and the greatest ratio to the peer
+# the numbers of rows of the instances, and the greatest ratio to the peer
 DENSE = dict.fromkeys((256, 512, 1024, 2048), 0.85)
 SPARSE = {2**12: 0.6, 2**14: 0.5, 2**16: 0.4}
-# how many instances of a size there are, where it isn't one
+# the number of instances of a size, if it isn't one
 INSTANCES = {2**12: 12}
 DEGREE = 8
 MAX_COST = 1_000_000
 
 
 def write(path, rows, arcs):
-    """Writes an instance of so many rows and as many columns with these arcs, once."""
+    """Writes an instance with these arcs and with as many columns as rows, unless the file
+    exists."""
     if path.exists():
         return path
     arcs = list(arcs)
@@ -53,8 +54,8 @@ def multiples(rows):
 
 
 def sparse(rows, seed=None):
-    """Each row has an arc to the column of a hidden matching, so that a matching of all rows is
-    there."""
+    """The arcs of sparse instances. Each row has an arc to its column in a hidden matching, so that
+    a perfect matching exists."""
     rnd = random.Random(rows if seed is None else seed)
     hidden = rnd.sample(range(1, rows + 1), rows)
     for i in range(1, rows + 1):
@@ -62,7 +63,7 @@ def sparse(rows, seed=None):
             yield i, j, rnd.randrange(1, MAX_COST + 1)
 
 
-# of each kind: the peer's source, the library that it is linked with, and the instances
+# for each kind: the peer's source, the library to link it with, and the instances
 KINDS = {
     "dlib": ("dense.cc", [], [("uniform", uniform, DENSE), ("mod", multiples, DENSE)]),
     "LEMON": ("sparse.cc", ["-llemon"], [("sparse", sparse, SPARSE)]),
@@ -70,7 +71,7 @@ KINDS = {
 
 
 def build(source, libraries):
-    """The peer, or nothing where it can't be built."""
+    """Builds the peer, and returns its path, or None if that fails."""
     peer = OUT / f"assign-{pathlib.Path(source).stem}-peer"
     command = [
         "g++",
@@ -89,8 +90,8 @@ def build(source, libraries):
 
 
 def timed(command):
-    """The line of the cost that a program writes, and the seconds of a processor that it takes,
-    those of the kernel included."""
+    """The line of the cost that a program writes, and the processor seconds that it takes,
+    including those of the kernel."""
     with tempfile.TemporaryFile("w+") as out:
         process = subprocess.Popen(command, stdout=out)
         _, status, usage = os.wait4(process.pid, 0)
@@ -105,16 +106,16 @@ def timed(command):
 
 
 def instances(name, arcs, rows):
-    """The files of a family and a size: the one with the size as its seed, and those of other seeds
-    where there are several."""
+    """The files of a family and a size: one with the size as its seed, and any further ones with
+    other seeds."""
     yield write(OUT / f"assign-{name}-{rows}.asn", rows, arcs(rows))
     for seed in range(1, INSTANCES.get(rows, 1)):
         yield write(OUT / f"assign-{name}-{rows}-{seed}.asn", rows, arcs(rows, seed))
 
 
 def compare(ours, peer, runs):
-    """The least seconds of each, which other programs at work change least; both are run in
-    turn."""
+    """Runs both in turn. Returns the least seconds of each, which other running programs affect
+    least."""
     times = []
     for _ in range(runs):
         (found, our_time), (peer_found, peer_time) = timed(ours), timed(peer)

@@ -1,9 +1,9 @@
-"""The part `pieces` of run.py: reading in pieces, beside reading the whole text at once, as whole
+"""The part `pieces` of run.py compares reading a text in pieces with reading it at once, as whole
 processes.
 
-The text has 100 MB, and its last arc is missing, so that nothing is solved: `mcf solve` reads it in
-pieces and refuses it, and `mcfcheck` reads it whole and finds the refusal right. Printed are the
-least seconds of a processor of several runs, and the peak of the memory of each.
+The text has 100 MB. Its last arc is missing, so that nothing is solved: `mcf solve` reads it in
+pieces and refuses it, and `mcfcheck` reads it at once and accepts the refusal. The script prints
+the least processor seconds of several runs, and the peak memory of each program.
 """
 import os
 import pathlib
@@ -20,7 +20,7 @@ LIMIT = 1.1
 
 
 def write():
-    """Writes the text, and the refusal that is its answer."""
+    """Writes the text and its answer, a refusal."""
     text, answer = OUT / "pieces.min", OUT / "pieces.ans"
     if not text.exists():
         rnd = random.Random(1)
@@ -36,8 +36,8 @@ def write():
 
 
 def timed(command, want):
-    """The seconds of a processor that a program takes, those of the kernel included, and the peak
-    of its memory in megabytes."""
+    """The processor seconds that a program takes, including those of the kernel, and its peak
+    memory in megabytes."""
     process = subprocess.Popen(command, stdout=subprocess.DEVNULL)
     _, status, usage = os.wait4(process.pid, 0)
     process.returncode = os.waitstatus_to_exitcode(status)

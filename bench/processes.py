@@ -1,12 +1,12 @@
-"""Whole processes of `mcf solve` beside a program by LEMON: the second half of the part `simplex`
-of run.py, and its part `augment`.
+"""Compares whole processes of `mcf solve` with a LEMON program: the second half of the part
+`simplex` of run.py, and its part `fast`.
 
-All read the same file, solve it and write a flow with its prices to a file. Printed are the least
-seconds of a processor of several runs, and their ratios. The simplex is run by both rules for large
-nets, `wide` and `block`, and the ratios of `wide` are judged. The engine `augment` is run beside
-the simplex and LEMON's network simplex and cost scaling: its ratio to the better of these two is
-judged, and so is its peak of memory beside that of LEMON's network simplex, where both are above
-that of this program.
+All programs read the same file, solve it and write a flow with its prices to a file. The script
+prints the least processor seconds of several runs, and their ratios. The simplex runs with both
+rules for large nets, `wide` and `block`, and the limit applies to `wide`. The engine `fast` runs
+beside our simplex and cost scaling, and LEMON's network simplex and cost scaling. One limit applies
+to its ratio to the better of LEMON's two, and one to its peak memory beside that of LEMON's network
+simplex, if both peaks are above that of this script.
 """
 import resource
 
@@ -14,31 +14,28 @@ import programs
 import table
 from table import OUT, PROGRAM
 
-# runs of a case end after so many seconds, but not before there were so many of them
+# the seconds after which the runs of a case end, and the least number of runs
 SECONDS, FEWEST = 120, 3
-# of the simplex: the sizes, as powers of 2, and the greatest ratio by family, which is judged at
-# one size
+# for the simplex: the sizes, as powers of 2, and the size to which the limits apply
 SIZES, JUDGED = (14, 16, 17), 16
 LIMITS = {"netgen": 0.9, "gridgen": 1.1, "road": 1.0, "goto": 0.7}
-# of the engine `augment`: the sizes, and the greatest ratios by size and family
-AUGMENTED = range(10, 18)
-MOST_SECONDS = {
-    16: {"netgen": 0.6, "gridgen": 0.75, "goto": 0.3, "road": 1.1},
-    17: {"netgen": 0.4, "gridgen": 0.6, "goto": 0.25, "road": 0.9},
-}
-# the greatest peak of memory beside LEMON's network simplex
+# for the engine `fast`: the families, the sizes, and the greatest ratios by size and family
+FAST_FAMILIES = ("netgen", "gridgen", "goto", "road", "plan", "star", "geo", "long")
+FAST_SIZES = (10, 12, 13, 14, 15, 16)
+MOST_SECONDS = {16: {"netgen": 0.6, "gridgen": 0.75, "goto": 0.35, "road": 0.9}}
+# the greatest ratio of peak memory to LEMON's network simplex
 MOST_MEMORY = 1.0
-# what took more seconds than this at a size is left out at the next
+# an engine that took more seconds than this at a size is left out at the next size
 MOST = 60.0
 
 
 def solve(engine, *words):
-    """The command that solves a file, which comes behind it."""
+    """The command that solves the file appended to it."""
     return [PROGRAM, "solve", "--engine", engine, "--form", "2", *words]
 
 
 def by_lemon(peer, word, path):
-    """The command by which LEMON does the same."""
+    """The command by which LEMON solves a file."""
     return [str(peer), word, path, "-w", str(OUT / "peer.ans")]
 
 
@@ -48,7 +45,7 @@ def build(words):
 
 
 def measure(words, peer, instance_of):
-    """Whether each ratio of the simplex is within the limit. `peer` is the program by LEMON, and
+    """Whether each ratio of the simplex is within its limit. `peer` is the LEMON program, and
     `instance_of` makes the file of a family and a size."""
     build(words)
     most = max(5, words.runs)
@@ -72,19 +69,20 @@ def measure(words, peer, instance_of):
     return within
 
 
-def measure_augment(words, peer, instance_of):
-    """The same of the engine `augment`, and of its memory."""
+def measure_fast(words, peer, instance_of):
+    """Whether the ratios and the memory of the engine `fast` are within their limits."""
     build(words)
     most = max(5, words.runs)
-    print(f"augment: up to {most} runs of each, whole processes")
+    print(f"fast: up to {most} runs of each, whole processes")
     within = True
-    for family in MOST_SECONDS[max(MOST_SECONDS)]:
+    for family in FAST_FAMILIES:
         before = {}
-        for exponent in AUGMENTED:
+        for exponent in FAST_SIZES:
             path = str(instance_of(family, 2**exponent))
             commands = {
-                "augment": [*solve("augment"), path],
+                "fast": [*solve("fast"), path],
                 "simplex": [*solve("simplex"), path],
+                "scaling": [*solve("scaling"), path],
                 "LEMON ns": by_lemon(peer, "ns", path),
                 "LEMON cs": by_lemon(peer, "cs", path),
             }
@@ -95,31 +93,32 @@ def measure_augment(words, peer, instance_of):
             within = shown(family, exponent, runs) and within
             before = {
                 name: runs[name].seconds if name in runs else MOST + 1
-                for name in ("augment", "simplex", "LEMON ns", "LEMON cs")
+                for name in ("fast", "simplex", "scaling", "LEMON ns", "LEMON cs")
             }
     return within
 
 
 def shown(family, exponent, runs):
-    """Prints what was measured of a case, and says whether the figures are within their limits."""
+    """Prints the measurements of a case. Returns whether they are within their limits."""
     seconds = {name: run.seconds for name, run in runs.items()}
     print(
-        f"augment {family} 2^{exponent}, whole: "
+        f"fast {family} 2^{exponent}, whole: "
         + ", ".join(f"{name} {taken:.3f} s" for name, taken in seconds.items()),
         end="",
     )
     within = True
     theirs = [taken for name, taken in seconds.items() if name.startswith("LEMON")]
-    if "augment" in seconds and theirs:
-        ratio = seconds["augment"] / min(theirs)
+    if "fast" in seconds and theirs:
+        ratio = seconds["fast"] / min(theirs)
         print(f", ratio {ratio:.2f}", end="")
         within = ratio <= MOST_SECONDS.get(exponent, {}).get(family, ratio)
-    if "augment" in seconds and "simplex" in seconds:
-        print(f", of the simplex {seconds['augment'] / seconds['simplex']:.2f}", end="")
+    ours = [seconds[name] for name in ("simplex", "scaling") if name in seconds]
+    if "fast" in seconds and ours:
+        print(f", of our better {seconds['fast'] / min(ours):.2f}", end="")
     own = resource.getrusage(resource.RUSAGE_SELF).ru_maxrss / 1024 + 1
-    if all(name in runs and runs[name].peak > own for name in ("augment", "LEMON ns")):
-        memory = runs["augment"].peak / runs["LEMON ns"].peak
-        print(f", peak {runs['augment'].peak:.0f} MB, ratio {memory:.2f}", end="")
+    if all(name in runs and runs[name].peak > own for name in ("fast", "LEMON ns")):
+        memory = runs["fast"].peak / runs["LEMON ns"].peak
+        print(f", peak {runs['fast'].peak:.0f} MB, ratio {memory:.2f}", end="")
         within = within and memory <= MOST_MEMORY
     print(flush=True)
     return within

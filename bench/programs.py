@@ -1,4 +1,4 @@
-"""The programs that are measured, as `scripts/build.py` proves and builds them."""
+"""The programs to measure, which `scripts/build.py` proves and builds."""
 import pathlib
 import subprocess
 import sys
@@ -7,12 +7,12 @@ TOP = pathlib.Path(__file__).resolve().parent.parent
 
 
 def built(name):
-    """Where a program stands, once it is built."""
+    """The path of a built program."""
     return str(TOP / "bin" / name)
 
 
 def build(*names):
-    """Proves and builds programs, where that isn't done."""
+    """Proves and builds programs, if that isn't done."""
     subprocess.run(
         [sys.executable, str(TOP / "scripts" / "build.py"), *names],
         check=True,

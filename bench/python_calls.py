@@ -1,11 +1,10 @@
 #!/usr/bin/env python3
-"""Times calls of the Python module mcf, beside scipy and networkx where they are installed: seconds
-of a processor, the least of some rounds.
+"""Times calls of the Python module mcf, beside scipy and networkx if they are installed. The times
+are processor seconds, the least of some rounds.
 
     python3 bench/python_calls.py [--rounds N]
 
-Costs that both find have to be the same. Needs Python 3.8 and the library (make library, or
-MCF_LIBRARY).
+Both must find the same costs. Needs Python 3.8 and the library (make library, or MCF_LIBRARY).
 """
 import argparse
 import importlib
@@ -18,8 +17,8 @@ TOP = pathlib.Path(__file__).resolve().parent.parent
 sys.path.insert(0, str(TOP / "python"))
 import mcf
 
-# What one round takes at least, and what all rounds of a call may take before the last of them, in
-# seconds.
+# The least seconds of one round, and the seconds of a call's rounds after which no further round
+# starts.
 ROUND, ALL = 0.1, 20
 
 

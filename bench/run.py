@@ -1,46 +1,46 @@
 #!/usr/bin/env python3
-"""Compares parts of the suite, or all of them, with peers that do the same work in plain Rust.
+"""Compares parts of the suite, or all of them, with peers that do the same work.
 
     python3 bench/run.py [PART ...] [--runs N] [--nodes N] [--built]
 
 PART
-  answer    parses an answer of a million arcs and writes it anew
-  augment   solves nets of four families and of rising size by the engine `augment`, beside the
-            simplex and the better of LEMON's network simplex and cost scaling, as whole processes,
-            with the peak of their memory (left out where LEMON isn't there)
-  assign    solves assignments by the engine `sap`, beside dlib and LEMON, as whole processes; a
-            library that isn't there is skipped with a word
+  answer    parses an answer of a million arcs and writes it again
+  fast      solves nets of eight families and of rising size by the engine `fast`, beside our
+            simplex and cost scaling and the better of LEMON's, as whole processes, with their peak
+            memory (skipped without LEMON)
+  assign    solves assignments by the engine `sap`, beside dlib and LEMON, as whole processes; the
+            script skips a missing library and says so
   check     judges such an answer for its instance
-  feasible  finds a feasible flow, in nets of five families and of rising size, beside the reading
-            of the same text
-  net       builds the net of a million arcs, and goes over the residual arcs of each node
+  feasible  finds a feasible flow, in nets of five families and of rising size, beside the time to
+            read the same text
+  net       builds the net of a million arcs, and visits the residual arcs of each node
   pieces    reads a text of 100 MB in pieces, beside reading it at once, as whole processes, with
-            the peak of their memory
-  raise     raises prices of a least flow to the greatest, in nets of three families and of rising
-            size
+            their peak memory
+  raise     raises prices of a least-cost flow to the greatest ones, in nets of three families and
+            of rising size
   read      reads an instance, and keeps it in 32 bytes an arc
-  recover   recovers prices from a least flow, in nets of three families and of rising size
-  scaling   solves nets of five families and of rising size by cost scaling, beside a program with
-            the same steps, both without the seconds of the feasible flow, and then as a whole
-            beside that of LEMON (left out where LEMON isn't there, of the package liblemon-dev)
-  simplex   solves nets of four families and of rising size by the network simplex, beside that of
-            LEMON, as scaling; then the whole processes, `mcf` and a program by LEMON that read a
-            file, solve it and write the answer
-  solve     solves an instance in which nothing is worth moving, without the seconds of its engine,
-            beside a program that reads, copies and writes the same
-  table     solves instances of all families and sizes as the tools choose, beside LEMON's network
-            simplex and cost scaling and dlib's assignment, as whole processes with the peak of
-            their memory; prints a table, which no limit judges
+  recover   recovers prices from a least-cost flow, in nets of three families and of rising size
+  scaling   solves nets of five families and of rising size by cost scaling: first beside a program
+            with the same steps, both without the seconds of the feasible flow, and then as a whole
+            beside LEMON's (skipped without LEMON, which is the package liblemon-dev)
+  simplex   solves nets of four families and of rising size by the network simplex, beside LEMON's,
+            like scaling; then as whole processes: `mcf` and a LEMON program read a file, solve it
+            and write the answer
+  solve     solves an instance whose zero flow is optimal, without the seconds of the engine, beside
+            a program that reads, copies and writes the same
+  table     solves instances of all families and sizes with the options that the tools choose,
+            beside LEMON's network simplex and cost scaling and dlib's assignment, as whole
+            processes with their peak memory; prints a table, without a limit
   text      splits a text of lines into fields and reads each field as a number
   tree      swaps arcs of a spanning tree at random, in trees of rising size
 
-Proves and builds `mcf_bench`, builds each peer by `rustc -O` (LEMON's by `g++ -O3`), makes the
-input, and runs the two in turn on it, N times each and at least 5. Both print what they found,
-which has to be the same, and their own seconds, which don't count the reading of the files. Printed
-are the medians and their ratio; of a family also how many times as long as the size before a size
-takes; of `net` also the memory, as what each further net adds to the peak. The status is 1 where a
-figure is above its part's limit. `--nodes` is for the parts that have one size. `--built` takes the
-program as it was built last. Needs `rt`, `rustc` and Python 3; run it on an idle machine.
+The script proves and builds `mcf_bench`, builds each peer by `rustc -O` (LEMON's by `g++ -O3`),
+makes the input, and runs the two on it in turn, N times each and at least 5. Both print their
+results, which must agree, and their own seconds, which exclude the reading of the files. The script
+prints the medians and their ratio; for a family also the ratio of each size's time to that of the
+size before; for `net` also the memory that each further net adds to the peak. The status is 1 if a
+figure is above its part's limit. `--nodes` is for the parts that have one size. `--built` uses the
+program of the last build. Needs `rt`, `rustc` and Python 3; run it on an idle machine.
 """
 import argparse
 import os
@@ -63,7 +63,7 @@ PROGRAM = programs.built("mcf_bench")
 
 NODES = 300_000
 ARCS = 1_000_000
-# as many nodes as give an instance at rest a million arcs
+# the number of nodes that gives an instance of `resting` a million arcs
 RESTING = 125_000
 # the sizes of each family, as powers of 2
 RECOVERED = {"netgen": (10, 12, 14, 16), "gridgen": (10, 12, 14, 16), "transp": (8, 9, 10)}
@@ -73,17 +73,17 @@ SEARCHED = {
 }
 SCALED = {family: (12, 14) for family in ("netgen", "gridgen", "goto", "road", "assignment")}
 PIVOTED = {"netgen": (12, 14, 16), "gridgen": (12, 14), "road": (12, 14, 16), "goto": (12, 14)}
-# the greatest ratio to LEMON of families where updates of all prices, which the bounds on rises
-# forbid, gain nothing
+# the greatest ratio to LEMON for families where price updates gain nothing; the bounds on price
+# rises forbid these
 WITHOUT_UPDATES = {"assignment": 1}
-# the random swaps that are tried in the tree of so many nodes
+# the number of random swaps to try, by the number of nodes of the tree
 SWAPPED = {1_000: 300_000, 10_000: 300_000, 100_000: 300_000, 1_000_000: 1_000_000}
-# the most bytes an arc that a net may take
+# the most bytes per arc of a net
 NET_BYTES = 64
 
 
 def make(script, path, *words):
-    """The path, at which the script has written its output."""
+    """Has a script write its output to a path, and returns the path."""
     if not path.exists():
         subprocess.run([sys.executable, str(BENCH / script), *map(str, words)], check=True)
     return path
@@ -121,7 +121,7 @@ def shown_instance(words):
 
 
 def of_families(sizes):
-    """Each family and size, with how often a step is done in one run: more often in a small net."""
+    """Each family and size, with the repetitions of a step in one run: more for a small net."""
     for family, exponents in sizes.items():
         for exponent in exponents:
             yield family, 2**exponent, max(1, 2**14 >> exponent)
@@ -163,8 +163,8 @@ def trees(_words):
         yield f"of {nodes} nodes", [nodes, rounds], 1
 
 
-# of each part: what makes its cases, and the greatest ratio; a case has a name, the paths or
-# numbers of its input, and how often a step is done in one run
+# for each part: the function that makes its cases, and the greatest ratio. A case has a name, the
+# paths or numbers of its input, and the repetitions of a step in one run.
 PARTS = {
     "answer": (shown_answer, 1.2),
     "check": (shown_pair, 1.25),
@@ -180,25 +180,25 @@ PARTS = {
     "tree": (trees, 1.25),
 }
 REPEATED = {"feasible", "net", "raise", "recover"}
-# the parts that have LEMON for a peer: the word by which its driver knows the algorithm, and the
-# greatest ratio
+# the parts with LEMON as a peer: the word of LEMON's driver for the algorithm, and the greatest
+# ratio
 LEMON = {"scaling": ("cs", 9), "simplex": ("ns", 2.5)}
-# the parts that have modules of their own
-WHOLE = ("assign", "augment", "pieces", "table")
-# the parts that have no other
+# the parts with their own modules
+WHOLE = ("assign", "fast", "pieces", "table")
+# the parts with LEMON as their only peer
 LEMON_ALONE = {"simplex"}
-# the seconds that are left out beside a peer of our own
+# the seconds to leave out beside a peer of our own
 LEFT_OUT = {"scaling": "feasible_seconds"}
 
 
 def has_lemon():
-    """Whether there is a compiler that finds LEMON."""
+    """Whether a compiler exists and finds LEMON."""
     asked = ["g++", "-fsyntax-only", "-include", "lemon/cost_scaling.h", "-x", "c++", os.devnull]
     return bool(shutil.which("g++")) and subprocess.run(asked, capture_output=True).returncode == 0
 
 
 def lemon_program():
-    """Builds the program by LEMON."""
+    """Builds the LEMON program."""
     program = OUT / "lemon-peer"
     source = BENCH / "peers" / "lemon_mcf.cc"
     subprocess.run(
@@ -208,7 +208,7 @@ def lemon_program():
 
 
 class Peer(typing.NamedTuple):
-    """What a part is measured beside: its words before the input, and the greatest ratio."""
+    """A peer of a part: its words before the input, and the greatest ratio."""
 
     name: str
     command: list
@@ -219,7 +219,7 @@ class Peer(typing.NamedTuple):
         return times["seconds"] - (times[self.left_out] if self.left_out else 0)
 
     def most(self, family):
-        """The greatest ratio in a family."""
+        """The greatest ratio for a family."""
         return WITHOUT_UPDATES.get(family, self.limit) if self.name == "LEMON" else self.limit
 
 
@@ -242,7 +242,7 @@ def peers_of(part, limit):
 
 
 def run(command):
-    """What the program found, and its seconds by their names."""
+    """Runs a program. Returns its results, and its seconds by their names."""
     done = subprocess.run(command, check=True, capture_output=True, text=True)
     if command[0] == str(OUT / "lemon-peer"):
         return lemon_found(done.stdout.split())
@@ -251,14 +251,15 @@ def run(command):
 
 
 def lemon_found(words):
-    """The same of a line by LEMON's driver, whose seconds are those of solving alone."""
+    """The results and seconds in a line of LEMON's driver. Its seconds are those of solving
+    alone."""
     values = dict(word.split("=") for word in words if "=" in word)
     found = f"cost {values['cost']}" if "OPTIMAL" in words else "blocked"
     return found, {"seconds": float(values["solve"])}
 
 
 def peak_of(command):
-    """The most bytes that the program had at once."""
+    """The peak memory of a program, in bytes."""
     process = subprocess.Popen(command, stdout=subprocess.DEVNULL)
     _, status, usage = os.wait4(process.pid, 0)
     if status:
@@ -267,7 +268,8 @@ def peak_of(command):
 
 
 def compare(ours, peers, runs):
-    """The seconds of each run of both, by their names; the first run of each only warms up."""
+    """The seconds of each run of both programs, by their names. The first run of each is a
+    warm-up."""
     times = []
     for turn in range(runs + 1):
         found, our_times = run(ours)
@@ -281,12 +283,12 @@ def compare(ours, peers, runs):
 
 
 def measure(part, words):
-    """Runs each case of a part beside its peer, and says whether each figure is within the part's
+    """Runs each case of a part beside its peers. Returns whether all figures are within the part's
     limit."""
     if part == "assign":
         return assignments.measure(words)
-    if part == "augment":
-        return measure_augment(words)
+    if part == "fast":
+        return measure_fast(words)
     if part == "pieces":
         return pieces.measure(words)
     if part == "table":
@@ -335,16 +337,16 @@ def measure(part, words):
     return within
 
 
-def measure_augment(words):
-    """The part `augment`, which is skipped where LEMON isn't there."""
+def measure_fast(words):
+    """The part `fast`, which is skipped without LEMON."""
     if not has_lemon():
-        print("augment: left out, as LEMON isn't there (liblemon-dev)")
+        print("fast: left out, as LEMON isn't there (liblemon-dev)")
         return True
-    return processes.measure_augment(words, lemon_program(), family_file)
+    return processes.measure_fast(words, lemon_program(), family_file)
 
 
 def net_bytes(name, program, paths):
-    """The bytes an arc by which each further net raises the peak, where the nets outweigh the
+    """The bytes per arc by which each further net raises the peak, once the nets outweigh the
     reading."""
     few, more = 3, 7
     peaks = [peak_of([*program, *map(str, paths), str(nets)]) for nets in (few, more)]

@@ -1,11 +1,12 @@
 #!/usr/bin/env python3
-"""Makes an instance of the minimum-cost flow problem with an answer that its prices show.
+"""Makes an instance of the minimum-cost flow problem, and an answer whose prices show it to be
+optimal.
 
     python3 bench/shown.py NODES ARCS INSTANCE ANSWER [--seed S]
 
-Prices come first; then each arc gets a cost, and from its reduced cost a flow that these prices
-show; the supplies are what each node then sends. So the answer is right whatever the arcs. The same
-words always give the same bytes.
+The script chooses prices first. Then each arc gets a cost, and its reduced cost determines a flow
+for which the prices are a certificate. The supplies are those that the flow meets. So the answer is
+correct for any arcs. The same words always give the same bytes.
 """
 import argparse
 import random

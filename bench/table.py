@@ -1,13 +1,13 @@
-"""The part `table` of run.py: `mcf solve`, as the tools call it, beside LEMON's network simplex and
-cost scaling and dlib's assignment, over families and sizes.
+"""The part `table` of run.py compares `mcf solve`, with the options of the tools, with LEMON's
+network simplex and cost scaling and dlib's assignment, over families and sizes.
 
-Each row is an instance. Of ours there are the options that the tools choose for the size (`suited`
-of python/mcf_plan/solve.py), the least seconds of a processor of the whole process (reading,
-solving, writing the second form of a flow), their ratio to the better of the peers, the peak of its
-memory, and how many times as long it takes as the size before. Of LEMON's engines there are the
-same seconds, with reading by a quick reader and writing what isn't 0; of dlib's those of a program
-that writes the cost alone. What takes too long at one size is left out at the next. The rows are
-those of a table in Markdown. Costs have to agree.
+The script prints the rows of a Markdown table, one for each instance. For `mcf solve` a row has the
+options that the tools choose (`options_for` of python/mcf_plan/solve.py), the least processor
+seconds of the whole process (reading, solving, writing a flow in the sparse form), their ratio to
+the better of the peers, the peak memory, and the ratio to the time of the size before. For LEMON's
+engines it has the same seconds, with a fast reader and output of the nonzero flows; for dlib's
+engine those of a program that writes only the cost. A program that takes too long at one size is
+left out at the next. Costs must agree.
 """
 import os
 import pathlib
@@ -22,7 +22,7 @@ import programs
 
 BENCH = pathlib.Path(__file__).resolve().parent
 sys.path.insert(0, str(BENCH.parent / "python"))
-from mcf_plan.solve import suited  # noqa: E402
+from mcf_plan.solve import options_for  # noqa: E402
 
 OUT = BENCH / "out"
 PROGRAM = programs.built("mcf")
@@ -33,17 +33,16 @@ FLOWS = {family: range(10, 19) for family in ("netgen", "gridgen", "road", "goto
 DENSE = {"random": assignments.uniform, "mod 101": assignments.multiples}
 DENSE_ROWS = (256, 512, 1024, 2048)
 SPARSE_ROWS = (2**10, 2**12, 2**14, 2**16)
-# a size is left out where the one before took more seconds than this
+# a size is left out if the size before took more seconds than this
 MOST = 30.0
-# runs go on for so many seconds in a cell, but there are at least so many and at most so many of
-# them
+# the seconds of the runs for a cell, and the least and the greatest number of runs
 SECONDS, FEWEST, MOST_RUNS = 8, 1, 5
 OURS = "mcf"
 
 
 class Run:
-    """The least seconds of a processor of some runs, the greatest peak of memory in megabytes, and
-    the cost that was found."""
+    """The least processor seconds of some runs, the greatest peak memory in megabytes, and the
+    cost."""
 
     def __init__(self):
         self.seconds, self.peak, self.cost = float("inf"), 0.0, None
@@ -73,8 +72,8 @@ def cost_of(lines):
 
 
 def measured(commands, most=MOST_RUNS, fewest=FEWEST, seconds=SECONDS):
-    """Runs the commands in turn, and answers what was measured of each: runs go on for so many
-    seconds, within their numbers."""
+    """Runs the commands in turn for some seconds, within the limits on the number of runs. Returns
+    the measurements of each."""
     runs = {name: Run() for name in commands}
     start = time.monotonic()
     for turn in range(most):
@@ -89,8 +88,8 @@ def measured(commands, most=MOST_RUNS, fewest=FEWEST, seconds=SECONDS):
 
 
 def cells(options, run, before, peers):
-    """What the table says of ours. A peak that is no greater than that of this program, which
-    begins the run, isn't known."""
+    """The cells for `mcf solve`. Its peak memory is unknown if it isn't above that of this script,
+    which starts the process."""
     grown = f"{run.seconds / before:.1f}" if before else ""
     ratio = f"{run.seconds / min(peer.seconds for peer in peers):.2f}" if peers else ""
     own = resource.getrusage(resource.RUSAGE_SELF).ru_maxrss / 1024
@@ -100,10 +99,10 @@ def cells(options, run, before, peers):
 
 def rows(family, sizes, problem, file_of, peers_of):
     """The rows of a family, a line for each size. `file_of` makes the file of a size, and `problem`
-    says which it is and how many nodes it has."""
+    is the kind of its problem."""
     before = {}
     for size in sizes:
-        path, options = str(file_of(size)), suited(*problem(size))
+        path, options = str(file_of(size)), options_for(problem)
         both = {OURS: [PROGRAM, "solve", *options, "--form", "2", path], **peers_of(path)}
         runs = measured(
             {name: command for name, command in both.items() if before.get(name, 0) <= MOST}
@@ -123,8 +122,8 @@ def rows(family, sizes, problem, file_of, peers_of):
 
 
 def measure(words, lemon, family_file):
-    """Prints the table; `lemon` is the program by LEMON if it could be built, and `family_file`
-    makes the file of a family and a size."""
+    """Prints the table. `lemon` is the LEMON program, if it could be built, and `family_file` makes
+    the file of a family and a size."""
     if not words.built:
         programs.build("mcf")
     print(
@@ -141,7 +140,7 @@ def measure(words, lemon, family_file):
         rows(
             family,
             sizes,
-            lambda nodes: ("min", nodes),
+            "min",
             lambda nodes: family_file(family, nodes),
             of_lemon,
         )
@@ -151,14 +150,14 @@ def measure(words, lemon, family_file):
         rows(
             f"dense, {name}",
             DENSE_ROWS,
-            lambda size: ("asn", 2 * size),
+            "asn",
             lambda size: assignments.write(OUT / f"assign-{kind}-{size}.asn", size, arcs(size)),
             lambda path: {"dlib": [str(dense), path]} if dense else {},
         )
     rows(
         "sparse, 8 a row",
         SPARSE_ROWS,
-        lambda size: ("asn", 2 * size),
+        "asn",
         lambda size: assignments.write(
             OUT / f"assign-sparse-{size}.asn", size, assignments.sparse(size)
         ),

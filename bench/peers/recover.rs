@@ -1,4 +1,4 @@
-//! Recovers prices from the state of an answer, as `mcf_prices::recover` does, in plain Rust: prices are
+//! Recovers prices from the state of an answer, as `mcf_cancel::recover` does, in plain Rust: prices are
 //! lowered from 0 in rounds of a queue, and after each round the residual arcs that gave them are searched
 //! for a cycle.
 #![allow(dead_code)]

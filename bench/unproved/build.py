@@ -6,12 +6,12 @@ change before it is proved.
     PROGRAM ENGINE FILE      solves the instance in FILE by an engine, and writes the answer, as
                              `mcf solve --engine ENGINE --form 2 FILE`
 
-Contracts, ghost items and tactics are taken out of `mcf_solver` and the crates below it, and what
-is left is compiled as modules of one program over `kit.rs`, which stands for what of the kit's
-library differs from Rust's: what a crate newly uses of that is added there. `--of` names another
-checkout, to compare with, `--keep` a folder for what is compiled; flags are rustc's. Nothing is
-proved, and sums may wrap. The kit's compiler lays some structs out in another way, so that what
-decides between two forms is the proved program (`bench/run.py`).
+The script removes contracts, ghost items and tactics from `mcf_solver` and the crates below it, and
+compiles the rest as modules of one program over `kit.rs`. That file replaces the parts of the kit's
+library that differ from Rust's; if a crate uses a new part, add it there. `--of` names another
+checkout to compare with, and `--keep` a folder for the generated sources; flags are rustc's.
+Nothing is proved, and sums may wrap. The kit's compiler uses other layouts for some structs, so
+only the proved program (`bench/run.py`) decides between two variants.
 """
 import argparse
 import pathlib
@@ -27,7 +27,7 @@ TOP = "mcf_solver"
 
 
 def tokens(text):
-    """Comments, strings, characters and all else, piece by piece: (kind, text)."""
+    """Splits a text into comments, strings, characters and the rest: pieces of (kind, text)."""
     shape = re.compile(
         r"""(?P<comment>//[^\n]*|/\*.*?\*/)"""
         r"""|(?P<string>b?"(?:\\.|[^"\\])*"|b?'(?:\\.[^']*|[^'\\])')"""
@@ -39,7 +39,7 @@ def tokens(text):
 
 
 def closing(pieces, at):
-    """The place behind the bracket that closes the one at a place."""
+    """The place after the bracket that closes the one at a place."""
     depth = 0
     while True:
         kind, text = pieces[at]
@@ -59,7 +59,7 @@ def next_solid(pieces, at):
 
 
 def lines_of(pieces):
-    """As many line ends as pieces have."""
+    """The line ends of pieces."""
     return "\n" * sum(text.count("\n") for _, text in pieces)
 
 
@@ -101,7 +101,7 @@ def strip(text):
 
 
 def translated(text, crate, crates):
-    """A module of a crate, as a module of the program."""
+    """Translates a module of a crate into a module of the program."""
     text = strip(text)
     # a ghost field was public
     text = re.sub(r"pub\s*(?=\n\s*\})", "", text)
@@ -127,7 +127,7 @@ def translated(text, crate, crates):
 
 
 def crates_below(checkout, top):
-    """The crates that one stands on, and itself, each after those below it."""
+    """A crate and its dependencies, each after its own dependencies."""
     needs = {}
     for line in (checkout / "crates.txt").read_text().splitlines():
         name, _, rest = line.partition("#")[0].partition(":")
@@ -160,7 +160,7 @@ def generate(checkout, folder):
 
 
 def main():
-    words = argparse.ArgumentParser(usage=__doc__.split("\n")[2].strip())
+    words = argparse.ArgumentParser(usage=__doc__.split("\n")[3].strip())
     words.add_argument("program", type=pathlib.Path)
     words.add_argument("--of", type=pathlib.Path, default=CHECKOUT)
     words.add_argument("--keep", type=pathlib.Path)

@@ -20,7 +20,7 @@ fn main() {
         "cancel" => EngineChoice::Cancel,
         "simplex" => EngineChoice::Simplex,
         "scaling" => EngineChoice::Scaling,
-        "augment" => EngineChoice::Augment,
+        "fast" => EngineChoice::Fast,
         "sap" => EngineChoice::Sap,
         _ => EngineChoice::Auto,
     };
