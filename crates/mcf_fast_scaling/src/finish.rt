@@ -1,10 +1,10 @@
 //! The exact finish: prices at which no residual arc has a negative reduced cost, and the last
 //! cycles cancelled.
 
-use crate::columns::{at, put};
 use crate::search::Search;
 use crate::sorting::Mark;
-use crate::star::{LIMIT, NOWHERE};
+use crate::star::LIMIT;
+use mcf_columns::{NOWHERE, at, put};
 
 impl Search {
     /// Corrects labels pass by pass, each in a topological order of the arcs of reduced cost 0 and

@@ -9,8 +9,8 @@ ghost use Rattle.mcf_network.specs.States.{HasNoSurplus, IsPseudoflow, amount_at
 ghost use Rattle.mcf_engine.specs.NearPrices.{AreNearPrices, near_limit};
 ghost use Rattle.mcf_engine.specs.Outcomes.{IsLeastState};
 
-use crate::columns::at;
 use crate::search::Search;
+use mcf_columns::at;
 use mcf_network::{Net, Rid, State};
 use mcf_text::{ArcId, NodeId};
 

@@ -3,9 +3,8 @@
 //! A fast search for a least state of a large net, about which nothing is proved but that it is
 //! safe and ends, and a proved judge of what it finds.
 //!
-//! It builds on `mcf_network` and `mcf_engine`.
+//! It builds on `mcf_network`, `mcf_engine` and `mcf_columns`.
 
-mod columns;
 mod finish;
 mod judging;
 mod phase;

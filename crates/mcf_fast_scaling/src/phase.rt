@@ -1,8 +1,8 @@
 //! A phase: the flow becomes optimal within the slack, and balanced.
 
-use crate::columns::{at, put};
 use crate::search::Search;
-use crate::star::{LIMIT, NOTHING, NOWHERE};
+use crate::star::{LIMIT, NOTHING};
+use mcf_columns::{NOWHERE, at, put};
 
 // How many arcs a path has at most.
 const MOST_ARCS: u32 = 4;

@@ -1,9 +1,9 @@
 //! The search: cost scaling in whole units, with an exact finish.
 
-use crate::columns::{count_up, put};
 use crate::sorting::{Mark, NO_VISIT, Visit};
-use crate::star::{LIMIT, NOWHERE, Star, narrow};
+use crate::star::{LIMIT, Star, narrow};
 use crate::tables::{Buckets, Queue};
+use mcf_columns::{NOWHERE, count_up, put};
 use mcf_network::Net;
 use mcf_text::{ArcId, NoMemory, NodeId, copies};
 use std::alloc::Global;

@@ -1,9 +1,9 @@
 //! Depth-first searches along residual arcs of low reduced cost, and the negative cycles that they
 //! close.
 
-use crate::columns::{at, put};
 use crate::search::Search;
-use crate::star::{LIMIT, LeavingArc, NOWHERE};
+use crate::star::{LIMIT, LeavingArc};
+use mcf_columns::{NOWHERE, at, put};
 
 /// The progress of a search at a node: not visited yet, on the path, or left.
 #[derive(Clone, Copy, PartialEq, Eq)]

@@ -1,10 +1,10 @@
 //! Ranks of nodes that spread along residual arcs, from the greatest down (Dial), and prices that
 //! change by them: global price updates.
 
-use crate::columns::{at, put};
 use crate::search::Search;
 use crate::star::{EMPTY, FULL, LIMIT, Star};
 use crate::tables::Buckets;
+use mcf_columns::{at, put};
 
 // An update stops when all but one in this many active nodes are reached.
 const LEFT_PART: u32 = 5;

@@ -1,7 +1,6 @@
 //! Tables of the nodes that a search passes through: a queue, and buckets.
 
-use crate::columns::{at, put};
-use crate::star::NOWHERE;
+use mcf_columns::{NOWHERE, at, narrow, put};
 use mcf_text::{NoMemory, copies};
 use std::alloc::Global;
 
@@ -90,7 +89,7 @@ impl Buckets {
 
     /// The greatest rank.
     pub(crate) fn most(&self) -> u32 {
-        self.heads.len().saturating_sub(1).min(NOWHERE as usize) as u32
+        narrow(self.heads.len().saturating_sub(1))
     }
 
     /// The rank of a node.

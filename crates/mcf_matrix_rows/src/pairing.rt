@@ -1,7 +1,7 @@
 //! Which rows and columns are paired, and what the columns cost.
 
-use crate::columns::{NOWHERE, Pile, at, narrow, put};
 use crate::scans::{NOTHING, Two};
+use mcf_columns::{NOWHERE, Pile, at, narrow, put};
 use mcf_text::{NoMemory, copies};
 use std::alloc::Global;
 

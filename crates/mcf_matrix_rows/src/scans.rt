@@ -1,7 +1,7 @@
 //! Scans of whole rows, four entries at a time.
 ghost use Rattle.std.specs.Prelude.{◌≡◌, ◌≤◌, length};
 
-use crate::columns::{narrow, put};
+use mcf_columns::{narrow, put};
 use std::simd::prelude::*;
 
 /// More than anything that a scan compares: there is none.

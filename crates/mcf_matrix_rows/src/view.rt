@@ -1,6 +1,6 @@
 //! A matrix as a search reads it.
 
-use crate::columns::{at, tail};
+use mcf_columns::{at, tail};
 
 /// The costs of so many rows and columns, and the distance from one row to the next; and a row of
 /// zeros after the last, or nothing. No pair is forbidden here.

@@ -2,7 +2,7 @@
 //! path algorithm for dense and sparse linear assignment problems, 1987).
 
 use crate::tuning::BIDS_PER_ROW;
-use mcf_matrix_rows::{NOWHERE, Pile};
+use mcf_columns::{NOWHERE, Pile};
 
 /// What a bid did: which row lost its column, if one did, and whether the price of the column fell.
 #[derive(Clone, Copy)]

@@ -1,8 +1,9 @@
 //! Copies of matrices in which another cost stands for forbidden pairs, turned over if there are
 //! more rows than columns.
 
+use mcf_columns::{at, narrow, put};
 use mcf_matrix::FORBIDDEN;
-use mcf_matrix_rows::{View, at, narrow, put};
+use mcf_matrix_rows::View;
 use mcf_text::{NoMemory, copies};
 use std::alloc::Global;
 

@@ -3,7 +3,8 @@
 
 use crate::found::Cover;
 use crate::tuning::COVER_PATHS;
-use mcf_matrix_rows::{NOWHERE, Pairing, Pile, View, at, put};
+use mcf_columns::{NOWHERE, Pile, at, put};
+use mcf_matrix_rows::{Pairing, View};
 use mcf_text::{NoMemory, copies};
 use std::alloc::Global;
 

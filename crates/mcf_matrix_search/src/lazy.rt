@@ -7,7 +7,8 @@ use crate::lists::{Listed, Lists};
 use crate::reduction::reduce_columns;
 use crate::tuning::{FEW_FREE, LIST_LENGTH, LIST_READINGS, PATH_ENTRIES, SETTLED_ENTRIES};
 use crate::whole::is_hard;
-use mcf_matrix_rows::{BLOCK, NOTHING, NOWHERE, Pairing, Pile, Two, View, at, put, two_least};
+use mcf_columns::{NOWHERE, Pile, at, put};
+use mcf_matrix_rows::{BLOCK, NOTHING, Pairing, Two, View, two_least};
 use mcf_text::{NoMemory, copies};
 use std::alloc::Global;
 

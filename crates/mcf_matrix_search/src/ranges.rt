@@ -1,7 +1,8 @@
 //! The range of the costs of a matrix, and a cost beyond it that stands for a forbidden pair.
 
+use mcf_columns::at;
 use mcf_matrix::FORBIDDEN;
-use mcf_matrix_rows::{View, at, row_greatest};
+use mcf_matrix_rows::{View, row_greatest};
 
 /// Prices stay well within 64 bits if no cost is greater.
 const MOST: i64 = 1 << 57;

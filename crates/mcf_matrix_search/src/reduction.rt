@@ -1,7 +1,8 @@
 //! Column reduction: each column takes the least entry that it has as its price, and pairs with the
 //! row of that, if it is free.
 
-use mcf_matrix_rows::{NOWHERE, Pairing, View, at, lower_prices, narrow, put};
+use mcf_columns::{NOWHERE, at, narrow, put};
+use mcf_matrix_rows::{Pairing, View, lower_prices};
 
 /// Reduces the columns of a square matrix, from the first on; a column pairs with the first row
 /// that has its least entry. `rows` is scratch, one for each column; `counts` tells how many

@@ -4,8 +4,9 @@ ghost use Rattle.std.specs.Prelude.{◌≤◌, ◌+◌, IfNone, IfOk, OnErr};
 use crate::found::{Assignment, Found, Plan};
 use crate::planning::{are_even, find_without_pairs};
 use crate::{assigning, planning};
+use mcf_columns::narrow;
 use mcf_matrix::{Masses, Matrix};
-use mcf_matrix_rows::{View, narrow};
+use mcf_matrix_rows::View;
 use mcf_text::NoMemory;
 use std::alloc::Global;
 

@@ -3,10 +3,8 @@
 use crate::bidding::{Bid, Bidder, reduce_rows};
 use crate::reduction::reduce_columns;
 use crate::tuning::{BUDGET_ROWS, HARD_ROWS, SETTLED_PER_ROW};
-use mcf_matrix_rows::{
-    BLOCK, NOWHERE, Pairing, Pile, RowOffer, Two, UNREACHED, View, at, copy, narrow, offer_all,
-    put, two_least,
-};
+use mcf_columns::{NOWHERE, Pile, at, copy, narrow, put};
+use mcf_matrix_rows::{BLOCK, Pairing, RowOffer, Two, UNREACHED, View, offer_all, two_least};
 use mcf_text::{NoMemory, copies};
 use std::alloc::Global;
 

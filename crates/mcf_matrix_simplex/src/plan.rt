@@ -1,6 +1,7 @@
 //! A first transport plan, by the cheapest columns of rows.
 
-use mcf_matrix_rows::{Pile, View, at, copy, lower_prices, put, row_least};
+use mcf_columns::{Pile, at, copy, put};
+use mcf_matrix_rows::{View, lower_prices, row_least};
 use mcf_text::{NoMemory, copies};
 use std::alloc::Global;
 

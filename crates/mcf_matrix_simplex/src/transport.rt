@@ -3,7 +3,8 @@
 use crate::basis::{Basis, Entering, Links};
 use crate::plan::FirstPlan;
 use crate::tuning::PIVOTS_PER_NODE;
-use mcf_matrix_rows::{NOWHERE, Pairing, View, at, put, row_least};
+use mcf_columns::{NOWHERE, at, put};
+use mcf_matrix_rows::{Pairing, View, row_least};
 use mcf_text::{NoMemory, copies};
 use std::alloc::Global;
 
