@@ -4,9 +4,8 @@ use crate::copying::copy_costs;
 use crate::covers::find_cover;
 use crate::found::{Assignment, Cover, Found};
 use crate::ranges::{far_cost, has_forbidden};
-use crate::tuning::LIST_ROWS;
-use crate::{lazy, whole};
 use mcf_columns::{NOWHERE, at, put};
+use mcf_matrix_paths::search_by_paths;
 use mcf_matrix_rows::{Pairing, View};
 use mcf_matrix_simplex::search_matching;
 use mcf_text::{NoMemory, copies};
@@ -73,14 +72,10 @@ fn reaches(view: View<'_>, pairing: &Pairing, far: i64) -> bool {
     false
 }
 
-// A matching of all rows with prices of columns: by whole rows or by lists, and by the simplex
-// where these give up.
+// Searches for a matching of all rows with prices of columns: by augmenting paths, and by the
+// simplex if these exceed their budget.
 fn search(alloc: Global, view: View<'_>) -> Result<Option<Pairing>, NoMemory> {
-    let first = if view.rows < LIST_ROWS {
-        whole::search(alloc, view)?
-    } else {
-        lazy::search(alloc, view)?
-    };
+    let first = search_by_paths(alloc, view)?;
     if first.is_some() {
         return Ok(first);
     }

@@ -2,11 +2,14 @@
 //! pairs (König, 1931).
 
 use crate::found::Cover;
-use crate::tuning::COVER_PATHS;
 use mcf_columns::{NOWHERE, Pile, at, put};
 use mcf_matrix_rows::{Pairing, View};
 use mcf_text::{NoMemory, copies};
 use std::alloc::Global;
+
+// The search for a cover gives up after so many augmenting paths. None is needed if 64 bits hold
+// the cost that stands for forbidden pairs: then the matching is already as large as it can be.
+const COVER_PATHS: u32 = 64;
 
 /// A search for alternating paths from the free rows, through pairs that cost less than a limit.
 #[derive(Drop)]

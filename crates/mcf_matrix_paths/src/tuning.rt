@@ -44,7 +44,3 @@ pub(crate) const SETTLED_ENTRIES: u64 = 8;
 /// them free. It leaves all of products, and 0.97 of costs of rank 3, on which paths settle a third
 /// of all columns for each row; 0.35 to 0.44 of random and Euclidean costs.
 pub(crate) const HARD_ROWS: u32 = 300;
-
-/// So often a matching that stays short is augmented before a cover is sought in vain. The search
-/// makes it as large as it can be if 64 bits hold what forbidden pairs cost: then none is needed.
-pub(crate) const COVER_PATHS: u32 = 64;
