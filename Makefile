@@ -55,6 +55,7 @@ lint:
 	@scripts/words.py check
 	@scripts/pictures.py check
 	@scripts/allocations.py
+	@python3 python/tests/plans.py check
 	@scripts/lint.sh
 
 quick:

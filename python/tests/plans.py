@@ -1,18 +1,23 @@
 #!/usr/bin/env python3
 """Least plans of small random models, found by trying all of them, with no code of the suite.
 
-    python/tests/plans.py COUNT SEED     prints rows for crates/mcf_plan_tests/src/tried.rt
+    python/tests/plans.py write     writes the rows of crates/mcf_plan_tests/src/tried.rt
+    python/tests/plans.py check     compares them with what `write` would write; status 1 if they
+                                    differ
 
 A model has three places and three routes. Each route carries at least so much; its steps, of rising
 cost, are filled in order; the last may be without a limit; it may be used both ways. All amounts in
 halves of a unit are tried, up to all supplies, demands and leasts together, and one more. One in
-ten of the models without a plan is printed.
+ten of the models without a plan is used.
 """
 import itertools
+import pathlib
 import random
 import sys
 from fractions import Fraction
 
+TABLE = pathlib.Path(__file__).resolve().parents[2] / "crates/mcf_plan_tests/src/tried.rt"
+COUNT, SEED = 16, 1
 PLACES = 3
 ROUTES = 3
 # No route of limited steps takes more.
@@ -92,40 +97,65 @@ def option(number):
     return "None" if number is None else f"Some({number})"
 
 
-def row(supplies, routes, cost):
-    """A row of the table."""
+def route_lines(route, number):
+    """A route of a row, in the layout of `rt fmt`."""
+    values = {
+        "tail": route["tail"],
+        "head": route["head"],
+        "first_step": number,
+        "step_count": len(route["steps"]),
+        "least": route["least"],
+        "last_most": option(route["last_most"]),
+        "last_cost": route["last_cost"],
+        "both": str(route["both"]).lower(),
+    }
+    fields = [f"                {name}: {value}," for name, value in values.items()]
+    return ["            RouteRow {", *fields, "            },"]
+
+
+def row_lines(supplies, routes, cost):
+    """A row of the table, in the layout of `rt fmt`."""
     steps = [route["steps"][0] if route["steps"] else (0, 0) for route in routes]
-    return "\n".join(
-        [
-            "    TriedRow {",
-            f"        supplies: {supplies},",
-            "        steps: ["
-            + ", ".join(f"Step {{ most: {most}, cost: {price} }}" for most, price in steps)
-            + "],",
-            "        routes: [",
-            *(
-                f"            RouteRow {{ tail: {route['tail']}, head: {route['head']},"
-                f" first_step: {number}, step_count: {len(route['steps'])},"
-                f" least: {route['least']}, last_most: {option(route['last_most'])},"
-                f" last_cost: {route['last_cost']}, both: {str(route['both']).lower()} }},"
-                for number, route in enumerate(routes)
-            ),
-            "        ],",
-            f"        cost: {option(cost)},",
-            "    },",
-        ]
-    )
+    return [
+        "    TriedRow {",
+        f"        supplies: {supplies},",
+        "        steps: [",
+        *(f"            Step {{ most: {most}, cost: {price} }}," for most, price in steps),
+        "        ],",
+        "        routes: [",
+        *(line for number, route in enumerate(routes) for line in route_lines(route, number)),
+        "        ],",
+        f"        cost: {option(cost)},",
+        "    },",
+    ]
 
 
-def main():
-    count, seed = map(int, sys.argv[1:])
-    rng = random.Random(seed)
-    while count:
+def table_lines():
+    """The rows of the table."""
+    rng = random.Random(SEED)
+    lines, count = [], 0
+    while count < COUNT:
         supplies, routes = random_model(rng)
         cost = least(supplies, routes)
         if cost is not None or rng.random() < 0.1:
-            print(row(supplies, routes, cost))
-            count -= 1
+            lines += row_lines(supplies, routes, cost)
+            count += 1
+    return lines
+
+
+def main():
+    if sys.argv[1:] not in (["write"], ["check"]):
+        sys.exit(__doc__)
+    before = TABLE.read_text()
+    head, opening, rest = before.partition(f"const ROWS: [TriedRow; {COUNT}] = [\n")
+    _, closing, tail = rest.partition("\n];\n")
+    if not opening or not closing:
+        sys.exit(f"plans: {TABLE} has no table of {COUNT} rows")
+    after = head + opening + "\n".join(table_lines()) + closing + tail
+    if sys.argv[1] == "write":
+        TABLE.write_text(after)
+    elif before != after:
+        sys.exit(f"plans: {TABLE} differs from what python/tests/plans.py writes")
 
 
 if __name__ == "__main__":
