@@ -13,20 +13,31 @@ use mcf_instance::RawArc;
 use mcf_text::NoMemory;
 use std::alloc::Global;
 
-// The arc of a step before the last, of what is still to be carried at least.
-fn step_arc(ends: (u32, u32), rest: i64, step: Step) -> RawArc
-    ensures { arc_of_numbers result ≡ step_arc ends.0 ends.1 rest step }
+// A route in one direction, without its steps before the last.
+#[derive(Clone, Copy)]
+struct Way {
+    tail: u32,
+    head: u32,
+    // how many units it carries at least
+    least: i64,
+    // the last step, which takes the reach if the route has no limit
+    last: Step,
+}
+
+// Returns the arc of a step before the last, if at least `rest` units are left to carry.
+fn step_arc(direction: Way, rest: i64, step: Step) -> RawArc
+    ensures { arc_of_numbers result ≡ step_arc direction.tail direction.head rest step }
 {
     RawArc {
-        src: ends.0,
-        dst: ends.1,
+        src: direction.tail,
+        dst: direction.head,
         low: rest.min(step.most),
         cap: step.most,
         cost: step.cost,
     }
 }
 
-// What is still to be carried at least, after a step.
+// Returns how many units at least are left to carry after a step.
 fn rest_after(rest: i64, step: Step) -> i64
     requires { pos 0 ≤ℤ step.most }
     ensures { result ≡ rest -ℤ int_min rest step.most }
@@ -34,42 +45,36 @@ fn rest_after(rest: i64, step: Step) -> i64
     rest - rest.min(step.most)
 }
 
-// Appends the arcs of one way.
-fn push_way(
-    ends: (u32, u32),
-    least: i64,
-    steps: &[Step],
-    last: (i64, i64),
-    arcs: &mut Vec<RawArc>,
-) -> Result<(), NoMemory>
+// Appends the arcs of a route in one direction, which has these steps before the last.
+fn push_way(direction: Way, steps: &[Step], arcs: &mut Vec<RawArc>) -> Result<(), NoMemory>
     requires { All (λ s. pos 0 ≤ℤ s.most) steps.now }
-    ensures { OnOk result (map arc_of_numbers arcs.new.items ≡ map arc_of_numbers arcs.old.items ++ way ends.0 ends.1 least steps.now last.0 last.1) }
+    ensures { OnOk result (map arc_of_numbers arcs.new.items ≡ map arc_of_numbers arcs.old.items ++ way direction.tail direction.head direction.least steps.now direction.last.most direction.last.cost) }
 {
-    let mut rest = least;
+    let mut rest = direction.least;
     for place in 0..steps.len() {
-        let arc = step_arc(ends, rest, steps[place]);
+        let arc = step_arc(direction, rest, steps[place]);
         arcs.push(arc)?;
         rest = rest_after(rest, steps[place]);
     }
-    let arc = last_arc(ends, rest, last);
+    let arc = last_arc(direction, rest);
     arcs.push(arc)?;
     Ok(())
 }
 
-// The arc of the last step.
-fn last_arc(ends: (u32, u32), rest: i64, last: (i64, i64)) -> RawArc
-    ensures { arc_of_numbers result ≡ last_arc ends.0 ends.1 rest last.0 last.1 }
+// Returns the arc of the last step.
+fn last_arc(direction: Way, rest: i64) -> RawArc
+    ensures { arc_of_numbers result ≡ last_arc direction.tail direction.head rest direction.last.most direction.last.cost }
 {
     RawArc {
-        src: ends.0,
-        dst: ends.1,
+        src: direction.tail,
+        dst: direction.head,
         low: rest,
-        cap: last.0,
-        cost: last.1,
+        cap: direction.last.most,
+        cost: direction.last.cost,
     }
 }
 
-// The cap of a last step, which is the reach where it has no limit.
+// Returns the capacity of a last step's arc, which is the reach if the step has no limit.
 fn last_cap(reach: i64, most: Option<i64>) -> i64
     ensures { result ≡ last_cap reach most }
 {
@@ -79,7 +84,7 @@ fn last_cap(reach: i64, most: Option<i64>) -> i64
     }
 }
 
-// Appends the arcs of a route with these steps.
+// Appends the arcs of a route, there and back, which has these steps before the last.
 fn push_route(
     reach: i64,
     row: RouteRow,
@@ -89,15 +94,30 @@ fn push_route(
     requires { All (λ s. pos 0 ≤ℤ s.most) own.now }
     ensures { OnOk result (map arc_of_numbers arcs.new.items ≡ map arc_of_numbers arcs.old.items ++ (there reach (route_with row own.now) ++ back reach (route_with row own.now))) }
 {
-    let last = (last_cap(reach, row.last_most), row.last_cost);
-    push_way((row.tail, row.head), row.least, own, last, arcs)?;
+    let last = Step {
+        most: last_cap(reach, row.last_most),
+        cost: row.last_cost,
+    };
+    let there = Way {
+        tail: row.tail,
+        head: row.head,
+        least: row.least,
+        last,
+    };
+    push_way(there, own, arcs)?;
     if row.both {
-        push_way((row.head, row.tail), 0, own, last, arcs)?;
+        let back = Way {
+            tail: row.head,
+            head: row.tail,
+            least: 0,
+            last,
+        };
+        push_way(back, own, arcs)?;
     }
     Ok(())
 }
 
-// The arcs of routes.
+// Returns the arcs of routes.
 fn listed(
     alloc: Global,
     reach: i64,

@@ -11,24 +11,22 @@ loop-place-preserved c =
     let rest = to_z w64 c.loop-place.rest-bits in
     let s = slice_index_or c.args.steps.now c.loop-place.place (record { most = pos 0; cost = pos 0 }) in
     let e : to_z w64 (of_z w64 c.rest_after-rest.result) ≡ c.rest_after-rest.result = omega (arith, ints) in
-    let left = way c.args.ends.0 c.args.ends.1 c.rest_after-rest.result (drop (c.loop-place.place + 1) c.args.steps.now) c.args.last.0 c.args.last.1 in
-    rw e (pushed c.loop-place.arcs.items c.push.new.self.items c.step_arc-arc.result (step_arc c.args.ends.0 c.args.ends.1 rest s) left
+    let left = way c.args.direction.tail c.args.direction.head c.rest_after-rest.result (drop (c.loop-place.place + 1) c.args.steps.now) c.args.direction.last.most c.args.direction.last.cost in
+    rw e (pushed c.loop-place.arcs.items c.push.new.self.items c.step_arc-arc.result (step_arc c.args.direction.tail c.args.direction.head rest s) left
     c.in_ok-push.ensures.items c.step_arc-arc.ensures
-    ∙ ap (λ z. map arc_of_numbers c.loop-place.arcs.items ++ step_arc c.args.ends.0 c.args.ends.1 rest s
-    ∷ way c.args.ends.0 c.args.ends.1 z (drop (c.loop-place.place + 1) c.args.steps.now) c.args.last.0 c.args.last.1) c.rest_after-rest.ensures
+    ∙ ap (λ z. map arc_of_numbers c.loop-place.arcs.items ++ step_arc c.args.direction.tail c.args.direction.head rest s
+    ∷ way c.args.direction.tail c.args.direction.head z (drop (c.loop-place.place + 1) c.args.steps.now) c.args.direction.last.most c.args.direction.last.cost) c.rest_after-rest.ensures
     ∙ ap (λ xs. map arc_of_numbers c.loop-place.arcs.items ++ xs)
-    (sym (way_more c.args.ends.0 c.args.ends.1 rest c.args.steps.now c.loop-place.place (record { most = pos 0; cost = pos 0 }) c.args.last.0 c.args.last.1
+    (sym (way_more c.args.direction.tail c.args.direction.head rest c.args.steps.now c.loop-place.place (record { most = pos 0; cost = pos 0 }) c.args.direction.last.most c.args.direction.last.cost
     c.loop-place-test.true))
     ∙ c.loop-place.invariant)
 
 pub returns : goal.returns
 returns c =
     let rest = to_z w64 c.loop-place.rest-bits in
-    let e : to_z w64 (of_z w64 c.args.least) ≡ c.args.least = omega (arith, ints, c.ranges.least) in
     sym (append-nil (map arc_of_numbers c.push-2.new.self.items))
-    ∙ pushed c.loop-place.arcs.items c.push-2.new.self.items c.last_arc-arc.result (last_arc c.args.ends.0 c.args.ends.1 rest c.args.last.0 c.args.last.1) []
+    ∙ pushed c.loop-place.arcs.items c.push-2.new.self.items c.last_arc-arc.result (last_arc c.args.direction.tail c.args.direction.head rest c.args.direction.last.most c.args.direction.last.cost) []
     c.in_ok-push-2.ensures.items c.last_arc-arc.ensures
     ∙ ap (λ xs. map arc_of_numbers c.loop-place.arcs.items ++ xs)
-    (sym (way_end c.args.ends.0 c.args.ends.1 rest c.args.steps.now c.loop-place.place c.args.last.0 c.args.last.1 c.loop-place-test.false))
+    (sym (way_end c.args.direction.tail c.args.direction.head rest c.args.steps.now c.loop-place.place c.args.direction.last.most c.args.direction.last.cost c.loop-place-test.false))
     ∙ c.loop-place.invariant
-    ∙ ap (λ z. map arc_of_numbers c.args.arcs.now.items ++ way c.args.ends.0 c.args.ends.1 z c.args.steps.now c.args.last.0 c.args.last.1) e
