@@ -33,8 +33,8 @@ pub(crate) struct KeyEntry {
 /// Each key with which a node was queued has an entry, in a sorted list or in a binary heap; first
 /// comes the last of the list or the top of the heap. The list is for nodes that are queued all at
 /// once: to sort their entries and to take them off its end takes less time than as many pushes and
-/// pops. Each later key goes into the heap. An entry is skipped if its node is no longer queued, or
-/// has another key. If the heap has no place for another entry, the list is made anew from the
+/// pops. Each later key goes into the heap. An entry is skipped if its node isn't queued, or has
+/// another key. If the heap has no place for another entry, the list is made anew from the
 /// queued nodes, and the heap is emptied. Only `new` allocates. Clauses see the keys of all nodes,
 /// and the table of those that are queued.
 #[derive(Drop)]
@@ -61,7 +61,7 @@ impl Model for Heap {
 }
 
 impl Heap {
-    /// The heap in which no node of a net is queued, and each has key 0.
+    /// Makes the heap of a net's nodes, in which no node is queued and each has key 0.
     ///
     /// # Errors
     ///
@@ -84,7 +84,7 @@ impl Heap {
         })
     }
 
-    /// The key of a node: the one with which it is queued, or its last one.
+    /// Returns the key of a node: the one with which it is queued, or its last one.
     pub fn key(&self, v: NodeId) -> i128
         requires { IsNode (length self.now.keys) v }
         ensures { result ≡ at_node self.now.keys v }
@@ -92,7 +92,7 @@ impl Heap {
         self.keys[v.place()]
     }
 
-    /// Whether a node is queued.
+    /// Returns whether a node is queued.
     pub fn waits(&self, v: NodeId) -> bool
         requires { IsNode (length self.now.waiting) v }
         ensures { IsTrue result ↔ Waits self.now v }
@@ -142,7 +142,8 @@ impl Heap {
         true
     }
 
-    /// Takes the node that comes first, if any is queued. It keeps its key.
+    /// Removes the node that comes first from the queue and returns it, if any is queued. It keeps
+    /// its key.
     pub fn pop(&mut self) -> Option<NodeId>
         ensures first { IfSome result (IsFirst self.old) }
         ensures taken { IfSome result (λ v. self.new ≡ without self.old v) }
@@ -170,7 +171,7 @@ impl Heap {
     }
 }
 
-// Whether the node of an entry is queued with the key of the entry.
+// Returns whether the node of an entry is queued with the key of the entry.
 fn is_current(keys: &[i128], waiting: &[bool], entry: KeyEntry) -> bool
     requires key { entry.item < length keys.now }
     requires mark { entry.item < length waiting.now }
@@ -180,7 +181,8 @@ fn is_current(keys: &[i128], waiting: &[bool], entry: KeyEntry) -> bool
     waiting[i] && keys[i] == entry.key
 }
 
-// Takes the entry that comes first, the last of the list or the top of the heap, if there is one.
+// Removes the entry that comes first, the last of the list or the top of the heap, and returns it,
+// if there is one.
 fn take(
     order: &mut Vec<Reverse<KeyEntry>>,
     entries: &mut BinaryHeap<Reverse<KeyEntry>>,

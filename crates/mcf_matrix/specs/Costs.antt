@@ -1,11 +1,11 @@
--- What each pair of a row and a column costs. Rows and columns count from 0 here, as the places of
+-- The cost of each pair of a row and a column. Rows and columns count from 0 here, as the places of
 -- an array do.
 -- Source: textbook
 use Rattle.std.specs.Prelude.{ℕ, ◌<◌, Option, IsSome, IfSome, ℤ}
 use Rattle.mcf_flows.specs.Limits.{limits}
 use Rattle.mcf_flows.specs.WellFormed.{IsUpTo}
 
--- the costs of the pairs of so many rows and so many columns; no cost: the pair is forbidden
+-- the numbers of rows and columns, and the cost of each pair; a pair without a cost is forbidden
 -- Source: AMO 12.4
 pub record Costs : Type 0 where
   pub rows : ℕ
@@ -17,7 +17,7 @@ pub record Costs : Type 0 where
 abbrev pub IsPlace : Costs → ℕ → ℕ → Type 0
 IsPlace m i j = (i < m.rows) × (j < m.columns)
 
--- the pair may be used
+-- the pair is allowed
 -- Source: own
 abbrev pub IsAllowed : Costs → ℕ → ℕ → Type 0
 IsAllowed m i j = IsSome (m.cost i j)
@@ -27,7 +27,7 @@ IsAllowed m i j = IsSome (m.cost i j)
 abbrev pub HasSmallCost : Costs → ℕ → ℕ → Type 0
 HasSmallCost m i j = IfSome (m.cost i j) (IsUpTo limits.cost)
 
--- so do the costs of all allowed pairs
+-- the costs of all allowed pairs lie within the limit of costs
 -- Source: own
 abbrev pub AreSmallCosts : Costs → Type 0
 AreSmallCosts m = (i j : ℕ) → IsPlace m i j → HasSmallCost m i j

@@ -9,11 +9,11 @@ use Rattle.mcf_flows.specs.Network.{when}
 use Rattle.mcf_matrix.specs.Costs.{Costs, IsAllowed, IsPlace}
 use Rattle.mcf_matrix.specs.PlaceSums.{at_place, is_marked, sum_below}
 
--- the masses of the marked places, added up
+-- the sum of the masses (supplies or demands) of the marked places
 abbrev pub mass_in : List ℤ → List Bool → ℕ → ℤ
 mass_in masses marks n = sum_below (λ i. when (is_marked marks i) (at_place masses i)) n
 
--- where the row is marked, the column is; or the reverse
+-- if the row is marked, so is the column; or, for the other side, the reverse
 abbrev pub IsClosedMark : Bool → Bool → Side → Type 0
 IsClosedMark row column Send = IsTrue row → IsTrue column
 IsClosedMark row column Take = IsTrue column → IsTrue row
@@ -22,7 +22,7 @@ IsClosedMark row column Take = IsTrue column → IsTrue row
 abbrev pub AreClosed : Costs → List Bool → List Bool → Side → Type 0
 AreClosed m rows columns side = (i j : ℕ) → IsPlace m i j → IsAllowed m i j → IsClosedMark (is_marked rows i) (is_marked columns j) side
 
--- the marked rows have more than the marked columns take; or less
+-- the marked rows supply more than the marked columns demand; or, for the other side, less
 abbrev pub IsUneven : ℤ → ℤ → Side → Type 0
 IsUneven supply demand Send = demand <ℤ supply
 IsUneven supply demand Take = supply <ℤ demand

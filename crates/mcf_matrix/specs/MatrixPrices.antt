@@ -6,7 +6,7 @@ use Rattle.mcf_matrix.specs.Costs.{Costs, IsPlace}
 use Rattle.mcf_matrix.specs.Matchings.{IsFreeColumn, IsFreeRow, IsMatching, IsPair}
 use Rattle.mcf_matrix.specs.PlaceSums.{at_place, sum_below}
 
--- what is left of the cost of row i and column j when the prices of both are taken off
+-- the reduced cost of row i and column j: the cost minus both prices
 abbrev pub reduced_cost : List ℤ → List ℤ → ℕ → ℕ → ℤ → ℤ
 reduced_cost u v i j cost = cost -ℤ at_place u i -ℤ at_place v j
 
@@ -14,7 +14,7 @@ reduced_cost u v i j cost = cost -ℤ at_place u i -ℤ at_place v j
 abbrev pub AreNoneBelow : Costs → List ℤ → List ℤ → Type 0
 AreNoneBelow m u v = (i j : ℕ) → IsPlace m i j → IfSome (m.cost i j) (λ c. pos 0 ≤ℤ reduced_cost u v i j c)
 
--- one price for each row and one for each column, by which none is below 0
+-- one price for each row and one for each column, such that no reduced cost is below 0
 pub record AreFeasiblePrices (m : Costs) (u v : List ℤ) : Type 0 where
   pub one_per_row : length u ≡ m.rows
   pub one_per_column : length v ≡ m.columns
@@ -24,23 +24,22 @@ pub record AreFeasiblePrices (m : Costs) (u v : List ℤ) : Type 0 where
 abbrev pub AreTight : Costs → List ℕ → List ℤ → List ℤ → Type 0
 AreTight m x u v = (i j : ℕ) → IsPair m x i j → IfSome (m.cost i j) (λ c. reduced_cost u v i j c ≡ pos 0)
 
--- where there are more columns than rows, no column's price is above 0, and that of a free column
--- is 0
+-- if there are more columns than rows, no column's price is above 0, and that of a free column is 0
 abbrev pub AreColumnsPriced : Costs → List ℕ → List ℤ → Type 0
 AreColumnsPriced m x v = m.rows < m.columns → (j : ℕ) → j < m.columns → (at_place v j ≤ℤ pos 0) × (IsFreeColumn m x j → at_place v j ≡ pos 0)
 
--- where there are more rows than columns, the same of rows
+-- if there are more rows than columns, no row's price is above 0, and that of a free row is 0
 abbrev pub AreRowsPriced : Costs → List ℕ → List ℤ → Type 0
 AreRowsPriced m x u = m.columns < m.rows → (i : ℕ) → i < m.rows → (at_place u i ≤ℤ pos 0) × (IsFreeRow m x i → at_place u i ≡ pos 0)
 
--- prices that show a matching least
+-- prices that show a matching to be least
 pub record AreMatrixPrices (m : Costs) (x : List ℕ) (u v : List ℤ) : Type 0 where
   pub feasible : AreFeasiblePrices m u v
   pub tight : AreTight m x u v
   pub columns_priced : AreColumnsPriced m x v
   pub rows_priced : AreRowsPriced m x u
 
--- a matching with prices that show it least
+-- a matching with prices that show it to be least
 pub record IsShownMatching (m : Costs) (x : List ℕ) (u v : List ℤ) : Type 0 where
   pub matching : IsMatching m x
   pub prices : AreMatrixPrices m x u v

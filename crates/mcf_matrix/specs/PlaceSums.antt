@@ -15,6 +15,6 @@ at_place xs i = slice_index_or xs i (pos 0)
 abbrev pub is_marked : List Bool → ℕ → Bool
 is_marked table i = slice_index_or table i false
 
--- how many places a table marks
+-- the number of places that a table marks
 abbrev pub mark_count : List Bool → ℕ
 mark_count table = count_by (λ b. b) table

@@ -1,4 +1,4 @@
--- Transport plans: how much goes from each row to each column (the transportation problem).
+-- Transport plans: the amount that goes from each row to each column (the transportation problem).
 -- Source: Hitchcock 1941, AMO 1.3
 use Rattle.std.specs.Prelude.{◌≡◌, ℕ, ◌<◌, ◌==◌, IfSome, List, [], ◌∷◌, length, ℤ, pos, ◌+ℤ◌, ◌*ℤ◌, ◌≤ℤ◌, ◌<ℤ◌, unwrap_or}
 use Rattle.std.specs.List.{All}
@@ -13,15 +13,15 @@ abbrev pub plan_sum : (Shipment → ℤ) → List Shipment → ℤ
 plan_sum term [] = pos 0
 plan_sum term (s ∷ plan) = term s +ℤ plan_sum term plan
 
--- what leaves row i
+-- the amount that leaves row i
 abbrev pub sent_from : List Shipment → ℕ → ℤ
 sent_from plan i = plan_sum (λ s. when (s.row == i) s.amount) plan
 
--- what comes to column j
+-- the amount that comes to column j
 abbrev pub received_at : List Shipment → ℕ → ℤ
 received_at plan j = plan_sum (λ s. when (s.column == j) s.amount) plan
 
--- an entry is of an allowed pair, and its amount isn't below 0
+-- the pair of an entry is allowed, and its amount isn't below 0
 pub record IsShipment (m : Costs) (s : Shipment) : Type 0 where
   pub place : IsPlace m s.row s.column
   pub allowed : IsAllowed m s.row s.column
@@ -49,14 +49,15 @@ pub record IsLeastPlan (m : Costs) (supplies demands : List ℤ) (plan : List Sh
 abbrev pub IsTightShipment : Costs → List ℤ → List ℤ → Shipment → Type 0
 IsTightShipment m u v s = pos 0 <ℤ s.amount → IfSome (m.cost s.row s.column) (λ c. reduced_cost u v s.row s.column c ≡ pos 0)
 
--- a plan with prices that show it least: no reduced cost is below 0, and those of used pairs are 0
+-- a plan with prices that show it to be least: no reduced cost is below 0, and those of used pairs
+-- are 0
 -- Source: AMO 9.3
 pub record IsShownPlan (m : Costs) (supplies demands : List ℤ) (plan : List Shipment) (u v : List ℤ) : Type 0 where
   pub feasible : IsPlan m supplies demands plan
   pub prices : AreFeasiblePrices m u v
   pub tight : All (IsTightShipment m u v) plan
 
--- what the prices make of supplies and demands
+-- the sum of price times supply over the rows, plus that of price times demand over the columns
 abbrev pub mass_total : Costs → List ℤ → List ℤ → List ℤ → List ℤ → ℤ
 mass_total m supplies demands u v =
     sum_below (λ i. at_place u i *ℤ at_place supplies i) m.rows +ℤ sum_below (λ j. at_place v j *ℤ at_place demands j) m.columns

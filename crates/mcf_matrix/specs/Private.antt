@@ -1,4 +1,4 @@
--- What the proofs of this crate alone need: no public clause names it.
+-- Definitions for the proofs of this crate alone: no public clause names them.
 pub mod Narrow
 pub mod Pairing
 pub mod Shipping

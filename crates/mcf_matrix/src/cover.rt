@@ -1,4 +1,5 @@
-//! The judge of covers: whether too few rows and columns meet every allowed pair.
+//! The judge of covers: it tests whether so few rows and columns cover all allowed pairs that no
+//! matching is large enough.
 ghost use Rattle.std.specs.Prelude.{◌≡◌, ◌+◌, ◌<◌, ◌↔◌, ◌⊎◌, ℕ, List, IsSome, IsTrue, count_by, length, min};
 ghost use Rattle.mcf_matrix.specs.Covers.{AreCovered, IsShortCover};
 ghost use Rattle.mcf_matrix.specs.Matchings.{IsMatching};
@@ -8,12 +9,13 @@ ghost use Rattle.mcf_matrix.specs.Tables.{cost_of, whole_costs};
 
 use crate::matrix::{FORBIDDEN, Matrix};
 
-/// Whether the marked rows and columns meet every allowed pair, and are fewer than the smaller side
-/// has, so that there is no matching (the easy half of the theorem of König, 1931): the rows that
-/// aren't marked see only the marked columns, which are too few for them (Hall, 1935).
+/// Returns whether each allowed pair has a marked row or a marked column, and fewer rows and
+/// columns are marked than the smaller of both sides has. Then no matching is as large as that side
+/// (the easy half of the theorem of König, 1931): rows that aren't marked have allowed pairs in
+/// marked columns alone, which are too few for them (Hall, 1935).
 ///
-/// The tables have an entry for each row and one for each column; those of other lengths are
-/// refused. It takes no memory, and reads the entries of the rows that aren't marked.
+/// `rows` has an entry for each row, and `columns` one for each column; returns false for other
+/// lengths. It allocates nothing, and reads the entries of the rows that aren't marked.
 pub fn judge_cover(matrix: &Matrix, rows: &[bool], columns: &[bool]) -> bool
     ensures exact { IsTrue result ↔ IsShortCover (whole_costs matrix.now) rows.now columns.now }
     ensures none { IsTrue result → (x : List ℕ) → ¬ IsMatching (whole_costs matrix.now) x }
@@ -30,14 +32,14 @@ pub fn judge_cover(matrix: &Matrix, rows: &[bool], columns: &[bool]) -> bool
     are_covered(matrix, rows, columns)
 }
 
-// How many places a table marks.
+// Returns the number of marks in a table.
 fn count_marks(table: &[bool]) -> usize
     ensures { result ≡ mark_count table.now }
 {
     table.iter().filter(|mark| **mark).count()
 }
 
-// Whether fewer places are marked than the smaller side has.
+// Returns whether there are fewer marks than the smaller of both sides has rows or columns.
 fn is_short(matrix: &Matrix, rows: &[bool], columns: &[bool]) -> bool
     ensures { IsTrue result ↔ (mark_count rows.now + mark_count columns.now < min matrix.now.rows matrix.now.columns) }
 {
@@ -47,7 +49,7 @@ fn is_short(matrix: &Matrix, rows: &[bool], columns: &[bool]) -> bool
     row_marks < smaller && column_marks < smaller - row_marks
 }
 
-// Whether the entry forbids its pair, or its column is marked.
+// Returns whether an entry forbids its pair, or its column is marked.
 #[inline(always)]
 fn is_met(cost: i64, mark: bool) -> bool
     ensures { IsTrue result ↔ (IsSome (cost_of cost) → IsTrue mark) }
@@ -55,7 +57,7 @@ fn is_met(cost: i64, mark: bool) -> bool
     cost == FORBIDDEN || mark
 }
 
-// Whether the column of each allowed pair of a row is marked.
+// Returns whether the column of each allowed pair of a row is marked.
 fn row_is_covered(row: &[i64], columns: &[bool]) -> bool
     requires { length columns.now ≡ length row.now }
     ensures { IsTrue result ↔ RowIsCovered row.now columns.now }
@@ -67,7 +69,7 @@ fn row_is_covered(row: &[i64], columns: &[bool]) -> bool
     covered
 }
 
-// Whether each allowed pair has its row or its column marked.
+// Returns whether each allowed pair has a marked row or a marked column.
 fn are_covered(matrix: &Matrix, rows: &[bool], columns: &[bool]) -> bool
     requires rows { length rows.now ≡ matrix.now.rows }
     requires columns { length columns.now ≡ matrix.now.columns }

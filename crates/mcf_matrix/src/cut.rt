@@ -1,4 +1,4 @@
-//! The judge of cuts: whether a set of rows and columns excludes every transport plan.
+//! The judge of cuts: it tests whether a set of rows and columns excludes every transport plan.
 ghost use Rattle.std.specs.Prelude.{◌≡◌, ◌^◌, ◌+ℤ◌, ◌↔◌, List, IsSome, IsTrue, length};
 ghost use Rattle.mcf_flows.specs.Network.{when};
 ghost use Rattle.mcf_flows.specs.WellFormed.{IsUpTo};
@@ -12,13 +12,14 @@ use crate::matrix::{FORBIDDEN, Matrix};
 use crate::shipment::Masses;
 use mcf_flows::Side;
 
-/// Whether the marked rows and columns exclude every transport plan (Hoffman's condition; Ahuja,
-/// Magnanti and Orlin, Network Flows, section 6.7). By `Send`, the marked rows may use the marked
-/// columns alone, and have more than these take; by `Take`, the marked columns may be used by the
-/// marked rows alone, and demand more than these have.
+/// Returns whether the marked rows and columns exclude every transport plan (Hoffman's condition;
+/// Ahuja, Magnanti and Orlin, Network Flows, section 6.7). With `Send`, all allowed pairs of marked
+/// rows must be in marked columns, and the marked rows supply more than the marked columns demand.
+/// With `Take`, all allowed pairs of marked columns must be in marked rows, and the marked columns
+/// demand more than the marked rows supply.
 ///
-/// The tables have an entry for each row and one for each column; lists of other lengths are
-/// refused. It takes no memory, and reads the rows whose marks ask for it.
+/// `rows` has an entry for each row, and `columns` one for each column; returns false for other
+/// lengths, also of supplies and demands. It allocates nothing.
 pub fn judge_transport_cut(
     matrix: &Matrix,
     masses: &Masses,
@@ -49,7 +50,7 @@ pub fn judge_transport_cut(
     are_closed(matrix, rows, columns, side)
 }
 
-// The masses of the marked places, added up.
+// Returns the sum of the masses (supplies or demands) of the marked places.
 fn mass_of(masses: &[i64], marks: &[bool]) -> i128
     requires { length marks.now ≡ length masses.now }
     ensures { result ≡ mass_in masses.now marks.now (length masses.now) }
@@ -61,7 +62,7 @@ fn mass_of(masses: &[i64], marks: &[bool]) -> i128
     total
 }
 
-// The total, with the mass added where it counts.
+// Returns the total, plus the mass if it counts.
 fn add_when(total: i128, counts: bool, mass: i64) -> i128
     requires { IsUpTo (2 ^ 126) total }
     ensures { result ≡ total +ℤ when counts mass }
@@ -73,7 +74,7 @@ fn add_when(total: i128, counts: bool, mass: i64) -> i128
     }
 }
 
-// Whether the first mass is above the second, or below it.
+// Returns whether the supply is above the demand, or below it, according to the side.
 fn is_uneven(supply: i128, demand: i128, side: Side) -> bool
     ensures { IsTrue result ↔ IsUneven supply demand side }
 {
@@ -83,7 +84,7 @@ fn is_uneven(supply: i128, demand: i128, side: Side) -> bool
     }
 }
 
-// Whether the entry forbids its pair, or the pair doesn't lead out of the set.
+// Returns whether an entry forbids its pair, or the pair doesn't lead out of the set.
 #[inline(always)]
 fn stays(cost: i64, row_mark: bool, column_mark: bool, side: Side) -> bool
     ensures { IsTrue result ↔ (IsSome (cost_of cost) → IsClosedMark row_mark column_mark side) }
@@ -97,7 +98,7 @@ fn stays(cost: i64, row_mark: bool, column_mark: bool, side: Side) -> bool
     }
 }
 
-// Whether no allowed pair of a row leads out of the set.
+// Returns whether no allowed pair of a row leads out of the set.
 fn row_is_closed(row: &[i64], row_mark: bool, columns: &[bool], side: Side) -> bool
     requires { length columns.now ≡ length row.now }
     ensures { IsTrue result ↔ RowIsClosed row.now row_mark columns.now side }
@@ -109,7 +110,7 @@ fn row_is_closed(row: &[i64], row_mark: bool, columns: &[bool], side: Side) -> b
     closed
 }
 
-// Whether no allowed pair leads out of the set.
+// Returns whether no allowed pair leads out of the set.
 fn are_closed(matrix: &Matrix, rows: &[bool], columns: &[bool], side: Side) -> bool
     requires rows { length rows.now ≡ matrix.now.rows }
     requires columns { length columns.now ≡ matrix.now.columns }

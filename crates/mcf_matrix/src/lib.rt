@@ -1,11 +1,12 @@
 #![tactic(auto)]
 
-//! Cost matrices, their matchings and transport plans, and judges that say whether prices show one
-//! least.
+//! Cost matrices, their matchings and transport plans, and judges that test whether prices show one
+//! of these to be least.
 //!
-//! It stands on `mcf_flows`. Rows and columns count from 0. Definitions stand in `specs/`: `Costs`
-//! says what each pair costs, `Tables` how a matrix is stored, `Matchings` and `MatrixPrices` what
-//! a least matching is and which prices show it.
+//! It builds on `mcf_flows`. Rows and columns count from 0. The definitions are in `specs/`:
+//! `Costs` defines the cost of each pair, `Tables` how a matrix is stored, `Matchings` and `Plans`
+//! what a least matching or plan is, `MatrixPrices` which prices show a matching to be least, and
+//! `Covers` and `Cuts` what excludes matchings and plans.
 
 mod assignment;
 mod cover;

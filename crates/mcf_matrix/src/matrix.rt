@@ -1,4 +1,4 @@
-//! Matrices of whole costs, which the caller lends.
+//! Matrices of whole-number costs, over a list that belongs to the caller.
 ghost use Rattle.std.specs.Prelude.{◌≡◌, ◌+◌, ◌*◌, ◌<◌, ◌≤◌, ◌↔◌, ℕ, pos, IfErr, IfOk, IsTrue, MatchOption, length, slice_index_or, slice_range};
 ghost use Rattle.mcf_matrix.specs.Costs.{AreSmallCosts};
 ghost use Rattle.mcf_matrix.specs.Tables.{IsFaultOf, IsFirstBeyond, IsMatrix, IsShaped, IsSmallEntry, whole_costs};
@@ -6,23 +6,23 @@ ghost use Rattle.mcf_matrix.specs.Tables.{IsFaultOf, IsFirstBeyond, IsMatrix, Is
 use mcf_flows::COST_LIMIT;
 use std::marker::Model;
 
-/// The entry of a pair that is forbidden, which is above every cost.
+/// The entry of a forbidden pair. It is above every cost.
 pub const FORBIDDEN: i64 = i64::MAX;
 
-/// What is wrong with a matrix.
+/// A fault of a matrix.
 #[derive(Clone, Copy, Debug, PartialEq, Eq)]
 pub enum MatrixFault {
-    /// Rows overlap, or the last one doesn't end within the list.
+    /// Rows overlap, or the last one ends beyond the list.
     Shape,
-    /// The first cost, row after row, that is more than 10^15 from 0.
+    /// The row and column of the first cost, row after row, whose absolute value exceeds 10^15.
     Beyond { row: usize, column: usize },
 }
 
-/// A matrix of whole costs, which stand in a list of the caller's: that of row i and column j at
-/// the place i * stride + j. Rows and columns count from 0. The entry `FORBIDDEN` forbids a pair;
-/// all others are at most 10^15 from 0.
+/// A matrix of whole-number costs, borrowed from the caller. The cost of row i and column j is at
+/// place i * stride + j of the list; rows and columns count from 0. The entry `FORBIDDEN` forbids a
+/// pair; all other entries lie from -10^15 to 10^15.
 ///
-/// A clause sees the list with its shape.
+/// Clauses see the list, the numbers of rows and columns, and the stride.
 #[derive(Drop)]
 pub struct Matrix<'a> {
     costs: &'a [i64],
@@ -42,10 +42,10 @@ impl<'a> Model for Matrix<'a> {
 }
 
 impl<'a> Matrix<'a> {
-    /// The matrix of these costs.
+    /// Makes a matrix of a list of costs. It reads each entry once.
     ///
     /// # Errors
-    /// The first fault: the shape, or the first cost beyond the limit. It reads each entry once.
+    /// The first fault: the shape, or the first cost beyond the limit.
     pub fn of(
         costs: &'a [i64],
         rows: usize,
@@ -70,7 +70,7 @@ impl<'a> Matrix<'a> {
         }
     }
 
-    /// How many rows there are.
+    /// Returns the number of rows.
     #[inline(always)]
     pub fn rows(&self) -> usize
         ensures value { result ≡ self.now.rows }
@@ -79,7 +79,7 @@ impl<'a> Matrix<'a> {
         self.rows
     }
 
-    /// How many columns there are.
+    /// Returns the number of columns.
     #[inline(always)]
     pub fn columns(&self) -> usize
         ensures value { result ≡ self.now.columns }
@@ -88,7 +88,8 @@ impl<'a> Matrix<'a> {
         self.columns
     }
 
-    /// How far apart the first entries of two rows are.
+    /// Returns the stride: the distance in the list from the first entry of a row to that of the
+    /// next.
     #[inline(always)]
     pub fn stride(&self) -> usize
         ensures { result ≡ self.now.stride }
@@ -96,7 +97,7 @@ impl<'a> Matrix<'a> {
         self.stride
     }
 
-    /// The list that holds the entries.
+    /// Returns the list that holds the entries.
     #[inline(always)]
     pub fn entries(&self) -> &'a [i64]
         ensures { result.now ≡ self.now.entries }
@@ -104,7 +105,7 @@ impl<'a> Matrix<'a> {
         self.costs
     }
 
-    /// The entries of a row, one for each column.
+    /// Returns the entries of a row, one for each column.
     #[inline(always)]
     pub fn row(&self, row: usize) -> &'a [i64]
         requires { row < self.now.rows }
@@ -115,7 +116,7 @@ impl<'a> Matrix<'a> {
         &self.costs[start..start + self.columns]
     }
 
-    /// The cost of a pair, or none if it is forbidden.
+    /// Returns the cost of a pair, or `None` if it is forbidden.
     #[inline(always)]
     pub fn cost(&self, row: usize, column: usize) -> Option<i64>
         requires row { row < self.now.rows }
@@ -128,8 +129,8 @@ impl<'a> Matrix<'a> {
     }
 }
 
-/// Whether rows of so many columns, which begin so far apart, don't overlap, and all of them end
-/// within so many entries.
+/// Returns whether the rows of a matrix with these numbers of rows and columns and this stride
+/// don't overlap, and all end within a list of `entries` entries.
 pub fn is_shaped(entries: usize, rows: usize, columns: usize, stride: usize) -> bool
     ensures { IsTrue result ↔ ((columns ≤ stride) × ((i : ℕ) → i < rows → i * stride + columns ≤ entries)) }
 {
@@ -145,7 +146,7 @@ pub fn is_shaped(entries: usize, rows: usize, columns: usize, stride: usize) -> 
     }
 }
 
-// Whether the entry is a cost within the limit, or stands for none.
+// Returns whether an entry is a cost within the limit, or forbids its pair.
 #[inline(always)]
 fn is_small(cost: i64) -> bool
     ensures { IsTrue result ↔ IsSmallEntry cost }
@@ -154,7 +155,7 @@ fn is_small(cost: i64) -> bool
     cost == FORBIDDEN || (-limit <= cost && cost <= limit)
 }
 
-// Whether all entries of a row are.
+// Returns whether all entries of a row are costs within the limit, or forbid their pairs.
 fn are_small(row: &[i64]) -> bool
     ensures { IsTrue result ↔ ((j : ℕ) → j < length row.now → IsSmallEntry (slice_index_or row.now j (pos 0))) }
 {
@@ -165,7 +166,7 @@ fn are_small(row: &[i64]) -> bool
     small
 }
 
-// The first entry of a row that is a cost beyond the limit.
+// Returns the column of a row's first cost beyond the limit.
 fn first_beyond_in(row: &[i64]) -> Option<usize>
     ensures { MatchOption result ((j : ℕ) → j < length row.now → IsSmallEntry (slice_index_or row.now j (pos 0)))
         (λ k. (k < length row.now) × (¬ IsSmallEntry (slice_index_or row.now k (pos 0))) × ((j : ℕ) → j < k → IsSmallEntry (slice_index_or row.now j (pos 0)))) }
@@ -181,7 +182,7 @@ fn first_beyond_in(row: &[i64]) -> Option<usize>
     None
 }
 
-// The place of the first cost beyond the limit, row after row.
+// Returns the row and column of the first cost beyond the limit, row after row.
 fn first_beyond(costs: &[i64], rows: usize, columns: usize, stride: usize) -> Option<(usize, usize)>
     requires { IsShaped (record { entries = costs.now; rows = rows; columns = columns; stride = stride }) }
     ensures { MatchOption result (AreSmallCosts (whole_costs (record { entries = costs.now; rows = rows; columns = columns; stride = stride })))

@@ -1,4 +1,4 @@
-//! Whether no reduced cost is below 0: the pass over a whole matrix.
+//! The test of a whole matrix for reduced costs below 0.
 ghost use Rattle.std.specs.Prelude.{◌≡◌, ◌<◌, ◌≤◌, ◌↔◌, ◌^◌, ℕ, pos, ◌≤ℤ◌, ◌-ℤ◌, IfSome, IsTrue, length, neg_ℤ, slice_index_or};
 ghost use Rattle.std.specs.List.{All};
 ghost use Rattle.mcf_flows.specs.WellFormed.{IsUpTo};
@@ -9,10 +9,10 @@ ghost use Rattle.mcf_matrix.specs.Tables.{cost_of, whole_costs};
 
 use crate::matrix::{FORBIDDEN, Matrix};
 
-// How far from 0 two prices may lie so that their sum fits 64 bits.
+// The greatest absolute value of a price such that the sum of two fits 64 bits.
 const NARROW: i64 = (1 << 62) - 1;
 
-// Whether no price is so far from 0 that a sum of two might not fit 64 bits.
+// Returns whether the absolute values of all prices are so small that the sum of two fits 64 bits.
 fn are_narrow(prices: &[i64]) -> bool
     ensures { IsTrue result → (j : ℕ) → j < length prices.now → IsNarrow (at_place prices.now j) }
 {
@@ -23,7 +23,8 @@ fn are_narrow(prices: &[i64]) -> bool
     narrow
 }
 
-// Whether the cost, if the pair is allowed, is at least the sum of two prices that fits 64 bits.
+// Returns whether the pair is forbidden or its cost is at least the sum of two prices, which fits
+// 64 bits.
 #[inline(always)]
 fn covers_narrow(cost: i64, row_price: i64, column_price: i64) -> bool
     requires row_price { IsNarrow row_price }
@@ -33,7 +34,7 @@ fn covers_narrow(cost: i64, row_price: i64, column_price: i64) -> bool
     row_price + column_price <= cost
 }
 
-// Whether no reduced cost of a row is below 0, where sums of two prices fit 64 bits.
+// Returns whether no reduced cost of a row is below 0, if sums of two prices fit 64 bits.
 fn narrow_row_holds(row: &[i64], price: i64, prices: &[i64]) -> bool
     requires lengths { length prices.now ≡ length row.now }
     requires price { IsNarrow price }
@@ -47,7 +48,7 @@ fn narrow_row_holds(row: &[i64], price: i64, prices: &[i64]) -> bool
     holds
 }
 
-// What is left of a cost when two prices are taken off.
+// Returns a reduced cost: the cost minus both prices.
 #[inline(always)]
 fn reduced(cost: i64, row_price: i64, column_price: i64) -> i128
     ensures { result ≡ cost -ℤ row_price -ℤ column_price }
@@ -55,7 +56,7 @@ fn reduced(cost: i64, row_price: i64, column_price: i64) -> i128
     i128::from(cost) - i128::from(row_price) - i128::from(column_price)
 }
 
-/// Whether nothing is left of a cost when two prices are taken off.
+/// Returns whether the reduced cost is 0.
 pub(crate) fn is_tight(cost: i64, row_price: i64, column_price: i64) -> bool
     ensures { IsTrue result ↔ (cost -ℤ row_price -ℤ column_price ≡ pos 0) }
 {
@@ -63,7 +64,7 @@ pub(crate) fn is_tight(cost: i64, row_price: i64, column_price: i64) -> bool
     0 <= left && left <= 0
 }
 
-// Whether the cost, if the pair is allowed, is at least the sum of two prices.
+// Returns whether the pair is forbidden or its cost is at least the sum of two prices.
 #[inline(always)]
 fn covers_wide(cost: i64, row_price: i64, column_price: i64) -> bool
     ensures { IsTrue result ↔ IfSome (cost_of cost) (λ c. pos 0 ≤ℤ (c -ℤ row_price -ℤ column_price)) }
@@ -71,7 +72,7 @@ fn covers_wide(cost: i64, row_price: i64, column_price: i64) -> bool
     cost == FORBIDDEN || 0 <= reduced(cost, row_price, column_price)
 }
 
-// Whether no reduced cost of a row is below 0.
+// Returns whether no reduced cost of a row is below 0.
 fn wide_row_holds(row: &[i64], price: i64, prices: &[i64]) -> bool
     requires { length prices.now ≡ length row.now }
     ensures { IsTrue result ↔ RowHolds row.now price prices.now }
@@ -83,8 +84,8 @@ fn wide_row_holds(row: &[i64], price: i64, prices: &[i64]) -> bool
     holds
 }
 
-// Whether no reduced cost of a row is below 0; in 64 bits where those of its price and of all
-// others allow.
+// Returns whether no reduced cost of a row is below 0. It computes in 64 bits if `narrow` says that
+// the prices of columns allow it, and the row's price does.
 fn row_holds(row: &[i64], price: i64, prices: &[i64], narrow: bool) -> bool
     requires lengths { length prices.now ≡ length row.now }
     requires narrow { IsTrue narrow → (j : ℕ) → j < length prices.now → IsNarrow (at_place prices.now j) }
@@ -97,8 +98,8 @@ fn row_holds(row: &[i64], price: i64, prices: &[i64], narrow: bool) -> bool
     }
 }
 
-/// Whether no allowed pair has a reduced cost below 0, where there is a price for each row and each
-/// column.
+/// Returns whether no allowed pair has a reduced cost below 0. There must be a price for each row
+/// and each column.
 pub(crate) fn none_below(matrix: &Matrix, row_prices: &[i64], column_prices: &[i64]) -> bool
     requires rows { length row_prices.now ≡ matrix.now.rows }
     requires columns { length column_prices.now ≡ matrix.now.columns }

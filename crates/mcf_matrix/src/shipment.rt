@@ -1,6 +1,6 @@
-//! Transport plans, entry by entry, and what they have to meet.
+//! The entries of transport plans, and the supplies and demands that a plan has to meet.
 
-/// An entry of a transport plan: so much goes from this row to this column. Rows and columns count
+/// An entry of a transport plan: `amount` units go from a row to a column. Rows and columns count
 /// from 0.
 #[derive(Clone, Copy, Debug, PartialEq, Eq)]
 pub struct Shipment {
@@ -9,7 +9,7 @@ pub struct Shipment {
     pub amount: i64,
 }
 
-/// What each row supplies and each column demands, in order.
+/// The supply of each row and the demand of each column, in order.
 #[derive(Clone, Copy)]
 pub struct Masses<'a> {
     pub supplies: &'a [i64],

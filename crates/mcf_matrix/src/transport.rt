@@ -1,4 +1,4 @@
-//! The judge of transport plans: whether prices show one least.
+//! The judge of transport plans: it tests whether prices show a plan to be least.
 ghost use Rattle.std.specs.Prelude.{◌≡◌, ◌+◌, ◌<◌, ◌≤◌, ◌↔◌, ℕ, pos, IfOk, IsTrue, OnErr, length};
 ghost use Rattle.std.specs.List.{All};
 ghost use Rattle.mcf_matrix.specs.PlaceSums.{at_place};
@@ -12,14 +12,15 @@ use crate::shipment::{Masses, Shipment};
 use mcf_text::NoMemory;
 use std::alloc::Global;
 
-/// Whether the prices show that the transport plan is least: the exact test of a plan with its
-/// prices (Hitchcock 1941; Ahuja, Magnanti and Orlin, Network Flows, section 9.4).
+/// Returns whether the prices show that the transport plan is least: the exact test of a plan with
+/// its prices (Hitchcock 1941; Ahuja, Magnanti and Orlin, Network Flows, section 9.4).
 ///
-/// A pair may have several entries. The prices are one for each row and one for each column; lists
-/// of other lengths are refused. It reads each entry of the matrix once, and the plan three times.
+/// A pair may have several entries. There is a price for each row and one for each column; returns
+/// false for lists of other lengths. It reads each entry of the matrix once, and the plan three
+/// times.
 ///
 /// # Errors
-/// `NoMemory` where there is no memory for a number for each row and each column.
+/// `NoMemory` if an allocation is refused: it needs a number for each row and each column.
 pub fn judge_transport(
     alloc: Global,
     matrix: &Matrix,
@@ -54,14 +55,14 @@ pub fn judge_transport(
     Ok(holds)
 }
 
-// Whether there are as many numbers as rows, and as many as columns.
+// Returns whether both lists have the lengths of the matrix's rows and columns.
 fn fits_matrix(matrix: &Matrix, rows: usize, columns: usize) -> bool
     ensures { IsTrue result ↔ ((rows ≡ matrix.now.rows) × (columns ≡ matrix.now.columns)) }
 {
     rows == matrix.rows() && columns == matrix.columns()
 }
 
-// The same numbers.
+// Returns a copy of a list of numbers.
 fn copy_of(alloc: Global, numbers: &[i64]) -> Result<Vec<i64>, NoMemory>
     ensures value { IfOk result (λ copy. copy.items ≡ numbers.now) }
     ensures wants { OnErr result (1 ≤ length numbers.now) }
@@ -71,8 +72,8 @@ fn copy_of(alloc: Global, numbers: &[i64]) -> Result<Vec<i64>, NoMemory>
     Ok(copy)
 }
 
-// Whether the prices show the plan, where the lists have their lengths. It takes the amounts off
-// the masses.
+// Returns whether the prices show the plan to be least, if the lists have the right lengths. It
+// subtracts the plan's amounts from the supplies and demands.
 fn is_shown(
     matrix: &Matrix,
     plan: &[Shipment],
@@ -99,8 +100,8 @@ fn is_shown(
     none_below(matrix, row_prices, column_prices)
 }
 
-// Whether each entry is of an allowed pair, of no amount below 0, and its reduced cost is 0 if it
-// is used.
+// Returns whether each entry has an allowed pair, no amount below 0, and the reduced cost 0 if its
+// amount is above 0.
 fn shipments_hold(
     matrix: &Matrix,
     plan: &[Shipment],
@@ -119,7 +120,7 @@ fn shipments_hold(
     true
 }
 
-// Whether the entry is.
+// Returns the same of one entry, whose row and column may lie outside the matrix.
 fn is_good(matrix: &Matrix, shipment: Shipment, row_prices: &[i64], column_prices: &[i64]) -> bool
     requires row_prices { length row_prices.now ≡ matrix.now.rows }
     requires column_prices { length column_prices.now ≡ matrix.now.columns }
@@ -142,8 +143,8 @@ fn is_good(matrix: &Matrix, shipment: Shipment, row_prices: &[i64], column_price
     )
 }
 
-// Whether the pair is allowed, the amount isn't below 0, and the reduced cost is 0 if the amount is
-// above 0.
+// Returns whether a pair is allowed, the amount isn't below 0, and the reduced cost is 0 if the
+// amount is above 0.
 fn is_good_amount(cost: Option<i64>, amount: i64, row_price: i64, column_price: i64) -> bool
     ensures { IsTrue result ↔ IsGoodAmount cost amount row_price column_price }
 {
@@ -159,7 +160,8 @@ fn is_good_amount(cost: Option<i64>, amount: i64, row_price: i64, column_price: 
     is_tight(cost, row_price, column_price)
 }
 
-// Takes the amounts off the supplies, and says whether the rows send exactly these.
+// Subtracts the plan's amounts from the supplies. Returns whether each row sends exactly its
+// supply.
 fn supplies_are_met(plan: &[Shipment], supplies: &mut [i64]) -> bool
     requires { AreSendable (λ s. s.row) (length supplies.old) plan.now }
     ensures { IsTrue result ↔ AreMet (λ s. s.row) plan.now supplies.old }
@@ -175,7 +177,8 @@ fn supplies_are_met(plan: &[Shipment], supplies: &mut [i64]) -> bool
     are_zero(supplies)
 }
 
-// Takes the amounts off the demands, and says whether the columns receive exactly these.
+// Subtracts the plan's amounts from the demands. Returns whether each column receives exactly its
+// demand.
 fn demands_are_met(plan: &[Shipment], demands: &mut [i64]) -> bool
     requires { AreSendable (λ s. s.column) (length demands.old) plan.now }
     ensures { IsTrue result ↔ AreMet (λ s. s.column) plan.now demands.old }
@@ -191,7 +194,7 @@ fn demands_are_met(plan: &[Shipment], demands: &mut [i64]) -> bool
     are_zero(demands)
 }
 
-// Whether all numbers are 0.
+// Returns whether all numbers are 0.
 fn are_zero(numbers: &[i64]) -> bool
     ensures { IsTrue result ↔ ((i : ℕ) → i < length numbers.now → at_place numbers.now i ≡ pos 0) }
 {

@@ -4,21 +4,23 @@
 use crate::tuning::BIDS_PER_ROW;
 use mcf_columns::{NOWHERE, Pile};
 
-/// What a bid did: which row lost its column, if one did, and whether the price of the column fell.
+/// The result of a bid: the row that lost its column, or `NOWHERE`, and whether the column's price
+/// fell.
 #[derive(Clone, Copy)]
 pub(crate) struct Bid {
     pub(crate) loser: u32,
     pub(crate) has_lowered: bool,
 }
 
-/// What finds the best column for a row.
+/// A search that finds the best column for a row.
 pub(crate) trait Bidder {
-    /// A row without a column takes one.
+    /// Gives a free row its best column, which it may take from another row.
     fn bid(&mut self, row: u32) -> Bid;
 }
 
-/// Each row of a pile bids once; who loses a column whose price fell bids again at once, so many
-/// times in all for each row. Who ends without a column goes onto the other pile.
+/// Lets each row of the pile `free` bid once. A row that loses its column bids again at once if the
+/// column's price fell, up to `BIDS_PER_ROW` times `rows` bids in all. Rows that end without a
+/// column go onto the pile `left`.
 pub(crate) fn reduce_rows<B: Bidder>(bidder: &mut B, free: &Pile, left: &mut Pile, rows: u32) {
     let mut bids = rows.saturating_mul(BIDS_PER_ROW);
     left.clear();
@@ -27,7 +29,7 @@ pub(crate) fn reduce_rows<B: Bidder>(bidder: &mut B, free: &Pile, left: &mut Pil
     }
 }
 
-// A row bids, and who loses by it bids again. How many bids are left.
+// Lets a row bid, and then each row that loses its column to a bid. Returns how many bids are left.
 fn bid_on<B: Bidder>(bidder: &mut B, first: u32, left: &mut Pile, bids: u32) -> u32 {
     let mut row = first;
     'bids: for used in 0..bids {

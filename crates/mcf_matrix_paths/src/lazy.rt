@@ -1,8 +1,8 @@
-//! A search over lists of the least entries of rows, which reads a whole row only where that may
-//! matter.
+//! A search over lists of the least entries of rows, which scans a whole row only if an entry that
+//! isn't listed may be on a shortest path.
 
 use crate::bidding::{Bid, Bidder, reduce_rows};
-use crate::heap::{Entry, Heap, Waiting};
+use crate::heap::{Entry, Heap, Task};
 use crate::lists::{Listed, Lists};
 use crate::reduction::reduce_columns;
 use crate::tuning::{FEW_FREE, LIST_LENGTH, LIST_READINGS, PATH_ENTRIES, SETTLED_ENTRIES};
@@ -13,8 +13,8 @@ use mcf_text::{NoMemory, copies};
 use std::alloc::Global;
 
 /// Shortest augmenting paths after column and row reduction (Jonker and Volgenant 1987), over
-/// lists. A row that isn't listed in full waits in the heap by the bound of what isn't listed, and
-/// is read as a whole if that comes up.
+/// lists. A row whose list isn't complete is in the heap, with the bound of its other entries as
+/// its key; the search scans the whole row if it reaches that key.
 #[derive(Drop)]
 struct Lazy<'a> {
     view: View<'a>,
@@ -22,34 +22,34 @@ struct Lazy<'a> {
     lists: Lists,
     marks: Marks,
     heap: Heap,
-    // columns at the least distance, which needn't wait in the heap
+    // columns at the least distance, which needn't go through the heap
     stack: Pile,
     settled: Pile,
-    // of each row the height at which it offers its entries
+    // for each row what the search subtracts from its reduced costs to get distances
     heights: Vec<i64>,
-    // how many entries may still be read, about
+    // about how many entries the search may still read
     budget: u64,
 }
 
-/// How far the columns are in a search.
+/// The tentative distances of columns in a search.
 #[derive(Drop)]
 struct Marks {
     distances: Vec<i64>,
-    // by which row each column is reached
+    // the row from which each column is reached
     sources: Vec<u32>,
-    // in which search each column was last reached, and settled
+    // the number of the search in which each column was last reached, and last settled
     reached: Vec<u32>,
     settled: Vec<u32>,
     search: u32,
-    // no distance to come lies below this
+    // a lower bound of the distances that are yet to be settled
     floor: i64,
-    // the nearest free column, and how far it is
+    // the nearest free column, and its distance
     end: u32,
     nearest: i64,
 }
 
-/// A matching of all rows and prices of columns that may show it least, if the search finds one.
-/// There are no more rows than columns.
+/// Searches for a matching of all rows, with prices of columns that may show it to be least. The
+/// view has no more rows than columns. Returns `None` if the search exceeds its budget.
 pub(crate) fn search(alloc: Global, view: View<'_>) -> Result<Option<Pairing>, NoMemory> {
     let mut free = Pile::start(alloc, view.rows as usize)?;
     let mut left = Pile::start(alloc, view.rows as usize)?;
@@ -64,7 +64,7 @@ pub(crate) fn search(alloc: Global, view: View<'_>) -> Result<Option<Pairing>, N
 }
 
 impl Marks {
-    // No search yet.
+    // Makes the marks of no search.
     fn start(alloc: Global, columns: usize) -> Result<Marks, NoMemory> {
         Ok(Marks {
             distances: copies(alloc, columns, 0)?,
@@ -86,13 +86,14 @@ impl Marks {
         self.nearest = NOTHING;
     }
 
-    // Whether a free column is as near as any column that may come.
+    // Returns whether a free column is as near as any column that isn't settled.
     #[inline(always)]
     fn is_done(&self) -> bool {
         self.nearest <= self.floor
     }
 
-    // Whether a column may be reached at a distance by a row, and isn't free: it is then.
+    // Reaches a column from a row, if that shortens its distance. Returns whether it did so and the
+    // column isn't free.
     #[inline(always)]
     fn reach(&mut self, column: u32, distance: i64, row: u32, is_free: bool) -> bool {
         if distance >= self.nearest || at(&self.settled, column, self.search) == self.search {
@@ -113,7 +114,7 @@ impl Marks {
         !is_free
     }
 
-    // Settles a column, if it isn't.
+    // Settles a column. Returns whether it wasn't settled before.
     #[inline(always)]
     fn settle(&mut self, column: u32) -> bool {
         let is_new = at(&self.settled, column, self.search) != self.search;
@@ -123,7 +124,7 @@ impl Marks {
 }
 
 impl<'a> Lazy<'a> {
-    // The search before its first step.
+    // Makes the search before its first step.
     fn start(alloc: Global, view: View<'a>) -> Result<Lazy<'a>, NoMemory> {
         let columns = view.columns as usize;
         let room = columns.saturating_mul(4).saturating_add(view.rows as usize);
@@ -142,14 +143,14 @@ impl<'a> Lazy<'a> {
         })
     }
 
-    // Column reduction, in a square matrix.
+    // Reduces columns, if the matrix is square.
     fn reduce(&mut self, numbers: &mut [i64], counts: &mut [u32]) {
         if self.view.is_square() {
             reduce_columns(self.view, &mut self.pairing, numbers, counts);
         }
     }
 
-    // Searches, and says whether all rows have a column.
+    // Runs the search. Returns whether all rows have a column.
     fn run(&mut self, free: &mut Pile, left: &mut Pile) -> bool {
         let rows = self.view.rows;
         self.pairing.pile_free(free);
@@ -169,8 +170,8 @@ impl<'a> Lazy<'a> {
         true
     }
 
-    // Lowers the price of the column of each row until the second best is as good. It makes lists
-    // for it, or reads whole rows.
+    // Lowers the price of each row's column until the row's second best column is as good
+    // (reduction transfer). It makes lists for that, or scans whole rows.
     fn transfer_all(&mut self, makes_lists: bool) {
         'rows: for row in 0..self.view.rows {
             let column = self.pairing.column(row);
@@ -183,7 +184,7 @@ impl<'a> Lazy<'a> {
         }
     }
 
-    // The two least reduced costs of a row, by its list or by the whole row.
+    // Returns the two least reduced costs of a row, from its list or from the whole row.
     #[inline(always)]
     fn two_least(&mut self, row: u32, makes_lists: bool) -> Two {
         if makes_lists {
@@ -192,14 +193,15 @@ impl<'a> Lazy<'a> {
         two_least(self.view.row(row), &self.pairing.prices)
     }
 
-    // Pays for so many entries, if the budget allows it.
+    // Takes a number of entries off the budget. Returns whether the budget had so many.
     fn pay(&mut self, entries: u64) -> bool {
         let allows = self.budget >= entries;
         self.budget = self.budget.saturating_sub(entries);
         allows
     }
 
-    // Gives a free row a column by a shortest augmenting path, if the budget allows it.
+    // Augments the matching along a shortest path from a free row. Returns whether the budget
+    // allowed it.
     fn augment(&mut self, free: u32) -> bool {
         self.heap.clear();
         self.stack.clear();
@@ -214,8 +216,8 @@ impl<'a> Lazy<'a> {
         self.pay(PATH_ENTRIES)
     }
 
-    // Settles columns and reads rows until a free column is nearest. It says no where the budget
-    // ends.
+    // Settles columns and scans rows until a free column is nearest. Returns false if the budget is
+    // spent.
     fn find_end(&mut self) -> bool {
         'steps: for _ in 0..u64::MAX {
             if self.marks.is_done() {
@@ -240,15 +242,15 @@ impl<'a> Lazy<'a> {
         false
     }
 
-    // Takes what waited. It says no where the budget ends.
+    // Does the task of an entry of the heap. Returns false if the budget is spent.
     #[inline(always)]
     fn take(&mut self, entry: Entry) -> bool {
-        match entry.waiting {
-            Waiting::Row(row) => {
+        match entry.task {
+            Task::Row(row) => {
                 self.marks.floor = self.marks.floor.max(entry.key);
                 self.offer_whole(row)
             }
-            Waiting::Column(column) => {
+            Task::Column(column) => {
                 if entry.key != at(&self.marks.distances, column, NOTHING) {
                     return true;
                 }
@@ -258,7 +260,7 @@ impl<'a> Lazy<'a> {
         }
     }
 
-    // Settles a column, whose row offers its entries. It says no where the budget ends.
+    // Settles a column, and offers distances from its row. Returns false if the budget is spent.
     #[inline(always)]
     fn settle(&mut self, column: u32) -> bool {
         if !self.marks.settle(column) {
@@ -275,7 +277,8 @@ impl<'a> Lazy<'a> {
         self.pay(SETTLED_ENTRIES.wrapping_mul(LIST_LENGTH as u64))
     }
 
-    // A row offers the entries of its list, and waits for the rest to come up.
+    // Offers distances from a row to the columns of its list, and adds the row to the heap with the
+    // bound of its other entries.
     #[inline(always)]
     fn offer_listed(&mut self, row: u32, height: i64) {
         put(&mut self.heights, row, height);
@@ -292,12 +295,12 @@ impl<'a> Lazy<'a> {
         if rest < NOTHING && key < self.marks.nearest {
             self.heap.add(Entry {
                 key: key.max(self.marks.floor),
-                waiting: Waiting::Row(row),
+                task: Task::Row(row),
             });
         }
     }
 
-    // A row offers a column a distance.
+    // Offers a column a distance from a row.
     #[inline(always)]
     fn offer(&mut self, row: u32, column: u32, distance: i64) {
         let is_free = self.pairing.row(column) == NOWHERE;
@@ -309,12 +312,13 @@ impl<'a> Lazy<'a> {
         } else {
             self.heap.add(Entry {
                 key: distance,
-                waiting: Waiting::Column(column),
+                task: Task::Column(column),
             });
         }
     }
 
-    // A row offers all its entries, and gets a new list. It says no where the budget ends.
+    // Offers distances from a row to all columns, and makes a new list of the row. Returns false if
+    // the budget is spent.
     fn offer_whole(&mut self, row: u32) -> bool {
         let height = at(&self.heights, row, 0);
         let blocks = self.lists.scan(self.view, &self.pairing, row);
@@ -338,7 +342,7 @@ impl<'a> Lazy<'a> {
         self.pay(u64::from(self.view.columns))
     }
 
-    // A row offers the columns from one up to another what isn't below the floor.
+    // Offers distances from a row to the columns `from..end`, none below the floor.
     fn offer_range(&mut self, row: u32, height: i64, from: u32, end: u32) {
         let entries = self.view.row(row);
         'columns: for column in from..end {
@@ -348,7 +352,7 @@ impl<'a> Lazy<'a> {
         }
     }
 
-    // Lowers the price of each settled column by how much nearer it was than the end.
+    // Lowers the price of each settled column by how much nearer it is than the end of the path.
     fn lower_settled(&mut self) {
         'columns: for place in 0..self.settled.len() {
             let column = self.settled.get(place);
@@ -357,7 +361,7 @@ impl<'a> Lazy<'a> {
         }
     }
 
-    // Turns the path from a free row to the end.
+    // Augments the matching along the path from a free row to its end.
     fn turn(&mut self, free: u32) {
         let mut column = self.marks.end;
         'rows: for _ in 0..self.view.rows {

@@ -1,12 +1,12 @@
-//! Column reduction: each column takes the least entry that it has as its price, and pairs with the
-//! row of that, if it is free.
+//! Column reduction: the price of each column is its least entry, and the column is paired with the
+//! row of that entry if the row is free.
 
 use mcf_columns::{NOWHERE, at, narrow, put};
 use mcf_matrix_rows::{Pairing, View, lower_prices};
 
-/// Reduces the columns of a square matrix, from the first on; a column pairs with the first row
-/// that has its least entry. `rows` is scratch, one for each column; `counts` tells how many
-/// columns have their least entry in each row.
+/// Reduces the columns of a square matrix, in order. Each column is paired with the first row that
+/// has its least entry. `rows` is scratch memory, one entry for each column. `counts` receives for
+/// each row how many columns have their least entry there.
 pub(crate) fn reduce_columns(
     view: View<'_>,
     pairing: &mut Pairing,
@@ -25,7 +25,7 @@ pub(crate) fn reduce_columns(
     }
 }
 
-// Writes the least entry of each column, and the first row that has it.
+// Writes each column's least entry, and the first row that has it.
 fn write_least_entries(view: View<'_>, prices: &mut [i64], rows: &mut [i64]) {
     prices.fill(i64::MAX);
     rows.fill(0);

@@ -8,39 +8,39 @@ use mcf_matrix_rows::{BLOCK, Pairing, RowOffer, Two, UNREACHED, View, offer_all,
 use mcf_text::{NoMemory, copies};
 use std::alloc::Global;
 
-// How far off a settled column is set: what it is offered lies above what stands there, even where
-// distances are below 0.
+// Subtracted from the price of a settled column, so that no distance offered to it is below the one
+// it has, even if distances are negative.
 const FAR: i64 = 1 << 62;
 
 /// Shortest augmenting paths after column and row reduction (Jonker and Volgenant 1987), in scans
-/// of whole rows without a branch: a settled column stays in the scan, and is set far off.
+/// of whole rows without a branch: a settled column stays in the scan, at a price far below.
 #[derive(Drop)]
 struct WholeRows<'a> {
     view: View<'a>,
     pairing: Pairing,
-    // prices, of settled columns far below
+    // the prices of columns; those of settled columns are far below
     offered: Vec<i64>,
     distances: Vec<i64>,
-    // by which row each column is reached
+    // the row from which each column is reached
     sources: Vec<i64>,
     // the least distance of each block of columns
     leasts: Vec<i64>,
-    // the settled columns, and how far they were
+    // the settled columns, and the distance of each
     settled: Pile,
     reached: Vec<i64>,
-    // how many columns may still be settled
+    // how many columns the search may still settle
     budget: u64,
 }
 
-/// Where a path ends, and how long it is.
+/// The free column at which a path ends, and its distance.
 #[derive(Clone, Copy)]
 struct End {
     column: u32,
     distance: i64,
 }
 
-/// A matching of all rows and prices of columns that may show it least, if the search finds one.
-/// There are no more rows than columns.
+/// Searches for a matching of all rows, with prices of columns that may show it to be least. The
+/// view has no more rows than columns. Returns `None` if the search exceeds its budget.
 pub(crate) fn search(alloc: Global, view: View<'_>) -> Result<Option<Pairing>, NoMemory> {
     let mut free = Pile::start(alloc, view.rows as usize)?;
     let mut left = Pile::start(alloc, view.rows as usize)?;
@@ -53,7 +53,7 @@ pub(crate) fn search(alloc: Global, view: View<'_>) -> Result<Option<Pairing>, N
 }
 
 impl<'a> WholeRows<'a> {
-    // The search before its first step.
+    // Makes the search before its first step.
     fn start(alloc: Global, view: View<'a>) -> Result<WholeRows<'a>, NoMemory> {
         let columns = view.columns as usize;
         let budget = if view.rows < BUDGET_ROWS {
@@ -74,7 +74,7 @@ impl<'a> WholeRows<'a> {
         })
     }
 
-    // Searches, and says whether all rows have a column.
+    // Runs the search. Returns whether all rows have a column.
     fn run(&mut self, free: &mut Pile, left: &mut Pile, counts: &mut [u32]) -> bool {
         let rows = self.view.rows;
         if self.view.is_square() {
@@ -100,8 +100,8 @@ impl<'a> WholeRows<'a> {
         true
     }
 
-    // Lowers the price of each column that is alone in having its least entry in its row, until the
-    // second best is as good.
+    // Lowers the price of each column that is the only one with its least entry in its row, until
+    // the row's second best column is as good (reduction transfer).
     fn transfer_all(&mut self, counts: &[u32]) {
         'rows: for row in 0..self.view.rows {
             if at(counts, row, 0) == 1 {
@@ -113,7 +113,7 @@ impl<'a> WholeRows<'a> {
         }
     }
 
-    // A free column that is as good for a row as its best two, or else the second of these.
+    // Returns a free column that is as good for a row as its best two, or else the second of these.
     fn tied(&self, row: u32, two: Two) -> u32 {
         if self.pairing.row(two.second_column) == NOWHERE {
             return two.second_column;
@@ -130,7 +130,8 @@ impl<'a> WholeRows<'a> {
         two.second_column
     }
 
-    // Gives a free row a column by a shortest augmenting path, if the budget allows it.
+    // Augments the matching along a shortest path from a free row. Returns whether the budget
+    // allowed it.
     fn augment(&mut self, free: u32) -> bool {
         self.begin();
         let Some(end) = self.find_end(free) else {
@@ -141,14 +142,15 @@ impl<'a> WholeRows<'a> {
         true
     }
 
-    // No column is reached or settled.
+    // Begins a search, in which no column is reached or settled.
     fn begin(&mut self) {
         self.settled.clear();
         self.distances.as_mut_slice().fill(UNREACHED);
         copy(self.pairing.prices.as_slice(), self.offered.as_mut_slice());
     }
 
-    // The nearest free column, after the columns before it are settled.
+    // Settles columns until the nearest one is free, and returns that one. Returns `None` if the
+    // budget is spent or no free column can be reached.
     fn find_end(&mut self, free: u32) -> Option<End> {
         let mut row = free;
         let mut height = 0;
@@ -172,7 +174,8 @@ impl<'a> WholeRows<'a> {
         None
     }
 
-    // A row offers its reduced costs less a height. What the least distance is then.
+    // Offers each column the distance `reduced cost - height` from a row. Returns the least
+    // distance of all columns.
     fn offer(&mut self, row: u32, height: i64) -> i64 {
         let offer = RowOffer {
             row: i64::from(row),
@@ -188,7 +191,7 @@ impl<'a> WholeRows<'a> {
         )
     }
 
-    // A column at a distance: a free one, if there is one.
+    // Returns a column at a distance: a free one if possible.
     fn nearest(&self, distance: i64) -> u32 {
         let mut column = NOWHERE;
         'blocks: for block in 0..self.leasts.len() {
@@ -203,7 +206,7 @@ impl<'a> WholeRows<'a> {
         column
     }
 
-    // A column of a block at a distance: a free one, if there is one, and else the first.
+    // Returns a column of a block at a distance: a free one if possible, else the first.
     fn nearest_in(&self, block: usize, distance: i64) -> u32 {
         let start = narrow(block).wrapping_mul(16);
         let end = start.wrapping_add(16).min(self.view.columns);
@@ -229,7 +232,7 @@ impl<'a> WholeRows<'a> {
         put(&mut self.offered, column, price.wrapping_sub(FAR));
     }
 
-    // Lowers the price of each settled column by how much nearer it was than the end.
+    // Lowers the price of each settled column by how much nearer it is than the end of the path.
     fn lower_settled(&mut self, distance: i64) {
         'columns: for place in 0..self.settled.len() {
             let column = self.settled.get(place);
@@ -238,7 +241,7 @@ impl<'a> WholeRows<'a> {
         }
     }
 
-    // Turns the path that ends at a column.
+    // Augments the matching along the path from a free row to a column.
     fn turn(&mut self, free: u32, end: u32) {
         let mut column = end;
         'rows: for _ in 0..self.view.rows {
@@ -269,7 +272,7 @@ impl<'a> Bidder for WholeRows<'a> {
     }
 }
 
-/// Whether column reduction left so many of the rows free that augmenting paths will be long.
+/// Returns whether column reduction left so many rows free that augmenting paths will be long.
 pub(crate) fn is_hard(rows: u32, free: u32) -> bool {
     rows >= HARD_ROWS && u64::from(free) * 10 > u64::from(rows) * 9
 }

@@ -1,11 +1,11 @@
-//! Which rows and columns are paired, and what the columns cost.
+//! Matchings of rows with columns, with prices of columns.
 
 use crate::scans::{NOTHING, Two};
 use mcf_columns::{NOWHERE, Pile, at, narrow, put};
 use mcf_text::{NoMemory, copies};
 use std::alloc::Global;
 
-/// The column of each row, the row of each column, and the prices of columns.
+/// The column of each row and the row of each column, or `NOWHERE`, and the prices of columns.
 #[derive(Drop)]
 pub struct Pairing {
     pub column_of: Vec<u32>,
@@ -14,7 +14,7 @@ pub struct Pairing {
 }
 
 impl Pairing {
-    /// No pairs, at prices of 0.
+    /// Makes a pairing without pairs, at prices of 0.
     pub fn start(alloc: Global, rows: u32, columns: u32) -> Result<Pairing, NoMemory> {
         Ok(Pairing {
             column_of: copies(alloc, rows as usize, NOWHERE)?,
@@ -23,32 +23,32 @@ impl Pairing {
         })
     }
 
-    /// The column of a row, if it has one.
+    /// Returns the column of a row, or `NOWHERE`.
     #[inline(always)]
     pub fn column(&self, row: u32) -> u32 {
         at(&self.column_of, row, NOWHERE)
     }
 
-    /// The row of a column, if it has one.
+    /// Returns the row of a column, or `NOWHERE`.
     #[inline(always)]
     pub fn row(&self, column: u32) -> u32 {
         at(&self.row_of, column, NOWHERE)
     }
 
-    /// The price of a column.
+    /// Returns the price of a column.
     #[inline(always)]
     pub fn price(&self, column: u32) -> i64 {
         at(&self.prices, column, 0)
     }
 
-    /// Changes the price of a column.
+    /// Adds `change` to the price of a column.
     #[inline(always)]
     pub fn raise(&mut self, column: u32, change: i64) {
         let price = self.price(column).wrapping_add(change);
         put(&mut self.prices, column, price);
     }
 
-    /// Pairs a row and a column. What the column of the row was.
+    /// Pairs a row and a column. Returns the column that the row had before, or `NOWHERE`.
     #[inline(always)]
     pub fn pair(&mut self, row: u32, column: u32) -> u32 {
         let before = self.column(row);
@@ -57,7 +57,8 @@ impl Pairing {
         before
     }
 
-    /// Lowers the price of a row's best column until the second best is as good, if there is one.
+    /// Lowers the price of a row's best column until the second best is as good, if there is a
+    /// second.
     #[inline(always)]
     pub fn lower_to_second(&mut self, two: Two) {
         if two.second < NOTHING {
@@ -65,7 +66,8 @@ impl Pairing {
         }
     }
 
-    /// Pairs a row and a column. The row that loses the column, if one does.
+    /// Pairs a row and a column, and parts the column from the row that had it. Returns that row,
+    /// or `NOWHERE`.
     #[inline(always)]
     pub fn displace(&mut self, row: u32, column: u32) -> u32 {
         let loser = self.row(column);
@@ -74,7 +76,7 @@ impl Pairing {
         loser
     }
 
-    /// Puts each row without a column on a pile.
+    /// Fills a pile with the rows that have no column.
     pub fn pile_free(&self, free: &mut Pile) {
         free.clear();
         'rows: for row in 0..narrow(self.column_of.len()) {

@@ -4,16 +4,16 @@ ghost use Rattle.std.specs.Prelude.{◌≡◌, ◌≤◌, length};
 use mcf_columns::{narrow, put};
 use std::simd::prelude::*;
 
-/// More than anything that a scan compares: there is none.
+/// Stands for a missing number: it is above all numbers that a scan compares.
 pub const NOTHING: i64 = 1 << 62;
 
-/// A distance beyond all others: not reached.
+/// The distance of a column that isn't reached, above all others.
 pub const UNREACHED: i64 = 1 << 60;
 
-/// How many columns a block has.
+/// The number of columns in a block.
 pub const BLOCK: usize = 16;
 
-// Four reduced costs: the first four entries of a row, less the prices.
+// Returns four reduced costs: the first four entries of a row minus the prices of their columns.
 #[inline(always)]
 fn four(row: &[i64], prices: &[i64]) -> i64x4
     requires row { 4 ≤ length row.now }
@@ -22,7 +22,7 @@ fn four(row: &[i64], prices: &[i64]) -> i64x4
     i64x4::from_slice(row) - i64x4::from_slice(prices)
 }
 
-// The leasts of four among the first 16 reduced costs.
+// Returns four numbers, each the least of four of the first 16 reduced costs.
 #[inline(always)]
 fn block_lanes(row: &[i64], prices: &[i64]) -> i64x4
     requires row { 16 ≤ length row.now }
@@ -33,7 +33,7 @@ fn block_lanes(row: &[i64], prices: &[i64]) -> i64x4
     front.simd_min(back)
 }
 
-/// The least of the first 16 reduced costs.
+/// Returns the least of the first 16 reduced costs.
 #[inline(always)]
 fn block_least(row: &[i64], prices: &[i64]) -> i64
     requires row { 16 ≤ length row.now }
@@ -42,7 +42,7 @@ fn block_least(row: &[i64], prices: &[i64]) -> i64
     block_lanes(row, prices).reduce_min()
 }
 
-/// The least and the second least reduced cost of a row, and where they stand.
+/// The least and the second least reduced cost of a row, with their columns.
 #[derive(Clone, Copy)]
 pub struct Two {
     pub least: i64,
@@ -52,7 +52,7 @@ pub struct Two {
 }
 
 impl Two {
-    /// Of no entries.
+    /// Returns the value for a row without entries.
     pub fn none() -> Two {
         Two {
             least: NOTHING,
@@ -62,7 +62,7 @@ impl Two {
         }
     }
 
-    /// One reduced cost more, of a column.
+    /// Takes one more reduced cost, of a column, into account.
     #[inline(always)]
     pub fn take(&mut self, reduced: i64, column: u32) {
         if reduced >= self.second {
@@ -79,7 +79,7 @@ impl Two {
         }
     }
 
-    // Those of the columns from one up to another.
+    // Takes the reduced costs of the columns `from..end` into account.
     #[inline(always)]
     fn take_range(&mut self, row: &[i64], prices: &[i64], from: usize, end: usize)
         requires row { end ≤ length row.now }
@@ -91,7 +91,7 @@ impl Two {
     }
 }
 
-/// The two least reduced costs of a row.
+/// Returns the two least reduced costs of a row.
 #[inline(always)]
 pub fn two_least(row: &[i64], prices: &[i64]) -> Two {
     let count = row.len().min(prices.len());
@@ -107,7 +107,8 @@ pub fn two_least(row: &[i64], prices: &[i64]) -> Two {
     two
 }
 
-/// The least reduced cost of a row, and where it stands first.
+/// Returns the least reduced cost of a row, and the first column that has it. A row without entries
+/// has `NOTHING` and `u32::MAX`.
 #[inline(always)]
 pub fn row_least(row: &[i64], prices: &[i64]) -> (i64, u32) {
     let count = row.len().min(prices.len());
@@ -128,7 +129,7 @@ pub fn row_least(row: &[i64], prices: &[i64]) -> (i64, u32) {
     first_least(row, prices, start, start.saturating_add(BLOCK).min(count))
 }
 
-// The least reduced cost of the columns from one up to another, and where it stands first.
+// Returns the least reduced cost of the columns `from..end`, and the first column that has it.
 #[inline(always)]
 fn first_least(row: &[i64], prices: &[i64], from: usize, end: usize) -> (i64, u32)
     requires row { end ≤ length row.now }
@@ -146,7 +147,8 @@ fn first_least(row: &[i64], prices: &[i64], from: usize, end: usize) -> (i64, u3
     (least, place)
 }
 
-/// Writes the least reduced cost of each block of columns, and says how many blocks there are.
+/// Writes the least reduced cost of each whole block of columns, and returns the number of blocks
+/// written.
 #[inline(always)]
 pub fn write_block_leasts(row: &[i64], prices: &[i64], leasts: &mut [i64]) -> usize {
     let count = (row.len().min(prices.len()) / BLOCK).min(leasts.len());
@@ -156,14 +158,15 @@ pub fn write_block_leasts(row: &[i64], prices: &[i64], leasts: &mut [i64]) -> us
     count
 }
 
-/// A row that offers its columns distances: its reduced costs less a height.
+/// A row that offers distances to columns: its reduced costs minus `height`.
 #[derive(Clone, Copy)]
 pub struct RowOffer {
     pub row: i64,
     pub height: i64,
 }
 
-// The first four columns take an offer where it is less than what they have.
+// Lets each of the first four columns take an offered distance that is less than its own. Returns
+// their distances.
 #[inline(always)]
 fn offer_four(
     offer: RowOffer,
@@ -189,7 +192,7 @@ fn offer_four(
     least
 }
 
-// The first 16 columns take an offer. What the least of their distances is then.
+// Lets the first 16 columns take an offer. Returns the least of their distances.
 #[inline(always)]
 fn offer_block(
     offer: RowOffer,
@@ -230,7 +233,7 @@ fn offer_block(
     a.simd_min(b).simd_min(c.simd_min(d)).reduce_min()
 }
 
-// A column takes an offer where it is less than what it has. What its distance is then.
+// Lets a column take an offered distance that is less than its own. Returns its distance.
 #[inline(always)]
 fn offer_one(offer: RowOffer, reduced: i64, distance: &mut i64, source: &mut i64) -> i64 {
     let offered = reduced.wrapping_sub(offer.height);
@@ -241,7 +244,7 @@ fn offer_one(offer: RowOffer, reduced: i64, distance: &mut i64, source: &mut i64
     *distance
 }
 
-// All columns, fewer than 16, take an offer. What the least of their distances is then.
+// Lets all columns, fewer than 16, take an offer. Returns the least of their distances.
 #[inline(always)]
 fn offer_rest(
     offer: RowOffer,
@@ -267,8 +270,8 @@ fn offer_rest(
     least
 }
 
-/// All columns take an offer, and the least distance of each block is written. What the least of
-/// all is then.
+/// Lets all columns take an offer: a distance that is less than a column's own replaces it, with
+/// the row as its source. Writes the least distance of each block, and returns the least of all.
 pub fn offer_all(
     offer: RowOffer,
     row: &[i64],
@@ -308,7 +311,7 @@ pub fn offer_all(
     least.min(rest)
 }
 
-// The first four columns take the entries of a row where they are less than their prices.
+// Lowers the price of each of the first four columns to the entry of a row, if that is less.
 #[inline(always)]
 fn lower_four(number: i64, row: &[i64], prices: &mut [i64], rows: &mut [i64])
     requires row { 4 ≤ length row.now }
@@ -325,8 +328,8 @@ fn lower_four(number: i64, row: &[i64], prices: &mut [i64], rows: &mut [i64])
     taken.copy_to_slice(rows);
 }
 
-/// Lowers the price of each column to the entry of a row where that is less, and writes the number
-/// of the row there.
+/// Lowers the price of each column to the entry of a row, if that is less, and writes the row's
+/// number for the column then.
 pub fn lower_prices(number: i64, row: &[i64], prices: &mut [i64], rows: &mut [i64]) {
     let count = row.len().min(prices.len()).min(rows.len());
     let whole = count / 4 * 4;
@@ -347,7 +350,7 @@ pub fn lower_prices(number: i64, row: &[i64], prices: &mut [i64], rows: &mut [i6
     }
 }
 
-/// The greatest entry of so many columns of a row.
+/// Returns the greatest of the first `columns` entries of a row, or `i64::MIN` if there are none.
 pub fn row_greatest(row: &[i64], columns: usize) -> i64 {
     let count = row.len().min(columns);
     let mut greatest = i64::MIN;

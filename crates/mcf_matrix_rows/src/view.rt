@@ -1,9 +1,9 @@
-//! A matrix as a search reads it.
+//! Views of cost matrices, for searches.
 
 use mcf_columns::{at, tail};
 
-/// The costs of so many rows and columns, and the distance from one row to the next; and a row of
-/// zeros after the last, or nothing. No pair is forbidden here.
+/// A cost matrix: row i begins at place i * stride of `costs`. If `zeros` isn't empty, it is one
+/// more row, after the last. A forbidden pair is read as a cost.
 #[derive(Clone, Copy)]
 pub struct View<'a> {
     pub costs: &'a [i64],
@@ -14,7 +14,7 @@ pub struct View<'a> {
 }
 
 impl<'a> View<'a> {
-    /// The entries from the first of a row on.
+    /// Returns the entries of a row and all that follow it in the list.
     #[inline(always)]
     pub fn row(&self, row: u32) -> &'a [i64] {
         if row >= self.rows {
@@ -23,18 +23,18 @@ impl<'a> View<'a> {
         tail(self.costs, (row as usize).wrapping_mul(self.stride))
     }
 
-    /// The cost of a pair.
+    /// Returns the cost of a pair, or 0 if there is no such pair.
     #[inline(always)]
     pub fn cost(&self, row: u32, column: u32) -> i64 {
         at(self.row(row), column, 0)
     }
 
-    /// How many rows there are, with that of zeros.
+    /// Returns the number of rows, with the row of zeros.
     pub fn senders(&self) -> u32 {
         self.rows.wrapping_add(u32::from(!self.zeros.is_empty()))
     }
 
-    /// Whether there are as many columns as rows.
+    /// Returns whether there are as many columns as rows.
     pub fn is_square(&self) -> bool {
         self.rows == self.columns
     }

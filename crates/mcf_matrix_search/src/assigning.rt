@@ -1,4 +1,4 @@
-//! Assignments: which search is made, and what is made of what it finds.
+//! Assignments: the choice of a search, and the assignment or cover that its matching gives.
 
 use crate::copying::copy_costs;
 use crate::covers::find_cover;
@@ -11,7 +11,7 @@ use mcf_matrix_simplex::search_matching;
 use mcf_text::{NoMemory, copies};
 use std::alloc::Global;
 
-/// What is found in a view, which may have forbidden pairs.
+/// Searches a view, which may have forbidden pairs, for an assignment or a cover.
 pub(crate) fn find(alloc: Global, view: View<'_>) -> Result<Option<Found>, NoMemory> {
     let is_turned = view.rows > view.columns;
     let has_forbidden = has_forbidden(view);
@@ -40,7 +40,7 @@ pub(crate) fn find(alloc: Global, view: View<'_>) -> Result<Option<Found>, NoMem
     turn_found(alloc, found, is_turned)
 }
 
-// What is found where no pair is forbidden, and no more rows than columns are.
+// Searches a view without forbidden pairs, which has no more rows than columns.
 fn find_complete(alloc: Global, view: View<'_>) -> Result<Option<Found>, NoMemory> {
     let Some(pairing) = search(alloc, view)? else {
         return Ok(None);
@@ -48,7 +48,8 @@ fn find_complete(alloc: Global, view: View<'_>) -> Result<Option<Found>, NoMemor
     Ok(Some(Found::Assignment(priced(alloc, view, pairing)?)))
 }
 
-// What is found where a cost stands for forbidden pairs, and no more rows than columns are.
+// Searches a view in which the cost `far` stands for forbidden pairs, and which has no more rows
+// than columns.
 fn find_limited(alloc: Global, view: View<'_>, far: i64) -> Result<Option<Found>, NoMemory> {
     let Some(pairing) = search(alloc, view)? else {
         return Ok(None);
@@ -62,7 +63,7 @@ fn find_limited(alloc: Global, view: View<'_>, far: i64) -> Result<Option<Found>
     Ok(Some(Found::Cover(cover)))
 }
 
-// Whether a pair costs so much.
+// Returns whether a matched pair costs at least `far`.
 fn reaches(view: View<'_>, pairing: &Pairing, far: i64) -> bool {
     'rows: for row in 0..view.rows {
         if view.cost(row, pairing.column(row)) >= far {
@@ -82,7 +83,8 @@ fn search(alloc: Global, view: View<'_>) -> Result<Option<Pairing>, NoMemory> {
     search_matching(alloc, view)
 }
 
-// The assignment of a matching, with prices of rows at which its pairs have the reduced cost 0.
+// Returns the assignment of a matching, with prices of rows at which the reduced costs of its pairs
+// are 0.
 fn priced(alloc: Global, view: View<'_>, pairing: Pairing) -> Result<Assignment, NoMemory> {
     let mut row_prices = copies(alloc, view.rows as usize, 0)?;
     'rows: for row in 0..view.rows {
@@ -97,7 +99,7 @@ fn priced(alloc: Global, view: View<'_>, pairing: Pairing) -> Result<Assignment,
     })
 }
 
-// What was found in a matrix that was turned over, or not.
+// Exchanges rows and columns of what was found, if the matrix was transposed.
 fn turn_found(
     alloc: Global,
     found: Option<Found>,
@@ -118,7 +120,7 @@ fn turn_found(
     }
 }
 
-// The assignment with rows and columns exchanged.
+// Returns the assignment with rows and columns exchanged.
 fn turn_assignment(alloc: Global, turned: Assignment) -> Result<Assignment, NoMemory> {
     let mut column_of = copies(alloc, turned.column_prices.len(), NOWHERE)?;
     'columns: for column in 0..turned.column_of.len().min(NOWHERE as usize) as u32 {

@@ -1,4 +1,4 @@
-//! Copies of matrices in which another cost stands for forbidden pairs, turned over if there are
+//! Copies of matrices in which another cost stands for forbidden pairs, transposed if there are
 //! more rows than columns.
 
 use mcf_columns::{at, narrow, put};
@@ -7,10 +7,14 @@ use mcf_matrix_rows::View;
 use mcf_text::{NoMemory, copies};
 use std::alloc::Global;
 
-// So many rows are turned over side by side: the lines of a cache serve all of them.
+// The number of rows that are transposed together, so that they share cache lines.
 const SIDE_BY_SIDE: u32 = 16;
 
-/// A copy in which a cost stands for forbidden pairs, with rows and columns exchanged or not.
+/// Copies the costs row after row, with `far` as the cost of forbidden pairs, and transposed if
+/// `is_turned`.
+///
+/// # Errors
+/// `NoMemory` if the allocation is refused.
 pub(crate) fn copy_costs(
     alloc: Global,
     view: View<'_>,
@@ -27,7 +31,7 @@ pub(crate) fn copy_costs(
     Ok(copy)
 }
 
-// The cost of a pair, or another for a forbidden one.
+// Returns the cost of a pair, or `far` if it is forbidden.
 #[inline(always)]
 fn cost_or(cost: i64, far: i64) -> i64 {
     if cost == FORBIDDEN { far } else { cost }
@@ -42,7 +46,7 @@ fn copy_rows(view: View<'_>, far: i64, copy: &mut [i64]) {
     }
 }
 
-// Copies so many entries of a row.
+// Copies the first `columns` entries of a row.
 fn copy_row(entries: &[i64], far: i64, columns: usize, copy: &mut [i64]) {
     let count = columns.min(entries.len()).min(copy.len());
     'columns: for j in 0..count {
@@ -57,14 +61,14 @@ fn turn_all(view: View<'_>, far: i64, copy: &mut [i64]) {
     }
 }
 
-// Copies the entries of all columns in rows that stand side by side.
+// Copies the entries of all columns in adjacent rows, `SIDE_BY_SIDE` from `first` on.
 fn turn_block(view: View<'_>, far: i64, first: u32, copy: &mut [i64]) {
     'columns: for column in 0..view.columns {
         turn_column(view, far, first, column, copy);
     }
 }
 
-// Copies those of one column.
+// Copies the entries of one column in these rows.
 fn turn_column(view: View<'_>, far: i64, first: u32, column: u32, copy: &mut [i64]) {
     let start = (column as usize).wrapping_mul(view.rows as usize);
     let end = first.saturating_add(SIDE_BY_SIDE).min(view.rows);

@@ -1,5 +1,5 @@
-//! Covers: rows and columns that meet all allowed pairs, as few as a greatest matching of these has
-//! pairs (König, 1931).
+//! Covers: rows and columns such that each allowed pair has one of them. The smallest cover is as
+//! large as the largest matching of allowed pairs (König, 1931).
 
 use crate::found::Cover;
 use mcf_columns::{NOWHERE, Pile, at, put};
@@ -19,13 +19,14 @@ struct Paths<'a> {
     pairing: Pairing,
     rows: Vec<bool>,
     columns: Vec<bool>,
-    // by which row each column was reached
+    // the row from which each column was reached
     sources: Vec<u32>,
     waiting: Pile,
 }
 
-/// A cover of the pairs that cost less than a limit, with fewer rows and columns than there are
-/// rows. It begins with a matching of all rows, and finds none where all rows have such pairs.
+/// Searches for a cover of the pairs that cost less than `limit`, which has fewer rows and columns
+/// than the view has rows. The search starts from a matching of all rows. Returns `None` if it can
+/// match all rows by such pairs, or if it exceeds its budget.
 pub(crate) fn find_cover(
     alloc: Global,
     view: View<'_>,
@@ -50,7 +51,7 @@ pub(crate) fn find_cover(
 }
 
 impl<'a> Paths<'a> {
-    // Parts the pairs that don't cost less than the limit.
+    // Removes the pairs that cost at least the limit from the matching.
     fn drop_limited(&mut self) {
         'rows: for row in 0..self.view.rows {
             let column = self.pairing.column(row);
@@ -61,8 +62,8 @@ impl<'a> Paths<'a> {
         }
     }
 
-    // Augments the matching until no path is left, and says whether the rows not reached and the
-    // columns reached are a short cover.
+    // Augments the matching until no augmenting path is left. Returns whether the rows that weren't
+    // reached and the columns that were are then a cover of fewer lines than there are rows.
     fn run(&mut self) -> bool {
         'paths: for _ in 0..COVER_PATHS {
             if !self.begin() {
@@ -76,8 +77,8 @@ impl<'a> Paths<'a> {
         false
     }
 
-    // Reaches the free rows alone, and says whether there are any. A row is marked as long as it
-    // isn't reached.
+    // Begins a search at the free rows. Returns whether there are any. `rows` marks the rows that
+    // aren't reached.
     fn begin(&mut self) -> bool {
         self.columns.as_mut_slice().fill(false);
         self.waiting.clear();
@@ -91,7 +92,8 @@ impl<'a> Paths<'a> {
         self.waiting.len() > 0
     }
 
-    // Reaches what it can, and gives a free column if it reaches one.
+    // Reaches rows and columns until it reaches a free column, and returns that, or `None` if it
+    // reaches none.
     fn spread(&mut self) -> Option<u32> {
         'rows: for _ in 0..self.view.rows {
             let Some(row) = self.waiting.pop() else {
@@ -105,7 +107,7 @@ impl<'a> Paths<'a> {
         None
     }
 
-    // Reaches the columns of a row and their rows, and gives a free column if there is one.
+    // Reaches the columns of a row and the rows of these columns. Returns the first free column.
     fn reach_columns(&mut self, row: u32) -> Option<u32> {
         let entries = self.view.row(row);
         'columns: for column in 0..self.view.columns {
@@ -123,7 +125,7 @@ impl<'a> Paths<'a> {
         None
     }
 
-    // Turns the path to a free column.
+    // Augments the matching along the path to a free column.
     fn turn(&mut self, end: u32) {
         let mut column = end;
         'rows: for _ in 0..self.view.rows {

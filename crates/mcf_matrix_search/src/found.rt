@@ -1,16 +1,16 @@
-//! What a search found.
+//! The results of searches, which a judge has to check.
 
 use mcf_matrix::Shipment;
 
-/// An assignment that may be least, or a cover that may show that there is none.
+/// An assignment that may be least, or a cover that may show that there is no assignment.
 #[derive(Drop)]
 pub enum Found {
     Assignment(Assignment),
     Cover(Cover),
 }
 
-/// Of each row its column, or `u32::MAX`, and prices of rows and columns that may show the
-/// assignment least.
+/// An assignment: each row's column, or `u32::MAX` for a free row, with prices of rows and columns
+/// that may show it to be least.
 #[derive(Drop)]
 pub struct Assignment {
     pub column_of: Vec<u32>,
@@ -18,15 +18,16 @@ pub struct Assignment {
     pub column_prices: Vec<i64>,
 }
 
-/// Rows and columns, fewer than either side has, one of which each allowed pair may have.
+/// Marks of rows and columns, fewer than the matrix has rows or columns, such that each allowed
+/// pair may have a marked row or a marked column.
 #[derive(Drop)]
 pub struct Cover {
     pub rows: Vec<bool>,
     pub columns: Vec<bool>,
 }
 
-/// A transport plan that may be least, in at most one entry less than rows and columns together,
-/// and prices that may show it.
+/// A transport plan that may be least, with prices that may show it. It has fewer entries than the
+/// matrix has rows and columns together.
 #[derive(Drop)]
 pub struct Plan {
     pub shipments: Vec<Shipment>,

@@ -1,4 +1,4 @@
-//! Transport plans: what is made of what the simplex finds.
+//! Transport plans: the search, and the plan that its basis gives.
 ghost use Rattle.std.specs.Prelude.{◌≤◌, ◌+◌, OnErr};
 
 use crate::copying::copy_costs;
@@ -11,14 +11,14 @@ use mcf_matrix_simplex::{Basis, search_plan};
 use mcf_text::{NoMemory, copies};
 use std::alloc::Global;
 
-// Stands for a place of a plan that isn't written yet.
+// The first content of each place of a plan, before it is written.
 const NO_SHIPMENT: Shipment = Shipment {
     row: 0,
     column: 0,
     amount: 0,
 };
 
-/// What is found in a view with rows and columns, which may have forbidden pairs.
+/// Searches a view for a plan. The view has rows and columns, and may have forbidden pairs.
 pub(crate) fn find(
     alloc: Global,
     view: View<'_>,
@@ -37,7 +37,8 @@ pub(crate) fn find(
     find_limited(alloc, copy, masses, far)
 }
 
-// What is found where a cost stands for forbidden pairs: nothing if the plan uses them.
+// Searches a view in which the cost `far` stands for forbidden pairs. Returns `None` if the plan
+// uses one.
 fn find_limited(
     alloc: Global,
     view: View<'_>,
@@ -59,7 +60,7 @@ fn find_limited(
     }))
 }
 
-// Whether a pair that is used costs so much.
+// Returns whether a pair that is used costs at least `far`.
 fn reaches(view: View<'_>, basis: &Basis<'_>, far: i64) -> bool {
     'nodes: for node in 0..basis.nodes() {
         if let Some(used) = used_at(basis, node) {
@@ -71,7 +72,7 @@ fn reaches(view: View<'_>, basis: &Basis<'_>, far: i64) -> bool {
     false
 }
 
-// What goes along the arc from a node to its parent, if that is more than 0.
+// Returns the shipment on the arc from a node to its parent, if its amount is above 0.
 fn used_at(basis: &Basis<'_>, node: u32) -> Option<Shipment> {
     let cell = basis.cell(node)?;
     if cell.amount <= 0 {
@@ -84,7 +85,7 @@ fn used_at(basis: &Basis<'_>, node: u32) -> Option<Shipment> {
     })
 }
 
-// How many pairs are used.
+// Returns the number of pairs that are used.
 fn count_used(basis: &Basis<'_>) -> usize {
     let mut count = 0usize;
     'nodes: for node in 0..basis.nodes() {
@@ -93,7 +94,7 @@ fn count_used(basis: &Basis<'_>) -> usize {
     count
 }
 
-// Writes them.
+// Writes the shipments of the pairs that are used.
 fn write_used(basis: &Basis<'_>, shipments: &mut [Shipment]) {
     let mut place = 0u32;
     'nodes: for node in 0..basis.nodes() {
@@ -104,7 +105,11 @@ fn write_used(basis: &Basis<'_>, shipments: &mut [Shipment]) {
     }
 }
 
-/// The plan of a matrix without rows or without columns, if nothing is supplied or demanded.
+/// Returns the plan of a matrix without rows or without columns, or `None` if a supply or demand
+/// isn't 0.
+///
+/// # Errors
+/// `NoMemory` if an allocation is refused; a matrix without rows and columns needs none.
 pub(crate) fn find_without_pairs(
     alloc: Global,
     rows: usize,
@@ -123,7 +128,7 @@ pub(crate) fn find_without_pairs(
     }))
 }
 
-// Whether one of the masses isn't 0.
+// Returns whether one of the supplies or demands isn't 0.
 fn are_some(masses: &[i64]) -> bool {
     'lines: for i in 0..masses.len() {
         if masses[i] != 0 {
@@ -133,7 +138,7 @@ fn are_some(masses: &[i64]) -> bool {
     false
 }
 
-/// Whether no mass is below 0, and as much is supplied as demanded.
+/// Returns whether no supply or demand is below 0, and the sums of both are equal.
 pub(crate) fn are_even(masses: &Masses<'_>) -> bool {
     match (total(masses.supplies), total(masses.demands)) {
         (Some(supply), Some(demand)) => supply == demand,
@@ -141,7 +146,7 @@ pub(crate) fn are_even(masses: &Masses<'_>) -> bool {
     }
 }
 
-// The sum of masses, unless one is below 0.
+// Returns the sum of supplies or demands, or `None` if one is below 0.
 fn total(masses: &[i64]) -> Option<i128> {
     let mut total = 0i128;
     'lines: for i in 0..masses.len() {

@@ -1,13 +1,13 @@
-//! The range of the costs of a matrix, and a cost beyond it that stands for a forbidden pair.
+//! The range of the costs of a matrix, and a cost above it that stands for a forbidden pair.
 
 use mcf_columns::at;
 use mcf_matrix::FORBIDDEN;
 use mcf_matrix_rows::{View, row_greatest};
 
-/// Prices stay well within 64 bits if no cost is greater.
+/// The greatest cost of a copy. Prices stay well within 64 bits then.
 const MOST: i64 = 1 << 57;
 
-/// Whether a pair is forbidden.
+/// Returns whether any pair is forbidden.
 pub(crate) fn has_forbidden(view: View<'_>) -> bool {
     'rows: for row in 0..view.rows {
         if row_greatest(view.row(row), view.columns as usize) == FORBIDDEN {
@@ -24,8 +24,8 @@ struct Range {
     greatest: i64,
 }
 
-/// A cost so far above all others that a matching or a plan has as few pairs of it as it can, if 64
-/// bits allow it.
+/// Returns a cost so far above all others that a least matching or plan uses as few pairs of that
+/// cost as possible, unless the cost would be beyond 2^57, and then 2^57.
 pub(crate) fn far_cost(view: View<'_>) -> i64 {
     let mut range = Range {
         least: i64::MAX,
@@ -46,7 +46,7 @@ pub(crate) fn far_cost(view: View<'_>) -> i64 {
 }
 
 impl Range {
-    // Takes in the allowed pairs of a row.
+    // Extends the range by the costs of a row's allowed pairs.
     fn widen(&mut self, view: View<'_>, row: u32) {
         let entries = view.row(row);
         'columns: for column in 0..view.columns {

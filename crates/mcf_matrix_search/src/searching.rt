@@ -10,25 +10,26 @@ use mcf_matrix_rows::View;
 use mcf_text::NoMemory;
 use std::alloc::Global;
 
-// A matrix with more rows or columns is left alone.
+// The searches return `None` for a matrix with more rows or columns.
 const MOST_LINES: usize = 1 << 30;
 
-/// An assignment that may be least, with prices that may show it, or a cover that may show that
-/// there is none.
+/// Searches for a least assignment with prices that show it, or for a cover that shows that there
+/// is no assignment.
 ///
-/// Prices are meant to satisfy `row_price + column_price <= cost` for each pair, with equality for
-/// those of the assignment; where there are more columns than rows free columns have the price 0
-/// and none is above it, and of rows the same where there are more of these. What is found has to
-/// be judged: this call promises nothing of it.
+/// Prices are meant to satisfy `row_price + column_price <= cost` for each allowed pair, with
+/// equality for the pairs of the assignment. If there are more columns than rows, free columns are
+/// meant to have the price 0 and no column a price above 0; if there are more rows, the same holds
+/// for rows. The caller has to check the result: this call promises nothing about it. Returns
+/// `None` if the search exceeds its budget of steps or the matrix has more than 2^30 rows or
+/// columns.
 ///
-/// The search is that of Jonker and Volgenant (A shortest augmenting path algorithm for dense and
-/// sparse linear assignment problems, 1987), over whole rows or over lists of their least entries;
-/// where that would take long the network simplex takes its place. It gives up after so many steps.
-/// A matrix with more rows than columns, or with forbidden pairs, is copied.
+/// The search uses shortest augmenting paths (Jonker and Volgenant, A shortest augmenting path
+/// algorithm for dense and sparse linear assignment problems, 1987), and the network simplex if
+/// these take too long. It copies a matrix with more rows than columns or with forbidden pairs.
 ///
 /// # Errors
 ///
-/// Want of memory, where a growth was refused; a matrix without rows and columns wants none.
+/// `NoMemory` if an allocation is refused; a matrix without rows and columns needs none.
 pub fn find_assignment(alloc: Global, matrix: &Matrix<'_>) -> Result<Option<Found>, NoMemory>
     ensures none { IfOk result (λ found. IfNone found (1 ≤ matrix.now.rows + matrix.now.columns)) }
     ensures wants { OnErr result (1 ≤ matrix.now.rows + matrix.now.columns) }
@@ -47,7 +48,7 @@ pub fn find_assignment(alloc: Global, matrix: &Matrix<'_>) -> Result<Option<Foun
     assigning::find(alloc, view_of(matrix))
 }
 
-// The matrix as a search reads it.
+// Returns a view of a matrix.
 fn view_of<'a>(matrix: &Matrix<'a>) -> View<'a> {
     View {
         costs: matrix.entries(),
@@ -58,21 +59,21 @@ fn view_of<'a>(matrix: &Matrix<'a>) -> View<'a> {
     }
 }
 
-/// A transport plan that may be least for what rows supply and columns demand, with prices that may
-/// show it.
+/// Searches for a least transport plan for supplies of rows and demands of columns, with prices
+/// that show it.
 ///
-/// Prices are meant to satisfy `row_price + column_price <= cost` for each pair, with equality for
-/// those that the plan uses. What is found has to be judged: this call promises nothing of it. It
-/// finds none where masses are below 0 or supplies and demands differ in all, or the plan would
-/// have to use a forbidden pair.
+/// Prices are meant to satisfy `row_price + column_price <= cost` for each allowed pair, with
+/// equality for the pairs that the plan uses. The caller has to check the result: this call
+/// promises nothing about it. Returns `None` if a supply or demand is below 0, their sums differ,
+/// the plan found uses a forbidden pair, the search exceeds its budget of pivots, or the matrix has
+/// more than 2^30 rows or columns.
 ///
 /// The search is the network simplex on all pairs (Dantzig, Application of the simplex method to a
-/// transportation problem, 1951), which gives up after so many pivots. A matrix with forbidden
-/// pairs is copied.
+/// transportation problem, 1951). It copies a matrix with forbidden pairs.
 ///
 /// # Errors
 ///
-/// Want of memory, where a growth was refused; a matrix without rows and columns wants none.
+/// `NoMemory` if an allocation is refused; a matrix without rows and columns needs none.
 pub fn find_plan(
     alloc: Global,
     matrix: &Matrix<'_>,

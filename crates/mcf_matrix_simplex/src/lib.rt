@@ -1,9 +1,9 @@
 #![tactic(auto)]
 
-//! The network simplex on a cost matrix as it stands, for transport plans and matchings. Nothing is
-//! proved of what it finds: it is safe, and it ends.
+//! The network simplex on a cost matrix, without a copy of the matrix as a network, for transport
+//! plans and matchings. Nothing is proved of what it finds: it is safe and ends.
 //!
-//! It stands on `mcf_matrix_rows`.
+//! It builds on `mcf_columns` and `mcf_matrix_rows`.
 
 mod basis;
 mod plan;

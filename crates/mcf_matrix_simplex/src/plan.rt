@@ -1,14 +1,14 @@
-//! A first transport plan, by the cheapest columns of rows.
+//! An initial transport plan: each row in turn sends to its cheapest open column.
 
 use mcf_columns::{Pile, at, copy, put};
 use mcf_matrix_rows::{View, lower_prices, row_least};
 use mcf_text::{NoMemory, copies};
 use std::alloc::Global;
 
-/// So far off is a column set that is closed.
+/// Subtracted from the price of a closed column, so that no row finds it cheapest.
 const CLOSED: i64 = 1 << 61;
 
-/// An amount that a row sends to a column.
+/// An amount that a row sends to a column, both counted from 0.
 #[derive(Clone, Copy, Default)]
 pub struct Cell {
     pub row: u32,
@@ -16,17 +16,17 @@ pub struct Cell {
     pub amount: i64,
 }
 
-/// A plan that is made cell by cell. Each cell but the last closes a row or a column, so that they
-/// span a tree.
+/// A plan that is made cell by cell. Each cell but the last closes a row or a column, so the cells
+/// are the arcs of a spanning tree.
 #[derive(Drop)]
 pub(crate) struct FirstPlan<'a> {
     view: View<'a>,
-    // what rows have left to send, and columns to take
+    // the amounts that rows have left to send, and columns to receive
     supplies: Vec<i64>,
     demands: Vec<i64>,
-    // the least entry of each column, and far below for a closed column
+    // the least entry of each column; far below that for a closed column
     prices: Vec<i64>,
-    // rows in turn, and those of the next turn
+    // the rows of this turn, and those of the next
     turn: Pile,
     next: Pile,
     cells: Vec<Cell>,
@@ -36,7 +36,7 @@ pub(crate) struct FirstPlan<'a> {
 }
 
 impl<'a> FirstPlan<'a> {
-    /// No cells.
+    /// Makes a plan without cells.
     pub(crate) fn start(alloc: Global, view: View<'a>) -> Result<FirstPlan<'a>, NoMemory> {
         let (rows, columns) = (view.senders() as usize, view.columns as usize);
         Ok(FirstPlan {
@@ -53,19 +53,19 @@ impl<'a> FirstPlan<'a> {
         })
     }
 
-    /// Writes what rows send and columns take.
+    /// Writes the supplies of rows and the demands of columns.
     pub(crate) fn write(&mut self, supplies: &[i64], demands: &[i64]) {
         copy(supplies, self.supplies.as_mut_slice());
         copy(demands, self.demands.as_mut_slice());
     }
 
-    /// The cells that were made.
+    /// Returns the cells made so far.
     pub(crate) fn made(&self) -> &[Cell] {
         let count = self.cells.len().min(self.count as usize);
         &self.cells[..count]
     }
 
-    /// Makes the plan. `numbers` is scratch, one for each column.
+    /// Makes the plan. `numbers` is scratch memory, one entry for each column.
     pub(crate) fn make(&mut self, numbers: &mut [i64]) {
         'rows: for row in 0..self.view.senders() {
             let entries = self.view.row(row);
@@ -79,7 +79,7 @@ impl<'a> FirstPlan<'a> {
         }
     }
 
-    // Each row of a turn makes a cell. It says whether any are left.
+    // Makes a cell for each row of a turn. Returns whether any rows are left.
     fn take_turn(&mut self) -> bool {
         std::mem::swap(&mut self.turn, &mut self.next);
         self.next.clear();
@@ -92,8 +92,8 @@ impl<'a> FirstPlan<'a> {
         self.next.len() > 0
     }
 
-    // A row sends what it can to its cheapest open column, and one of both is closed. It says no at
-    // the last cell.
+    // Lets a row send what it can to its cheapest open column, and closes the row or the column.
+    // Returns false at the last cell.
     fn add_cell(&mut self, row: u32) -> bool {
         let (_, column) = row_least(self.view.row(row), &self.prices);
         let supply = at(&self.supplies, row, 0);

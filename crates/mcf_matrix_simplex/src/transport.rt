@@ -8,8 +8,14 @@ use mcf_matrix_rows::{Pairing, View, row_least};
 use mcf_text::{NoMemory, copies};
 use std::alloc::Global;
 
-/// A basis whose plan may be least for what rows send and columns take, if the simplex finds one.
-/// There are rows and columns.
+/// Searches for a least transport plan, from the supplies of the view's senders to the demands of
+/// its columns, by the network simplex. The view has rows and columns.
+///
+/// Returns the last basis, whose prices are meant to show its plan to be least; the caller has to
+/// check that. Returns `None` if the search exceeds its budget of pivots.
+///
+/// # Errors
+/// `NoMemory` if an allocation is refused.
 pub fn search_plan<'a>(
     alloc: Global,
     view: View<'a>,
@@ -28,8 +34,8 @@ pub fn search_plan<'a>(
     Ok(None)
 }
 
-/// Prices one row after the other and lets its least pair enter, until no row has a pair of
-/// negative reduced cost. It says no where that takes too many pivots.
+/// Prices one row after another and lets the row's pair of least reduced cost enter, until no row
+/// has a pair of negative reduced cost. Returns false if that takes too many pivots.
 fn improve(basis: &mut Basis<'_>) -> bool {
     let rows = basis.rows();
     let most = u64::from(basis.nodes()).saturating_mul(PIVOTS_PER_NODE);
@@ -52,7 +58,8 @@ fn improve(basis: &mut Basis<'_>) -> bool {
     false
 }
 
-// Lets the least pair of a row enter, if its reduced cost is negative.
+// Lets the pair of least reduced cost in a row enter, if that cost is negative. Returns whether it
+// is.
 #[inline(always)]
 fn pivot_at(basis: &mut Basis<'_>, row: u32) -> bool {
     let (least, column) = row_least(basis.view.row(row), &basis.column_prices);
@@ -68,8 +75,15 @@ fn pivot_at(basis: &mut Basis<'_>, row: u32) -> bool {
     enters
 }
 
-/// A matching of all rows and prices of columns that may show it least, if the simplex finds one.
-/// There are rows, and no more than columns; a row of zeros takes the columns that stay free.
+/// Searches for a least-cost matching of all rows by the network simplex. The view has at least one
+/// row, no more rows than columns, and no forbidden pairs.
+///
+/// The pairing returned is meant to have a column for each row, and prices of columns that show it
+/// to be least; the caller has to check both. Returns `None` if the search exceeds its budget of
+/// pivots. An added row of zeros takes the columns that stay free.
+///
+/// # Errors
+/// `NoMemory` if an allocation is refused.
 pub fn search_matching(alloc: Global, view: View<'_>) -> Result<Option<Pairing>, NoMemory> {
     let left = view.columns.saturating_sub(view.rows);
     let zeros = copies(alloc, if left > 0 { view.columns as usize } else { 0 }, 0)?;
@@ -88,8 +102,8 @@ pub fn search_matching(alloc: Global, view: View<'_>) -> Result<Option<Pairing>,
     Ok(Some(pairing))
 }
 
-// Writes the pairs of a basis, and its prices of columns less that of the row of zeros, so that a
-// free column has the price 0.
+// Writes the pairs of a basis, and its prices of columns, shifted by the price of the row of zeros
+// so that a free column has the price 0.
 fn write_pairs(basis: &Basis<'_>, pairing: &mut Pairing) {
     'nodes: for node in 0..basis.nodes() {
         if let Some(cell) = basis.cell(node) {

@@ -4,8 +4,8 @@ use mcf_text::NoMemory;
 use std::alloc::Global;
 use std::test::Fail;
 
-// A matrix with the column of each row, the prices of rows and columns, and whether these show it
-// least.
+// A matrix with the column of each row, the prices of rows and columns, and whether these show the
+// matching to be least.
 struct Case {
     costs: &'static [i64],
     rows: usize,
@@ -54,7 +54,7 @@ static CASES: [Case; 12] = [
         column_prices: &[2, 0, 2],
         is_shown: false,
     },
-    // One column more: the free one's price is 0, and none is above 0.
+    // One more column than rows: the free column has the price 0, and no column a price above 0.
     Case {
         costs: &[1, 2, 3, 3, 1, 2],
         rows: 2,
@@ -83,7 +83,7 @@ static CASES: [Case; 12] = [
         column_prices: &[0, 1, 2],
         is_shown: false,
     },
-    // One row more, which has no column.
+    // One more row than columns.
     Case {
         costs: &[1, 3, 2, 1, 3, 2],
         rows: 3,
@@ -121,7 +121,7 @@ static CASES: [Case; 12] = [
         column_prices: &[0, 0],
         is_shown: false,
     },
-    // Prices whose sum needs more than 64 bits on the way.
+    // Prices whose sum needs more than 64 bits.
     Case {
         costs: &[5],
         rows: 1,
@@ -133,7 +133,7 @@ static CASES: [Case; 12] = [
     },
 ];
 
-// Whether the judge says of a case what the case does.
+// Returns whether the judge's verdict on a case is the expected one.
 fn is_judged(alloc: Global, case: &Case) -> Result<bool, NoMemory> {
     let Ok(matrix) = Matrix::of(case.costs, case.rows, case.columns, case.columns) else {
         return Ok(false);
@@ -156,8 +156,8 @@ fn six_rows_and_others_are_judged(rt: HostRuntime) -> Result<(), Fail> {
     Ok(())
 }
 
-// Marks of the rows and of the columns of a matrix of three rows and columns, of which the first
-// two rows see the first column alone, and whether they are a short cover.
+// Marks of the rows and columns of a matrix of three rows and columns, in which the first two rows
+// may use the first column alone; and whether the marks are a short cover.
 static COVERS: [(&[bool], &[bool], bool); 5] = [
     (&[false, false, true], &[true, false, false], true),
     (&[false, false, true], &[false, false, false], false),
@@ -166,7 +166,7 @@ static COVERS: [(&[bool], &[bool], bool); 5] = [
     (&[false, true], &[true, false, false], false),
 ];
 
-// Whether the marks are a short cover of that matrix.
+// Returns whether the judge's verdict on the marks is the expected one.
 fn is_cover(rows: &[bool], columns: &[bool]) -> bool {
     let costs = [1, FORBIDDEN, FORBIDDEN, 1, FORBIDDEN, FORBIDDEN, 1, 1, 1];
     match Matrix::of(&costs, 3, 3, 3) {

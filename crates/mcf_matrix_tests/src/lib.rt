@@ -1,10 +1,9 @@
 #![tactic(auto)]
 
-//! The tests of cost matrices, of their judges and of the searches on them: what no clause says,
-//! and each public call with ample memory.
+//! Tests of cost matrices, of their judges and of the searches on them: of what no clause states,
+//! and of each public call with ample memory.
 //!
-//! They are a crate of their own, since a crate with tests is proved twice. It has no other
-//! function.
+//! They are a crate of their own, since a crate with tests is proved twice.
 
 #[cfg(test)]
 mod assignments;

@@ -1,8 +1,8 @@
-//! Which lists are matrices, and what they read as.
+//! Tests of which lists are matrices, and of reading their entries.
 use mcf_matrix::{FORBIDDEN, Matrix, MatrixFault};
 use std::test::Fail;
 
-// A list with its rows, columns and stride, and what is wrong with it, if anything is.
+// A list with its rows, columns and stride, and its fault, if it has one.
 static SHAPES: [(&[i64], usize, usize, usize, Option<MatrixFault>); 9] = [
     (&[], 0, 0, 0, None),
     (&[], 0, 3, 3, None),
@@ -27,7 +27,7 @@ static SHAPES: [(&[i64], usize, usize, usize, Option<MatrixFault>); 9] = [
     ),
 ];
 
-// What is wrong with a matrix.
+// Returns the fault of a matrix.
 fn fault_of(costs: &[i64], rows: usize, columns: usize, stride: usize) -> Option<MatrixFault> {
     match Matrix::of(costs, rows, columns, stride) {
         Ok(_) => None,

@@ -23,7 +23,7 @@ static WORKED: [Worked; 9] = [
     (0, 2, &[], Some(0)),
 ];
 
-// What the pairs of an assignment cost.
+// Returns the cost of an assignment.
 fn cost_of(matrix: &Matrix<'_>, column_of: &[u32]) -> i64 {
     let mut cost = 0i64;
     'rows: for row in 0..matrix.rows().min(column_of.len()) {
@@ -35,7 +35,7 @@ fn cost_of(matrix: &Matrix<'_>, column_of: &[u32]) -> i64 {
     cost
 }
 
-// Whether an assignment is shown least and costs so much.
+// Returns whether the judge accepts an assignment as least, and it has the expected cost.
 fn is_least(
     alloc: Global,
     matrix: &Matrix<'_>,
@@ -51,13 +51,13 @@ fn is_least(
     Ok(holds && cost == Some(cost_of(matrix, column_of)))
 }
 
-// Whether a cover shows that there is no assignment, as there is none.
+// Returns whether a cover is expected, and the judge accepts it.
 fn excludes(matrix: &Matrix<'_>, cover: &Cover, cost: Option<i64>) -> bool {
     judge_cover(matrix, &cover.rows, &cover.columns) && cost.is_none()
 }
 
-// Whether what is found in a matrix is right: an assignment of this least cost, or a cover where
-// there is none.
+// Returns whether a search finds the right result: an assignment of the expected cost, or a cover
+// if there is no assignment.
 fn finds(
     alloc: Global,
     costs: &[i64],
@@ -87,7 +87,7 @@ fn six_rows_of_small_matrices(rt: HostRuntime) -> Result<(), Fail> {
     Ok(())
 }
 
-// Writes numbers below a limit that a generator of pseudorandom numbers gives.
+// Writes pseudorandom numbers below a limit.
 fn write_pseudorandom(costs: &mut [i64], limit: u64) {
     let mut state = 1u64;
     'entries: for i in 0..costs.len() {
@@ -98,7 +98,7 @@ fn write_pseudorandom(costs: &mut [i64], limit: u64) {
     }
 }
 
-// Whether the search finds the least cost of a pseudorandom matrix.
+// Returns whether the search finds the least cost of a pseudorandom matrix.
 fn finds_pseudorandom(
     alloc: Global,
     rows: usize,
@@ -130,8 +130,8 @@ fn lists_are_searched(rt: HostRuntime) -> Result<(), Fail> {
     Ok(())
 }
 
-// Writes the products of the numbers of rows and columns, so many of each, which count from 1: the
-// worst costs for augmenting paths.
+// Writes the products of row and column numbers, which count from 1: the worst costs for augmenting
+// paths.
 fn write_products(costs: &mut [i64], lines: usize) {
     let lines = lines.max(1);
     'entries: for i in 0..costs.len() {

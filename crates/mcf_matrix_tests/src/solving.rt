@@ -1,4 +1,4 @@
-//! Assignments and transport plans that are answered, against costs that scipy 1.10 finds.
+//! Assignments and transport plans from the solver, against costs that scipy 1.10 finds.
 
 use mcf_matrix_solver::{Assigned, FORBIDDEN, Masses, Matrix, Planned, Shipment, assign, plan};
 use mcf_text::NoMemory;
@@ -7,7 +7,7 @@ use std::test::Fail;
 
 const NO: i64 = FORBIDDEN;
 
-// What is answered for a matrix: a matching, a cover, or nothing.
+// The kind of an answer for a matrix: a matching, a cover, or nothing.
 #[derive(Clone, Copy, PartialEq, Eq)]
 enum Kind {
     Least,
@@ -15,7 +15,7 @@ enum Kind {
     NotShown,
 }
 
-// Rows, columns, entries, and what is answered.
+// Rows, columns, entries, and the expected kind of answer.
 type Worked = (usize, usize, &'static [i64], Kind);
 
 static WORKED: [Worked; 4] = [
@@ -25,7 +25,7 @@ static WORKED: [Worked; 4] = [
     (0, 0, &[], Kind::Least),
 ];
 
-// What is answered.
+// Returns the kind of an answer.
 fn kind_of(answer: &Assigned) -> Kind {
     match answer {
         Assigned::Least(_) => Kind::Least,
@@ -34,7 +34,7 @@ fn kind_of(answer: &Assigned) -> Kind {
     }
 }
 
-// Whether the answer for a matrix is of a kind.
+// Returns whether the answer for a matrix is of the expected kind.
 fn answers(alloc: Global, worked: &Worked) -> Result<bool, NoMemory> {
     let (rows, columns, costs, kind) = *worked;
     let Ok(matrix) = Matrix::of(costs, rows, columns, columns) else {
@@ -56,7 +56,7 @@ fn six_rows_of_answers(rt: HostRuntime) -> Result<(), Fail> {
     Ok(())
 }
 
-// Entries, row after row, supplies, demands, and the least cost of a plan, if one is answered.
+// Entries, row after row, supplies, demands, and the least cost of a plan, if there is one.
 type WorkedPlan = (&'static [i64], &'static [i64], &'static [i64], Option<i64>);
 
 static WORKED_PLANS: [WorkedPlan; 6] = [
@@ -73,7 +73,7 @@ static WORKED_PLANS: [WorkedPlan; 6] = [
     (&[], &[], &[], Some(0)),
 ];
 
-// The sum of cost times amount.
+// Returns the sum of cost times amount.
 fn cost_of(matrix: &Matrix<'_>, shipments: &[Shipment]) -> i64 {
     let mut cost = 0i64;
     'shipments: for shipment in shipments {
@@ -86,7 +86,7 @@ fn cost_of(matrix: &Matrix<'_>, shipments: &[Shipment]) -> i64 {
     cost
 }
 
-// Whether the plan that is answered costs so much, or none is.
+// Returns whether the solver's plan has the expected cost, or there is none as expected.
 fn plans(alloc: Global, worked: &WorkedPlan) -> Result<bool, NoMemory> {
     let (costs, supplies, demands, least) = *worked;
     let masses = Masses { supplies, demands };

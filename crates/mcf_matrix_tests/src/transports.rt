@@ -142,7 +142,7 @@ static PLANS: [(&[Shipment], &[i64], bool); 6] = [
     ),
 ];
 
-// Whether the judge accepts a plan.
+// Returns whether the judge accepts a plan.
 fn is_shown(alloc: Global, plan: &[Shipment], column_prices: &[i64]) -> Result<bool, NoMemory> {
     let costs = [1, 2, 3, 1];
     let Ok(matrix) = Matrix::of(&costs, 2, 2, 2) else {
@@ -163,8 +163,8 @@ fn plans_are_judged(rt: HostRuntime) -> Result<(), Fail> {
     Ok(())
 }
 
-// Marks of the rows and columns where both rows may use the first column alone, supplies are 3, 4
-// and demands 5, 2.
+// Marks of the rows and columns of a matrix in which both rows may use the first column alone. The
+// supplies are 3, 4 and the demands 5, 2.
 static CUTS: [(&[bool], &[bool], Side, bool); 5] = [
     (&[true, true], &[true, false], Side::Send, true),
     (&[false, false], &[false, true], Side::Take, true),
@@ -173,7 +173,7 @@ static CUTS: [(&[bool], &[bool], Side, bool); 5] = [
     (&[false, true], &[false, false], Side::Send, false),
 ];
 
-// Whether the marks cut.
+// Returns whether the judge accepts the marks as a cut.
 fn cuts(rows: &[bool], columns: &[bool], side: Side) -> bool {
     let costs = [1, FORBIDDEN, 1, FORBIDDEN];
     let masses = Masses {

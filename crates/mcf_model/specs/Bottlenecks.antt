@@ -21,20 +21,20 @@ abbrev pub route_sum : (Route → ℤ) → List Route → ℤ
 route_sum term [] = pos 0
 route_sum term (r ∷ routes) = term r +ℤ route_sum term routes
 
--- a limit, or 0 where there is none
+-- a limit, or 0 if there is none
 abbrev pub limit_or_zero : Option ℤ → ℤ
 limit_or_zero (Some most) = most
 limit_or_zero None = pos 0
 
--- what a route carries at most, where it has a limit
+-- the most that a route carries, if it has a limit
 abbrev pub route_room : Route → ℤ
 route_room r = room r.steps (limit_or_zero r.last_most)
 
--- what may cross by a route, there or back
+-- the most that may cross by a route, there or back
 abbrev pub most_across : (ℕ → ℕ → Bool) → Route → ℤ
 most_across crosses r = when (crosses r.tail r.head) (route_room r) +ℤ when (r.both && crosses r.head r.tail) (route_room r)
 
--- what has to cross by a route; back nothing has to
+-- the least that has to cross by a route there; nothing has to cross back
 abbrev pub least_across : (ℕ → ℕ → Bool) → Route → ℤ
 least_across crosses r = when (crosses r.tail r.head) r.least
 
@@ -42,8 +42,8 @@ least_across crosses r = when (crosses r.tail r.head) r.least
 abbrev pub IsLimitedAcross : (ℕ → ℕ → Bool) → Route → Type 0
 IsLimitedAcross crosses r = IsTrue (crosses r.tail r.head || (r.both && crosses r.head r.tail)) → IsLimited r.last_most
 
--- what has to be got rid of, with what routes bring by their least, is more than what routes can
--- carry away
+-- the supply of the set, plus the least amounts of routes into it, is more than routes can carry
+-- away
 pub record IsShort (routes : List Route) (away here : ℕ → ℕ → Bool) (supply : ℤ) : Type 0 where
   pub limited : All (IsLimitedAcross away) routes
   pub short : route_sum (most_across away) routes <ℤ (supply +ℤ route_sum (least_across here) routes)

@@ -1,4 +1,4 @@
--- What can be wrong with a model: the first route with which something is wrong, and what.
+-- Faults of models: the first route that has a fault, and its first fault.
 -- Source: own
 use Rattle.std.specs.Prelude.{ℕ, suc, ◌+◌, ◌≤◌, ◌==◌, nat_le, Bool, false, not, ◌&&◌, ◌||◌, List, [], ◌∷◌, length, find, ℤ, pos, int_lt, Option, Some, None, option_map, Result, Ok, Err}
 use Rattle.std.specs.List.{All, list_any}
@@ -12,7 +12,7 @@ use Rattle.mcf_model.specs.declared.rows.Step.{Step}
 use Rattle.mcf_model.specs.Model.{Model}
 use Rattle.mcf_model.specs.Tables.{model_of, own_steps}
 
--- v is the number of one of so many places
+-- v is the number of a place
 abbrev pub is_place : ℕ → ℕ → Bool
 is_place places v = nat_le 1 v && nat_le v places
 
@@ -25,7 +25,7 @@ abbrev pub is_below : Option ℤ → Bool
 is_below (Some most) = int_lt most (pos 0)
 is_below None = false
 
--- a step takes less than 0; the last may, where it is the only one, of a route one way
+-- a step has a capacity below 0; the only step of a route that isn't used both ways may have one
 abbrev pub takes_below : List Step → Bool → Option ℤ → Bool
 takes_below steps both last_most =
     list_any (λ s. int_lt s.most (pos 0)) steps || ((both || not (length steps == 0)) && is_below last_most)
@@ -40,7 +40,7 @@ abbrev pub falls : List Step → ℤ → Bool
 falls [] last_cost = false
 falls (s ∷ steps) last_cost = int_lt (first_cost steps last_cost) s.cost || falls steps last_cost
 
--- a route both ways has a least, or a cost below 0
+-- a route both ways has a least amount other than 0, or a cost below 0
 abbrev pub is_wrong_both_ways : List Step → RouteRow → Bool
 is_wrong_both_ways own row = row.both && (not (int_eq row.least (pos 0)) || earns own row.last_cost)
 
@@ -48,8 +48,8 @@ is_wrong_both_ways own row = row.both && (not (int_eq row.least (pos 0)) || earn
 abbrev pub some_earn : List Step → List RouteRow → Bool
 some_earn steps rows = list_any (λ row. earns (own_steps steps row) row.last_cost) rows
 
--- whether a fault applies to a route, in a model of so many places and of this table of steps,
--- where some cost may be below 0
+-- whether a route has a fault, in a model with this number of places and this table of steps;
+-- `earning` says whether some cost of the model is below 0
 abbrev pub applies : ℕ → List Step → Bool → RouteRow → RouteFault → Bool
 applies places steps earning row Place = not (is_place places row.tail && is_place places row.head)
 applies places steps earning row Steps = not (nat_le (row.first_step + row.step_count) (length steps))
@@ -58,30 +58,30 @@ applies places steps earning row FallingCost = falls (own_steps steps row) row.l
 applies places steps earning row BothWays = is_wrong_both_ways (own_steps steps row) row
 applies places steps earning row NoLimit = earning && is_none row.last_most
 
--- the faults of a route, in the order in which they are looked for
+-- the faults of a route, in the order of their tests
 abbrev pub route_faults : List RouteFault
 route_faults = Place ∷ Steps ∷ Room ∷ FallingCost ∷ BothWays ∷ NoLimit ∷ []
 
--- the first thing that is wrong with a route
+-- the first fault of a route
 abbrev pub row_fault : ℕ → List Step → Bool → RouteRow → Option RouteFault
 row_fault places steps earning row = find (applies places steps earning row) route_faults
 
--- the first fault of routes that count from a number, where a test says what is wrong with each
+-- the first fault in a list of routes, which are numbered from a given number, by a test of each
 abbrev pub fault_from : (RouteRow → Option RouteFault) → ℕ → List RouteRow → Option ModelFault
 fault_from test number [] = None
 fault_from test number (row ∷ rows) =
     option_or (option_map (λ what. record { route = number; what = what }) (test row)) (fault_from test (suc number) rows)
 
--- the first route with which something is wrong, and what
+-- the first route that has a fault, and its first fault
 abbrev pub model_fault : ℕ → List Step → List RouteRow → Option ModelFault
 model_fault places steps rows = fault_from (row_fault places steps (some_earn steps rows)) 1 rows
 
--- the first fault, or the model where there is none
+-- the first fault, or the model if there is none
 abbrev pub model_unless : Option ModelFault → Model → Result Model ModelFault
 model_unless (Some fault) m = Err fault
 model_unless None m = Ok m
 
--- what is made of supplies, of a table of steps and of routes: the model, or the first fault
+-- the result of making a model from supplies, a table of steps and routes: it, or the first fault
 abbrev pub made_of_tables : List ℤ → List Step → List RouteRow → Result Model ModelFault
 made_of_tables supplies steps rows = model_unless (model_fault (length supplies) steps rows) (model_of supplies steps rows)
 

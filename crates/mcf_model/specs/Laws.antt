@@ -1,4 +1,4 @@
--- What carries over between a model and its network.
+-- The laws between a model and its network.
 -- Source: own
 use Rattle.std.specs.Prelude.{◌≡◌, ℕ, Bool, List, map, ℤ, pos, ◌*ℤ◌, ◌≤ℤ◌, ◌⊎◌}
 use Rattle.std.specs.List.{All, AllZip}
@@ -10,16 +10,16 @@ use Rattle.mcf_model.specs.Scaling.{scaled}
 use Rattle.mcf_model.specs.Bottlenecks.{IsBottleneck}
 use Rattle.mcf_model.specs.Model.{HasNoEarnings, IsLeastPlan, IsLimited, IsPlan, IsSound, Model, Route, charged, plan_cost, room}
 
--- what a route carries fits, where the last step takes the reach if it has no limit
+-- the amount that a route carries fits its steps, if a last step without a limit takes the reach
 abbrev pub IsWithin : ℤ → Route → ℤ → Type 0
 IsWithin reach r x = charged r.both x ≤ℤ room r.steps (last_cap reach r.last_most)
 
--- a flow stands for a plan, at the same cost
+-- a feasible flow that costs as much as the plan
 pub record IsFlowOf (reach : ℤ) (m : Model) (plan flow : List ℤ) : Type 0 where
   pub feasible : IsFeasible (network_of reach m) flow
   pub same_cost : cost (arcs_of reach m.routes) flow ≡ plan_cost m plan
 
--- a plan that is within the reach is a feasible flow of the same cost
+-- the flow of a plan that is within the reach is feasible, at the same cost
 abbrev pub PlansAreFlows : Type 0
 PlansAreFlows =
     (m : Model) (reach : ℤ) (plan : List ℤ) → IsSound m → IsPlan m plan → pos 0 ≤ℤ reach → AllZip (IsWithin reach) m.routes plan
@@ -36,27 +36,27 @@ FlowsArePlans =
     (m : Model) (reach : ℤ) (flow : List ℤ) → IsSound m → pos 0 ≤ℤ reach → IsFeasible (network_of reach m) flow
     → IsPlanOf reach m flow (plan_of m.routes flow)
 
--- no route is without a limit, or no cost is below 0
+-- all routes have limits, or no cost is below 0
 abbrev pub IsBounded : Model → Type 0
 IsBounded m = All (λ r. IsLimited r.last_most) m.routes ⊎ HasNoEarnings m
 
--- each step before the last takes something, or nothing
+-- no step before the last has a capacity below 0
 abbrev pub StepsTake : Route → Type 0
 StepsTake r = All (λ s. pos 0 ≤ℤ s.most) r.steps
 
--- nothing is wrong with the model
+-- the model has no fault
 pub record IsProper (m : Model) : Type 0 where
   pub sound : IsSound m
   pub bounded : IsBounded m
   pub steps_take : All StepsTake m.routes
 
--- a feasible flow that some prices show gives a least plan, though routes may be without a limit
+-- the plan of a flow that some prices show to be least is least, even if routes have no limit
 abbrev pub ShownFlowsGiveLeastPlans : Type 0
 ShownFlowsGiveLeastPlans =
     (m : Model) (prices flow : List ℤ) → IsSound m → IsBounded m → IsFeasible (network_of (reach_of m) m) flow
     → Shows (arcs_of (reach_of m) m.routes) prices flow → IsLeastPlan m (plan_of m.routes flow)
 
--- where a set blocks the network there is no plan, though routes may be without a limit
+-- if a set blocks the network, there is no plan, even if routes have no limit
 abbrev pub BlockedModelsHaveNoPlan : Type 0
 BlockedModelsHaveNoPlan =
     (m : Model) (set : ℕ → Bool) (side : Side) (plan : List ℤ) → IsSound m → Blocks (network_of (reach_of m) m) set side → ¬ IsPlan m plan
@@ -67,18 +67,19 @@ BlockingSetsAreBottlenecks =
     (m : Model) (set : ℕ → Bool) (side : Side) → All (λ a. a.low ≤ℤ a.cap) (arcs_of (reach_of m) m.routes)
     → Blocks (network_of (reach_of m) m) set side → IsBottleneck m set side
 
--- the plan of a shown flow costs what the flow costs
+-- the plan of a flow that some prices show to be least costs as much as the flow
 abbrev pub ShownFlowsCostTheSame : Type 0
 ShownFlowsCostTheSame =
     (m : Model) (prices flow : List ℤ) → IsSound m → IsBounded m → IsFeasible (network_of (reach_of m) m) flow
     → Shows (arcs_of (reach_of m) m.routes) prices flow → plan_cost m (plan_of m.routes flow) ≡ cost (arcs_of (reach_of m) m.routes) flow
 
--- no plan in finer units undercuts the plan of a shown flow: k times as fine, whatever k
+-- no plan in units k times as fine, for any k, costs less than the plan of a flow that some prices
+-- show to be least
 abbrev pub FinerPlansUndercutNone : Type 0
 FinerPlansUndercutNone =
     (k : ℤ) (m : Model) (prices flow : List ℤ) → pos 1 ≤ℤ k → IsSound m → IsBounded m → IsFeasible (network_of (reach_of m) m) flow
     → Shows (arcs_of (reach_of m) m.routes) prices flow → IsLeastPlan (scaled k m) (map (λ x. k *ℤ x) (plan_of m.routes flow))
 
--- where some places are a bottleneck there is no plan
+-- if some places are a bottleneck, there is no plan
 abbrev pub BottlenecksHaveNoPlan : Type 0
 BottlenecksHaveNoPlan = (m : Model) (set : ℕ → Bool) (side : Side) (plan : List ℤ) → IsSound m → IsBottleneck m set side → ¬ IsPlan m plan

@@ -1,4 +1,4 @@
--- What is answered for a flow problem, and for a model.
+-- The answers to a flow problem and to a model.
 -- Source: own
 use Rattle.std.specs.Prelude.{◌≡◌, suc, List, length, map, ℤ, pos, ◌*ℤ◌, ◌≤ℤ◌, Some}
 use Rattle.std.specs.List.{All}
@@ -19,7 +19,7 @@ use Rattle.mcf_model.specs.Bottlenecks.{IsBottleneck}
 use Rattle.mcf_model.specs.Model.{IsLeastPlan, IsPlan, Model, plan_cost}
 use Rattle.mcf_model.specs.Scaling.{scaled}
 
--- ---- what a solver answers
+-- ---- a solver's answers
 
 -- a feasible flow, its cost, and prices that show it
 pub record IsShownFlow (g : Network) (s : ShownFlow) : Type 0 where
@@ -32,14 +32,14 @@ pub record IsBlocked (g : Network) (b : Bottleneck) : Type 0 where
   pub are_nodes : All (IsNode (node_count g)) b.places.items
   pub blocks : Blocks g (in_list b.places.items) b.side
 
--- what a solver answers for a flow problem
+-- a solver's answer to a flow problem
 abbrev pub IsSolved : Network → Solved → Type 0
 IsSolved g (Flow s) = IsShownFlow g s
 IsSolved g (Blocked b) = IsBlocked g b
 
--- ---- what is answered for a model
+-- ---- answers for a model
 
--- a plan that no plan undercuts, and its cost; nor does any plan in finer units undercut it
+-- a least plan and its cost; no plan in finer units costs less either
 pub record IsBestPlan (m : Model) (p : LeastPlan) : Type 0 where
   pub least : IsLeastPlan m p.carries.items
   pub cost_is : p.cost ≡ plan_cost m p.carries.items
@@ -51,7 +51,7 @@ pub record HasNoPlan (m : Model) (b : Bottleneck) : Type 0 where
   pub is_bottleneck : IsBottleneck m (in_list b.places.items) b.side
   pub none : (plan : List ℤ) → ¬ IsPlan m plan
 
--- a best plan; or places because of which there is none; or what is beyond the limits
+-- a least plan; or places that are a bottleneck; or the first number beyond the limits
 abbrev pub IsPlanned : Model → Planned → Type 0
 IsPlanned m (Plan p) = IsBestPlan m p
 IsPlanned m (NoPlan b) = HasNoPlan m b
@@ -59,6 +59,6 @@ IsPlanned m (Beyond fault) = array_fault limits (network_of (reach_of m) m) ≡ 
 
 -- ---- what the code fills in
 
--- the first cap beyond the limit of bounds
+-- the first capacity beyond the limit of bounds
 abbrev pub beyond_bounds : ℤ
 beyond_bounds = pos (suc limits.bound)

@@ -1,4 +1,4 @@
--- A model in finer units: each amount so many times as great, each cost of a unit the same.
+-- A model in finer units: each amount is k times as great, and the cost of a unit stays the same.
 -- Source: own
 use Rattle.std.specs.Prelude.{map, ℤ, ◌*ℤ◌, option_map}
 use Rattle.mcf_model.specs.declared.rows.Step.{Step}

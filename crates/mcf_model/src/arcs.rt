@@ -136,12 +136,12 @@ fn listed(
     Ok(arcs)
 }
 
-/// The arcs of the network of a model, in the order of its routes: of each route those of its
-/// steps, and then those of its way back. A route without a limit carries the reach at most in its
-/// last step.
+/// Returns the arcs of a model's network, in the order of its routes: for each route one arc per
+/// step, and then one per step of the way back, if the route is used both ways. The last arc of a
+/// route without a limit has the capacity `reach`.
 ///
 /// # Errors
-/// `NoMemory` where there is no memory for them; a model without routes wants none.
+/// `NoMemory` if an allocation is refused; a model without routes needs none.
 pub fn arcs_of(alloc: Global, reach: i64, model: &PlanModel) -> Result<Vec<RawArc>, NoMemory>
     ensures value { IfOk result (λ made. map arc_of_numbers made.items ≡ arcs_of reach model.now.routes) }
     ensures wants { OnErr result (1 ≤ length model.now.routes) }

@@ -1,4 +1,4 @@
-//! What the flow of a network says that routes carry.
+//! The plan of a flow: how much each route carries.
 ghost use Rattle.std.specs.Prelude.{◌≡◌, ◌≤◌, ◌-ℤ◌, IfOk, OnErr, length, map, pos, neg_ℤ, ◌<ℤ◌, ◌^◌};
 ghost use Rattle.mcf_model.specs.Arcs.{added, arcs_of, back_length, plan_of, way_length};
 ghost use Rattle.mcf_model.specs.Tables.{own_steps, route_of};
@@ -8,7 +8,7 @@ use crate::rows::{RouteRow, Step, own_steps};
 use mcf_text::NoMemory;
 use std::alloc::Global;
 
-// The sum of amounts.
+// Returns the sum of amounts.
 fn added(flow: &[i64]) -> i128
     ensures sum { result ≡ added flow.now }
     ensures low { neg_ℤ (pos (2 ^ 126)) <ℤ result }
@@ -21,21 +21,21 @@ fn added(flow: &[i64]) -> i128
     total
 }
 
-// How many arcs go back.
+// Returns the number of a route's arcs back.
 fn back_length(both: bool, own: &[Step]) -> usize
     ensures { result ≡ back_length both own.now }
 {
     if both { own.len() + 1 } else { 0 }
 }
 
-// How many arcs go there.
+// Returns the number of a route's arcs there.
 fn way_length(own: &[Step]) -> usize
     ensures { result ≡ way_length own.now }
 {
     own.len() + 1
 }
 
-// What goes there less what goes back.
+// Returns the flow there minus the flow back.
 fn difference(there: &[i64], back: &[i64]) -> i128
     ensures { result ≡ added there.now -ℤ added back.now }
 {
@@ -44,7 +44,7 @@ fn difference(there: &[i64], back: &[i64]) -> i128
     gone - come
 }
 
-// What routes carry, of a flow of their arcs.
+// Returns how much each route carries, from the flow on the arcs of all routes.
 fn amounts(
     alloc: Global,
     steps: &[Step],
@@ -68,11 +68,11 @@ fn amounts(
     Ok(plan)
 }
 
-/// The plan for which a flow of the network of a model stands: what each route carries, in order;
-/// back, where it is below 0.
+/// Returns the plan of a flow in a model's network: the amount that each route carries, in order. A
+/// negative amount goes back.
 ///
 /// # Errors
-/// `NoMemory` where there is no memory for it; a model without routes wants none.
+/// `NoMemory` if an allocation is refused; a model without routes needs none.
 pub fn plan_of(alloc: Global, model: &PlanModel, flow: &[i64]) -> Result<Vec<i128>, NoMemory>
     requires { length flow.now ≡ length (arcs_of (pos 0) model.now.routes) }
     ensures value { IfOk result (λ made. made.items ≡ plan_of model.now.routes flow.now) }

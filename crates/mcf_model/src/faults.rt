@@ -1,49 +1,49 @@
-//! What is wrong with a model.
+//! Faults of models.
 ghost use Rattle.std.specs.Prelude.{◌≡◌, ◌≤◌, Some, None, int_lt, pos, drop, length, not, ◌&&◌, ◌||◌};
 ghost use Rattle.mcf_model.specs.Faults.{applies, earns, falls, first_cost, is_below, is_place, is_wrong_both_ways, model_fault, row_fault, some_earn, takes_below};
 ghost use Rattle.mcf_model.specs.Tables.{own_steps, route_of};
 
 use crate::rows::{RouteRow, Step, own_steps};
 
-/// What is wrong with a route, in the order in which it is looked for.
+/// A fault of a route. The tests are made in the order of the cases.
 #[derive(Clone, Copy, Debug, PartialEq, Eq)]
 pub enum RouteFault {
-    /// An end is no place.
+    /// The tail or the head isn't the number of a place.
     Place,
-    /// It names steps beyond the table.
+    /// The route names steps beyond the end of the table.
     Steps,
-    /// A step takes less than 0.
+    /// The capacity of a step is below 0.
     Room,
     /// A step costs less than the one before it.
     FallingCost,
-    /// It is used both ways, with a least other than 0 or a cost below 0.
+    /// The route is used both ways, and has a least amount other than 0 or a cost below 0.
     BothWays,
-    /// It has no limit, while some cost of the model is below 0.
+    /// The route has no limit, and some cost of the model is below 0.
     NoLimit,
 }
 
-/// A route of a model, counted from 1, and the first thing that is wrong with it.
+/// A route of a model, counted from 1, and its first fault.
 #[derive(Clone, Copy, Debug, PartialEq, Eq)]
 pub struct ModelFault {
     pub route: usize,
     pub what: RouteFault,
 }
 
-// Whether it is the number of a place.
+// Returns whether a number is that of a place.
 fn is_place(places: usize, place: u32) -> bool
     ensures { result ≡ is_place places place }
 {
     1 <= place && place as usize <= places
 }
 
-// Whether the cost of a step is below 0.
+// Returns whether the cost of a step is below 0.
 fn step_earns(step: Step) -> bool
     ensures { result ≡ int_lt step.cost (pos 0) }
 {
     step.cost < 0
 }
 
-// Whether a cost is below 0.
+// Returns whether a route has a cost below 0, in its steps or in its last step.
 fn earns(own: &[Step], last_cost: i64) -> bool
     ensures { result ≡ earns own.now last_cost }
 {
@@ -56,7 +56,7 @@ fn earns(own: &[Step], last_cost: i64) -> bool
     last_cost < 0
 }
 
-// Whether a limit is below 0.
+// Returns whether there is a limit and it is below 0.
 fn is_below(most: Option<i64>) -> bool
     ensures { result ≡ is_below most }
 {
@@ -66,14 +66,15 @@ fn is_below(most: Option<i64>) -> bool
     }
 }
 
-// Whether a step takes less than 0.
+// Returns whether the capacity of a step is below 0.
 fn step_is_below(step: Step) -> bool
     ensures { result ≡ int_lt step.most (pos 0) }
 {
     step.most < 0
 }
 
-// Whether a step takes less than 0; the last may, if it is the only one of a route one way.
+// Returns whether the capacity of a step is below 0. The only step of a route that isn't used both
+// ways may have such a capacity.
 fn takes_below(own: &[Step], both: bool, last_most: Option<i64>) -> bool
     ensures { result ≡ takes_below own.now both last_most }
 {
@@ -86,7 +87,7 @@ fn takes_below(own: &[Step], both: bool, last_most: Option<i64>) -> bool
     (both || !own.is_empty()) && is_below(last_most)
 }
 
-// The cost of the step at a place, or of the last step.
+// Returns the cost of the step at a place, or of the last step.
 fn cost_at(own: &[Step], place: usize, last_cost: i64) -> i64
     requires { place ≤ length own.now }
     ensures { result ≡ first_cost (drop place own.now) last_cost }
@@ -98,14 +99,14 @@ fn cost_at(own: &[Step], place: usize, last_cost: i64) -> i64
     }
 }
 
-// Whether a cost is below that of a step.
+// Returns whether a cost is below that of a step.
 fn costs_less(next: i64, step: Step) -> bool
     ensures { result ≡ int_lt next step.cost }
 {
     next < step.cost
 }
 
-// Whether a step costs less than the one before it.
+// Returns whether a step costs less than the one before it.
 fn falls(own: &[Step], last_cost: i64) -> bool
     ensures { result ≡ falls own.now last_cost }
 {
@@ -119,7 +120,7 @@ fn falls(own: &[Step], last_cost: i64) -> bool
     false
 }
 
-// Whether a route is used both ways that may not be.
+// Returns whether a route is used both ways, and has a least amount or a cost that forbid it.
 fn is_wrong_both_ways(own: &[Step], row: RouteRow) -> bool
     ensures { result ≡ is_wrong_both_ways own.now row }
 {
@@ -127,7 +128,7 @@ fn is_wrong_both_ways(own: &[Step], row: RouteRow) -> bool
     row.both && (row.least != 0 || earning)
 }
 
-// The first thing that is wrong with a route.
+// Returns the first fault of a route.
 fn row_fault(places: usize, steps: &[Step], earning: bool, row: RouteRow) -> Option<RouteFault>
     ensures { result ≡ row_fault places steps.now earning row }
 {
@@ -155,7 +156,7 @@ fn row_fault(places: usize, steps: &[Step], earning: bool, row: RouteRow) -> Opt
     None
 }
 
-// Whether a cost of a route is below 0.
+// Returns whether a cost of a route is below 0.
 fn row_earns(steps: &[Step], row: RouteRow) -> bool
     ensures { result ≡ earns (own_steps steps.now row) row.last_cost }
 {
@@ -163,7 +164,7 @@ fn row_earns(steps: &[Step], row: RouteRow) -> bool
     earns(own, row.last_cost)
 }
 
-// Whether some cost of some route is below 0.
+// Returns whether any cost of any route is below 0.
 fn some_earn(steps: &[Step], rows: &[RouteRow]) -> bool
     ensures { result ≡ some_earn steps.now rows.now }
 {
@@ -176,7 +177,7 @@ fn some_earn(steps: &[Step], rows: &[RouteRow]) -> bool
     false
 }
 
-// The first route with which something is wrong, and what.
+// Returns the first route that has a fault, and its first fault.
 pub(crate) fn model_fault(places: usize, steps: &[Step], rows: &[RouteRow]) -> Option<ModelFault>
     ensures { result ≡ model_fault places steps.now rows.now }
 {

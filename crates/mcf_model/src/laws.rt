@@ -1,4 +1,4 @@
-//! Laws of models and of their networks, each the contract of a function that does nothing.
+//! Laws about models and their networks. Each is the contract of a function with an empty body.
 ghost use Rattle.mcf_model.specs.Laws.{BottlenecksHaveNoPlan, FinerPlansUndercutNone, ShownFlowsCostTheSame};
 ghost use Rattle.mcf_model.specs.Laws.{BlockedModelsHaveNoPlan, BlockingSetsAreBottlenecks, FlowsArePlans, PlansAreFlows, ShownFlowsGiveLeastPlans};
 
@@ -12,13 +12,13 @@ pub fn flows_are_plans()
     ensures { FlowsArePlans }
 {}
 
-/// A feasible flow that some prices show gives a plan that no plan undercuts, though routes have no
+/// The plan of a flow that some prices show to be least is a least plan, even if routes have no
 /// limit.
 pub fn shown_flows_give_least_plans()
     ensures { ShownFlowsGiveLeastPlans }
 {}
 
-/// Where a node set blocks the network, the model has no plan, though routes have no limit.
+/// If a node set blocks the network, the model has no plan, even if routes have no limit.
 pub fn blocked_models_have_no_plan()
     ensures { BlockedModelsHaveNoPlan }
 {}
@@ -29,17 +29,17 @@ pub fn blocking_sets_are_bottlenecks()
     ensures { BlockingSetsAreBottlenecks }
 {}
 
-/// The plan of a shown flow costs what the flow costs.
+/// The plan of a flow that some prices show to be least costs as much as the flow.
 pub fn shown_flows_cost_the_same()
     ensures { ShownFlowsCostTheSame }
 {}
 
-/// No plan in finer units undercuts the plan of a shown flow.
+/// No plan in finer units costs less than the plan of a flow that some prices show to be least.
 pub fn finer_plans_undercut_none()
     ensures { FinerPlansUndercutNone }
 {}
 
-/// Where some places are a bottleneck there is no plan.
+/// If some places are a bottleneck, the model has no plan.
 pub fn bottlenecks_have_no_plan()
     ensures { BottlenecksHaveNoPlan }
 {}

@@ -1,12 +1,12 @@
 #![tactic(auto)]
 
-//! Models of planners: places that send or take, and routes between them with steps of rising cost;
-//! and their least plans.
+//! Planners' models and their least plans: places that send or take goods, and routes between them
+//! whose unit cost rises in steps.
 //!
-//! It stands on `mcf_flows` and `mcf_instance`, and on no engine: `plan` asks whatever `Solves`
-//! flow problems. Definitions stand in `specs/`: `Model` says what models and plans are,
-//! `Bottlenecks` why there may be none, `Faults` what can be wrong with a model, `Arcs` which
-//! network it has, `Laws` what carries over, `Planning` what is answered.
+//! It builds on `mcf_flows` and `mcf_instance`, and on no engine: `plan` uses any type that
+//! implements `Solves`. The definitions are in `specs/`: `Model` has models and plans,
+//! `Bottlenecks` reasons why a model has no plan, `Faults` the faults of a model, `Arcs` its
+//! network, `Laws` the laws between both, and `Planning` the answers.
 
 mod arcs;
 mod carried;

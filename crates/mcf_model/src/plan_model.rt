@@ -1,4 +1,4 @@
-//! Models that are right.
+//! Models without faults.
 ghost use Rattle.std.specs.Prelude.{◌≡◌, ◌↔◌, IfOk, is_ok, length, map, true};
 ghost use Rattle.mcf_model.specs.Faults.{AreListed, made_of_tables};
 ghost use Rattle.mcf_model.specs.Laws.{IsProper};
@@ -8,12 +8,12 @@ use crate::faults::{ModelFault, model_fault};
 use crate::rows::{RouteRow, Step};
 use std::marker::Model;
 
-/// Places that send or take, and routes between them, with nothing wrong: each route joins places,
-/// its costs don't fall, its steps take something or nothing, and a route without a limit stands
-/// only where no cost is below 0.
+/// A model without faults: places that send or take, and routes between them. Each route joins
+/// places, its costs don't fall from step to step, no step has a capacity below 0, and there is a
+/// route without a limit only if no cost is below 0.
 ///
-/// Places and routes count from 1. A clause sees what each place sends (above 0) or takes (below
-/// 0), and the routes in order, each with its steps.
+/// Places and routes count from 1. Clauses see the supply of each place (above 0 if it sends, below
+/// 0 if it takes), and the routes in order, each with its steps.
 #[derive(Drop)]
 pub struct PlanModel {
     supplies: Vec<i64>,
@@ -41,11 +41,11 @@ pub(crate) struct Tables<'m> {
 }
 
 impl PlanModel {
-    /// The model of what each place sends or takes, of the table of steps and of the routes, in
-    /// order.
+    /// Makes a model from the supply of each place (below 0 if it takes), the table of steps, and
+    /// the routes, in order.
     ///
     /// # Errors
-    /// The first route with which something is wrong, and what.
+    /// The first route that has a fault, and its first fault.
     pub fn of(
         supplies: Vec<i64>,
         steps: Vec<Step>,
@@ -64,7 +64,7 @@ impl PlanModel {
         }
     }
 
-    /// What each place sends, or takes if it is below 0, in order.
+    /// Returns the supply of each place, in order. A place with a supply below 0 takes.
     pub fn supplies(&self) -> &[i64]
         ensures value { result.now ≡ self.now.supplies }
         ensures proper { IsProper self.now }
@@ -72,7 +72,7 @@ impl PlanModel {
         &self.supplies
     }
 
-    /// How many places there are.
+    /// Returns the number of places.
     pub fn place_count(&self) -> usize
         ensures value { result ≡ length self.now.supplies }
         ensures proper { IsProper self.now }
@@ -80,7 +80,7 @@ impl PlanModel {
         self.supplies.len()
     }
 
-    /// How many routes there are.
+    /// Returns the number of routes.
     pub fn route_count(&self) -> usize
         ensures value { result ≡ length self.now.routes }
         ensures proper { IsProper self.now }
@@ -88,7 +88,7 @@ impl PlanModel {
         self.rows.len()
     }
 
-    // The steps and the routes as they are stored.
+    // Returns the tables of steps and of routes.
     pub(crate) fn tables(&self) -> Tables<'_>
         ensures value { map (route_of result.steps.now) result.rows.now ≡ self.now.routes }
         ensures proper { IsProper self.now }

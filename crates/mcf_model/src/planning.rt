@@ -1,4 +1,4 @@
-//! A model's least plan, or that there is none.
+//! The least plan of a model, or the reason why it has no plan.
 ghost use Rattle.std.specs.Prelude.{◌≡◌, ◌≤◌, ◌≤ℤ◌, ◌⊎◌, IfOk, OnErr, length, pos};
 ghost use Rattle.std.specs.Int.{int_min};
 ghost use Rattle.mcf_flows.specs.Limits.{limits};
@@ -18,8 +18,8 @@ use mcf_instance::{ArrayFault, flow_problem};
 use mcf_text::{NoMemory, NodeId};
 use std::alloc::Global;
 
-/// A feasible flow, by arc, with its cost, and with prices, by node, that show that none costs
-/// less.
+/// A feasible flow with one number for each arc, its cost, and prices of nodes that show it to be
+/// least.
 #[derive(Drop)]
 pub struct ShownFlow {
     pub flow: Vec<i64>,
@@ -27,14 +27,14 @@ pub struct ShownFlow {
     pub cost: i128,
 }
 
-/// Nodes, or places, that must send, or take, more than they can.
+/// Nodes or places that must send, or take, more than they can; `side` says which of both.
 #[derive(Drop)]
 pub struct Bottleneck {
     pub places: Vec<NodeId>,
     pub side: Side,
 }
 
-/// What a solver answers for a flow problem.
+/// A solver's answer to a flow problem.
 #[derive(Drop)]
 pub enum Solved {
     /// A least flow.
@@ -43,41 +43,41 @@ pub enum Solved {
     Blocked(Bottleneck),
 }
 
-/// What answers flow problems.
+/// A solver of flow problems.
 pub trait Solves {
-    // On which networks it may want memory, as it is when it is asked.
+    // The networks for which the solver may fail to allocate memory, in its state before the call.
     ghost Wants: { Self → Network → Type 0 };
 
-    /// The answer to a flow problem.
+    /// Solves a flow problem.
     ///
     /// # Errors
-    /// `NoMemory` where a growth was refused.
+    /// `NoMemory` if an allocation is refused.
     fn solve(&mut self, alloc: Global, instance: &Instance) -> Result<Solved, NoMemory>
         ensures solved { IfOk result (IsSolved instance.now) }
         ensures wants { OnErr result (Wants self.old instance.now) };
 }
 
-/// A plan that no plan undercuts: what each route carries, in order, back where it is below 0; and
-/// what it costs.
+/// A least plan and its cost: the amount that each route carries, in order. A negative amount goes
+/// back.
 #[derive(Drop)]
 pub struct LeastPlan {
     pub carries: Vec<i128>,
     pub cost: i128,
 }
 
-/// What a model has.
+/// The answer for a model.
 #[derive(Drop)]
 pub enum Planned {
     /// A least plan.
     Plan(LeastPlan),
-    /// No plan, since these places must send, or take, more than they can.
+    /// There is no plan, since these places must send, or take, more than they can.
     NoPlan(Bottleneck),
-    /// The first fault of the network of the model: its arcs are those of the routes in order, of
-    /// each those of its steps and then those of its way back.
+    /// The first fault of the model's network: a number beyond the limits. The arcs are in the
+    /// order of `arcs_of`.
     Beyond(ArrayFault),
 }
 
-// The reach as a cap, or the first number beyond the limit of bounds, if that is less.
+// Returns the reach as a capacity, or the limit of bounds plus 1 if the reach is greater than that.
 fn cap_of(reach: i128) -> i64
     requires { pos 0 ≤ℤ reach }
     ensures { result ≡ int_min reach beyond_bounds }
@@ -85,7 +85,7 @@ fn cap_of(reach: i128) -> i64
     reach.min(i128::from(BOUND_LIMIT) + 1) as i64
 }
 
-// The flow problem of a model, or its first number beyond the limits.
+// Returns the flow problem of a model, or its first number beyond the limits.
 fn problem_of(alloc: Global, model: &PlanModel) -> Result<Result<Instance, ArrayFault>, NoMemory>
     ensures value { IfOk result (λ made. made ≡ made_of_arrays limits (network_of (reach_of model.now) model.now)) }
     ensures within { IfOk result (λ made. IfOk made (IsWellFormed limits)) }
@@ -98,7 +98,7 @@ fn problem_of(alloc: Global, model: &PlanModel) -> Result<Result<Instance, Array
     flow_problem(alloc, supplies, &arcs)
 }
 
-// The plan of a shown flow.
+// Returns the plan of a least flow.
 fn least_plan(alloc: Global, model: &PlanModel, shown: ShownFlow) -> Result<LeastPlan, NoMemory>
     requires proper { IsProper model.now }
     requires shown { IsShownFlow (network_of (reach_of model.now) model.now) shown }
@@ -112,7 +112,7 @@ fn least_plan(alloc: Global, model: &PlanModel, shown: ShownFlow) -> Result<Leas
     })
 }
 
-// What a solver's answer to the flow problem of a model says of the model.
+// Returns the answer for a model, from a solver's answer to its flow problem.
 fn answered(alloc: Global, model: &PlanModel, solved: Solved) -> Result<Planned, NoMemory>
     requires proper { IsProper model.now }
     requires solved { IsSolved (network_of (reach_of model.now) model.now) solved }
@@ -126,15 +126,16 @@ fn answered(alloc: Global, model: &PlanModel, solved: Solved) -> Result<Planned,
     }
 }
 
-/// A least plan of a model with its cost; or that it has none, with places that must send, or take,
-/// more than they can; or the first fault of its network: a number beyond the limits, or a least
-/// above what a route takes.
+/// Returns a least plan of a model with its cost; or places that must send, or take, more than they
+/// can, if the model has no plan; or the first fault of its network: a number beyond the limits, or
+/// a route's least amount above its capacity.
 ///
-/// Routes without a limit are as good as without one: no plan, whatever it carries, costs less. Nor
-/// does one in finer units.
+/// The network gives a route without a limit a capacity, but no plan of the model costs less than
+/// the plan returned, however much its routes carry, nor does one in finer units.
 ///
 /// # Errors
-/// `NoMemory` only if there are places, or where the solver may want memory.
+/// `NoMemory` if an allocation is refused: only if there are places, or if the solver may need
+/// memory for the network.
 pub fn plan<S: Solves>(
     alloc: Global,
     solver: &mut S,

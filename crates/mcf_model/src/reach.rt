@@ -1,4 +1,4 @@
-//! How much a route without a limit may have to carry.
+//! The reach: an amount that no route without a limit needs to carry.
 ghost use Rattle.std.specs.Prelude.{◌≡◌, ◌<ℤ◌, ◌≤ℤ◌, ◌^◌, pos};
 ghost use Rattle.mcf_model.specs.Arcs.{reach_of};
 ghost use Rattle.mcf_model.specs.Reach.{leasts, sizes};
@@ -7,7 +7,7 @@ ghost use Rattle.mcf_model.specs.Model.{size};
 use crate::plan_model::PlanModel;
 use crate::rows::RouteRow;
 
-// How far from 0 a number is.
+// Returns the absolute value of a number.
 fn size(number: i64) -> i128
     ensures value { result ≡ size number }
     ensures low { pos 0 ≤ℤ result }
@@ -17,7 +17,7 @@ fn size(number: i64) -> i128
     if wide < 0 { -wide } else { wide }
 }
 
-// The sum of how far from 0 supplies are.
+// Returns the sum of the absolute values of supplies.
 fn sizes(supplies: &[i64]) -> i128
     ensures value { result ≡ sizes supplies.now }
     ensures low { pos 0 ≤ℤ result }
@@ -30,7 +30,7 @@ fn sizes(supplies: &[i64]) -> i128
     total
 }
 
-// How far from 0 the least of a route is.
+// Returns the absolute value of a route's least amount.
 fn least_size(row: RouteRow) -> i128
     ensures value { result ≡ size row.least }
     ensures low { pos 0 ≤ℤ result }
@@ -39,7 +39,7 @@ fn least_size(row: RouteRow) -> i128
     size(row.least)
 }
 
-// The sum of how far from 0 the leasts of routes are.
+// Returns the sum of the absolute values of the least amounts of routes.
 fn leasts(rows: &[RouteRow]) -> i128
     ensures value { result ≡ leasts rows.now }
     ensures low { pos 0 ≤ℤ result }
@@ -52,8 +52,8 @@ fn leasts(rows: &[RouteRow]) -> i128
     total
 }
 
-/// More than any route without a limit has to carry in its last step: all supplies, demands and
-/// leasts together, and 1.
+/// Returns an amount greater than any route without a limit has to carry in its last step: 1 plus
+/// the sum of the absolute values of all supplies and least amounts.
 pub fn reach_of(model: &PlanModel) -> i128
     ensures { result ≡ reach_of model.now }
 {

@@ -1,10 +1,10 @@
-//! What is wrong with models.
+//! Faults of models.
 use mcf_model::{ModelFault, PlanModel, RouteFault, RouteRow, Step};
 use mcf_text::NoMemory;
 use std::alloc::Global;
 use std::test::Fail;
 
-// A model of two places and one route, and what is wrong with the route, if anything.
+// A route of a model of two places, and its fault, if it has one.
 #[derive(Clone, Copy)]
 struct FaultRow {
     route: RouteRow,
@@ -83,8 +83,7 @@ const ROWS: [FaultRow; 8] = [
     },
 ];
 
-// Whether the second route of a model, after a good one without steps, has the fault that the row
-// says.
+// Returns whether the second route of a model, after a route without fault, has the expected fault.
 fn is_as_said(alloc: Global, row: &FaultRow) -> Result<bool, NoMemory> {
     let supplies = vec![in alloc; 4, -4]?;
     let steps = vec![in alloc; row.steps[0], row.steps[1]]?;

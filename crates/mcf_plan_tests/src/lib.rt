@@ -1,10 +1,9 @@
 #![tactic(auto)]
 
-//! The tests of models and of their plans: what no clause says, and each public call with ample
+//! Tests of models and their plans: of what no clause states, and of each public call with ample
 //! memory.
 //!
-//! They stand in a crate of their own, since a crate with tests is proved twice. It has no other
-//! function.
+//! They are a crate of their own, since a crate with tests is proved twice.
 
 #[cfg(test)]
 mod faults;

@@ -8,7 +8,7 @@ use mcf_text::{ArcId, NoMemory};
 use std::alloc::Global;
 use std::test::Fail;
 
-// A route without steps before the last, one way.
+// Returns a route of one step, one way.
 const PLAIN: RouteRow = RouteRow {
     tail: 1,
     head: 2,
@@ -20,8 +20,8 @@ const PLAIN: RouteRow = RouteRow {
     both: false,
 };
 
-// A model of three places and three routes, with the table of steps of its first route, and its
-// plan: what the routes carry, and the cost.
+// A model of three places and three routes, of which the first has steps before its last; and its
+// least plan: the amount that each route carries, and the cost.
 #[derive(Clone, Copy)]
 struct PlanRow {
     supplies: [i64; 3],
@@ -93,7 +93,7 @@ const ROWS: [PlanRow; 3] = [
         carries: [5, 25, -13],
         cost: 55,
     },
-    // a least that has to be carried back
+    // a least amount that another route has to carry back
     PlanRow {
         supplies: [0, 0, 0],
         routes: [
@@ -125,7 +125,7 @@ const ROWS: [PlanRow; 3] = [
     },
 ];
 
-// The model of a row.
+// Returns the model of a row.
 fn model_of(
     alloc: Global,
     supplies: &[i64; 3],
@@ -142,7 +142,7 @@ fn model_of(
     }
 }
 
-// Whether the plan of a row is as it says.
+// Returns whether the plan of a row is the expected one.
 fn is_as_said(alloc: Global, row: &PlanRow) -> Result<bool, NoMemory> {
     let Some(model) = model_of(alloc, &row.supplies, &row.routes)? else {
         return Ok(false);
@@ -155,7 +155,7 @@ fn is_as_said(alloc: Global, row: &PlanRow) -> Result<bool, NoMemory> {
     }
 }
 
-// Whether this fault of the network is answered.
+// Returns whether the answer is this fault of the network.
 fn is_fault(planned: &Planned, want: ArrayFault) -> bool {
     match planned {
         Planned::Beyond(fault) => *fault == want,

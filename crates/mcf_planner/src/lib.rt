@@ -2,9 +2,9 @@
 
 //! Least plans by the engines of the suite.
 //!
-//! It stands on `mcf_model`, which says what models and their least plans are, and on `mcf_solver`,
-//! which answers the flow problem of a model: `Planner` is what `mcf_model` asks, and `plan_with` a
-//! call for one model.
+//! It builds on `mcf_model`, which defines models and their least plans, and on `mcf_solver`, which
+//! solves the flow problem of a model. `Planner` is the solver that `mcf_model` calls, and
+//! `plan_with` plans one model.
 
 mod planner;
 

@@ -1,4 +1,4 @@
-//! The solver of the suite, as models ask for it.
+//! The engines of the suite as a solver of models' flow problems.
 ghost use Rattle.std.specs.Prelude.{◌≡◌, ◌≤◌, ◌⊎◌, IfOk, Ok, OnErr, length};
 ghost use Rattle.std.specs.List.{All};
 ghost use Rattle.mcf_checker.specs.Correct.{amounts};
@@ -20,13 +20,14 @@ use mcf_solver::solve_instance;
 use mcf_text::NoMemory;
 use std::alloc::Global;
 
-/// The engine that a choice means, with its pricing rule. The choice's form doesn't matter.
+/// A solver by the engine that a choice means, with its pricing rule. The choice's answer form
+/// doesn't matter.
 #[derive(Clone, Copy, Debug, PartialEq, Eq)]
 pub struct Planner {
     pub choice: Choice,
 }
 
-// What an arc carries, in 64 bits.
+// Returns the flow on an arc in 64 bits.
 fn carried(sent: Sent) -> i64
     requires { IsUpTo limits.bound sent.flow }
     ensures { result ≡ sent.flow }
@@ -34,7 +35,7 @@ fn carried(sent: Sent) -> i64
     sent.flow as i64
 }
 
-// What the arcs carry, in their order, in 64 bits.
+// Returns the flow on each arc, in order, in 64 bits.
 fn flow_of(alloc: Global, sent: &[Sent]) -> Result<Vec<i64>, NoMemory>
     requires { All (IsUpTo limits.bound) (amounts sent.now) }
     ensures value { IfOk result (λ flow. flow.items ≡ amounts sent.now) }
@@ -47,7 +48,7 @@ fn flow_of(alloc: Global, sent: &[Sent]) -> Result<Vec<i64>, NoMemory>
     Ok(flow)
 }
 
-// The answer of the solver, in the first form, as models take it.
+// Returns the solver's answer, which is in the first form, as `mcf_model` takes it.
 fn taken(alloc: Global, instance: &Instance, answer: Answer) -> Result<Solved, NoMemory>
     requires owed { IsOwed (Ok instance.now) answer }
     requires formed { HasForm Form.One (Ok instance.now) answer }
@@ -90,12 +91,13 @@ impl Solves for Planner {
     }
 }
 
-/// A least plan of a model with its cost, by the engine that is chosen; or that it has none, with
-/// places that must send, or take, more than they can; or the first fault of its network: a number
-/// beyond the limits, or a least above what a route takes.
+/// Returns a least plan of a model with its cost, by the chosen engine; or places that must send,
+/// or take, more than they can, if the model has no plan; or the first fault of its network: a
+/// number beyond the limits, or a route's least amount above its capacity.
 ///
 /// # Errors
-/// `NoMemory` only if there are places, or if the network simplex is meant.
+/// `NoMemory` if an allocation is refused: only if there are places, or if the choice means the
+/// network simplex.
 pub fn plan_with(alloc: Global, choice: Choice, model: &PlanModel) -> Result<Planned, NoMemory>
     ensures planned { IfOk result (IsPlanned model.now) }
     ensures wants { OnErr result ((1 ≤ length model.now.supplies) ⊎ (meant choice.engine Min ≡ meant Simplex Min)) }

@@ -1,4 +1,4 @@
--- What one pass over the rows of a matching tests.
+-- The tests that one pass over the rows of a matching makes.
 use Rattle.std.specs.Prelude.{◌≡◌, ℕ, ◌<◌, IfSome, Bool, true, false, List, ℤ, pos, ◌≤ℤ◌}
 use Rattle.mcf_matrix.specs.Costs.{Costs, IsAllowed}
 use Rattle.mcf_matrix.specs.Matchings.{IsPair}
@@ -26,7 +26,7 @@ pub record ArePairedSoFar (m : Costs) (x : List ℕ) (u v : List ℤ) (rows : �
   pub distinct : (i k j : ℕ) → i < rows → k < rows → IsPair m x i j → IsPair m x k j → i ≡ k
   pub marking : IsMarking m x rows seen
 
--- the price isn't above 0, and is 0 where the place isn't matched
+-- the price isn't above 0, and is 0 if the place isn't matched
 abbrev pub IsPricedPlace : ℤ → Bool → Type 0
 IsPricedPlace price is_matched = (price ≤ℤ pos 0) × (is_matched ≡ false → price ≡ pos 0)
 
