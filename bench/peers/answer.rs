@@ -15,7 +15,7 @@ pub struct Sent {
 
 pub enum Answer {
     Flow { cost: i128, sent: Vec<Sent>, prices: Vec<i128> },
-    /// The second form of a flow, of which no line stands yet but the first where there is no cost.
+    /// A flow in the sparse form. Without a cost, the parser has read only the opening line.
     Sparse { cost: Option<i128>, moved: Vec<(u32, i128)>, prices: Vec<i128> },
     Blocked { is_take: bool, count: i128, nodes: Vec<u32> },
     Refused { line: i128, code: String },
@@ -27,7 +27,7 @@ const CODES: [&str; 19] = [
     "supply", "bound", "order", "cost", "extra", "side", "total", "no-p", "missing",
 ];
 
-/// The whole number that a field says, from `lo` to `hi`; up to 17 digits are read in 64 bits.
+/// The whole number of a field, if it lies from `lo` to `hi`. Up to 17 digits take 64-bit arithmetic.
 fn number(field: &[u8], lo: i128, hi: i128) -> Option<i128> {
     let (negative, digits) = match field {
         [b'-', digits @ ..] => (true, digits),

@@ -10,7 +10,7 @@ use answering::{Answer, Sent, parse};
 use reading::{State, read};
 use std::time::Instant;
 
-/// What is said of a flow answer.
+/// The verdict on an answer in the full form.
 fn judge_flow(instance: &State, cost: i128, sent: &[Sent], prices: &[i128]) -> String {
     let arcs = &instance.arcs;
     for k in 0..arcs.len().max(sent.len()) {
@@ -31,7 +31,7 @@ fn judge_flow(instance: &State, cost: i128, sent: &[Sent], prices: &[i128]) -> S
     judge_amounts(instance, cost, &flows, prices)
 }
 
-/// What is said of a flow answer in the second form.
+/// The verdict on an answer in the sparse form.
 fn judge_sparse(instance: &State, cost: i128, moved: &[(u32, i128)], prices: &[i128]) -> String {
     let mut flows: Vec<i128> = instance.arcs.iter().map(|arc| i128::from(arc.low)).collect();
     for (number, flow) in moved {
@@ -44,7 +44,7 @@ fn judge_sparse(instance: &State, cost: i128, moved: &[(u32, i128)], prices: &[i
     judge_amounts(instance, cost, &flows, prices)
 }
 
-/// What is said of a flow within the bounds of the arcs.
+/// The verdict on a flow that lies within the bounds of the arcs.
 fn judge_amounts(instance: &State, cost: i128, flows: &[i128], prices: &[i128]) -> String {
     let arcs = &instance.arcs;
     let nodes = instance.supplies.len();
@@ -68,7 +68,7 @@ fn judge_amounts(instance: &State, cost: i128, flows: &[i128], prices: &[i128]) 
     if total == cost { format!("accepted flow {cost}") } else { "rejected cost".to_string() }
 }
 
-/// What is said of a set.
+/// The verdict on a blocking set.
 fn judge_set(instance: &State, is_take: bool, nodes: &[u32]) -> String {
     let mut table = vec![false; instance.supplies.len()];
     for id in nodes {

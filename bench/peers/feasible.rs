@@ -1,6 +1,6 @@
-//! Finds a feasible flow of a net, as `mcf_feas::feasible` does, in plain Rust: rounds in which surplus is pushed
-//! down the levels of the nodes, up to four times, and after each round a breadth-first search from all nodes with
-//! a surplus, until a node that takes, and one augmenting path.
+//! Finds a feasible flow of a net, as `mcf_feas::feasible` does, in plain Rust. Each round pushes excess down the
+//! levels of the nodes, up to four times. A breadth-first search from all nodes with an excess then looks for a node
+//! with a deficit, and the round ends with an augmentation along the path to that node.
 #![allow(dead_code)]
 #[path = "net.rs"]
 pub mod net;
@@ -9,7 +9,7 @@ use net::{Net, Rid, instance_of};
 use std::collections::VecDeque;
 use std::time::Instant;
 
-/// An amount for each arc, and what each node has left to send.
+/// The flow of each arc, and the excess of each node.
 pub struct State<'n> {
     pub net: &'n Net,
     pub amounts: Vec<i64>,
@@ -38,7 +38,7 @@ impl<'n> State<'n> {
     }
 }
 
-/// A node that a search reached, and the place of the node from which it did, with the residual arc.
+/// A node that a search reached, and its predecessor: the predecessor's place in the queue, and the residual arc.
 #[derive(Clone, Copy)]
 struct Visit {
     node: u32,
@@ -61,7 +61,7 @@ impl Search {
         self.reached[node as usize - 1] = true;
     }
 
-    /// Visits the nodes with a surplus, and says whether there is one.
+    /// Visits the nodes with an excess. Returns whether there is one.
     fn start(&mut self, state: &State) -> bool {
         self.reached.fill(false);
         self.visits.clear();
@@ -73,7 +73,7 @@ impl Search {
         !self.visits.is_empty()
     }
 
-    /// Visits what can be reached, until a visited node takes, and says whether one does.
+    /// Visits reachable nodes until one has a deficit. Returns whether one has.
     fn run(&mut self, state: &State) -> bool {
         let mut place = 0;
         while place < self.visits.len() {
@@ -95,7 +95,7 @@ impl Search {
         false
     }
 
-    /// Moves along the path to the last visited node as much as the path takes.
+    /// Augments along the path to the last visited node by the path's residual capacity, as far as the ends allow.
     fn augment(&mut self, state: &mut State) {
         self.path.clear();
         let mut place = self.visits.len() - 1;
@@ -115,7 +115,7 @@ impl Search {
 const PASSES: u32 = 4;
 const SHALLOW: u32 = 16;
 
-/// The level of each node, and the nodes that wait.
+/// The level of each node, and the queue of active nodes.
 struct Preflow {
     levels: Vec<u32>,
     queue: VecDeque<u32>,
@@ -126,8 +126,8 @@ impl Preflow {
         Preflow { levels: vec![0; nodes], queue: VecDeque::with_capacity(nodes) }
     }
 
-    /// Pushes surplus down the levels, and again while each time no more than half of the nodes with a surplus are
-    /// left.
+    /// Pushes excess down the levels. Repeats this as long as each time at most half of the nodes with an excess keep
+    /// one.
     fn round(&mut self, state: &mut State) {
         let mut before = u32::MAX;
         for _ in 0..PASSES {
@@ -140,8 +140,8 @@ impl Preflow {
         }
     }
 
-    /// Finds how far each node is from the nodes that take, and then visits nodes with a surplus, first in, first
-    /// out, until none waits, or as many were visited as there are nodes, where a lift counts as four visits.
+    /// Finds each node's distance to the nodes with a deficit, then visits active nodes, first in, first out. Ends when
+    /// the queue is empty or after as many visits as there are nodes; a lift counts as four visits.
     fn pass(&mut self, state: &mut State, senders: u32) {
         self.set_levels(state, senders);
         self.start(state);
@@ -178,7 +178,8 @@ impl Preflow {
         }
     }
 
-    /// Ends where all of so many nodes with a surplus have their level, or three quarters of them at low levels.
+    /// Searches backward from the queue until all of the nodes with an excess (`senders` of them) have a level, or three
+    /// quarters have a low one. Returns the last level, or the number of nodes if the queue runs empty.
     fn search_back(&mut self, state: &State, senders: u32) -> u32 {
         let far = state.net.node_count();
         let mut sought = senders;
@@ -210,7 +211,7 @@ impl Preflow {
         }
     }
 
-    /// Pushes what a node has left to send to lower ones, and else lifts it.
+    /// Pushes a node's excess to lower nodes, and lifts the node if some is left.
     fn visit(&mut self, state: &mut State, node: u32) -> u32 {
         let net = state.net;
         let level = self.levels[node as usize - 1];
@@ -237,7 +238,8 @@ impl Preflow {
         if state.room(along) <= 0 { state.net.node_count() } else { self.levels[state.net.route(along).1 as usize - 1] }
     }
 
-    /// Pushes what the tail has left to send, as far as there is room, and no more than the head takes, if it does.
+    /// Pushes the tail's excess along a residual arc, up to the residual capacity, and to a head with a deficit up to
+    /// that deficit.
     fn push_share(&mut self, state: &mut State, along: Rid) -> bool {
         let (from, to) = state.net.route(along);
         let held = state.surplus(from);
@@ -289,7 +291,7 @@ pub fn feasible(net: &Net) -> Feas<'_> {
     Feas::Flow(state)
 }
 
-/// The sum of each amount times the number of its arc, or how many nodes block.
+/// The sum over the arcs of flow times arc number, or the number of nodes that block.
 fn said(outcome: &Feas) -> String {
     match outcome {
         Feas::Flow(state) => {

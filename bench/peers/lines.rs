@@ -4,8 +4,8 @@ fn is_blank(byte: &u8) -> bool {
     matches!(byte, b' ' | b'\t' | b'\r')
 }
 
-/// Gives each line that is neither blank nor a comment: its number, counted from 1 over all lines, and its
-/// first fields, at most `N`. An error of `take` ends it. Answers how many lines the text has.
+/// Calls `take` with each line that is neither blank nor a comment: with its number, counted from 1 over all lines,
+/// and with its first fields, at most `N`. Stops at the first error of `take`. Returns the number of lines of the text.
 pub fn each_line<'t, const N: usize, E>(
     text: &'t [u8],
     mut take: impl FnMut(u128, &[&'t [u8]]) -> Result<(), E>,

@@ -1,5 +1,5 @@
-//! Reads an instance text, as `mcf_instance::read` does, in plain Rust: one pass, the first faulty line
-//! with its fault, or the instance in 32 bytes an arc.
+//! Reads an instance text in one pass, as `mcf_instance::read` does, in plain Rust. The result is the first faulty line
+//! with its fault, or the instance, which takes 32 bytes an arc.
 #[path = "lines.rs"]
 mod lines;
 
@@ -35,7 +35,7 @@ const PAST: i64 = KEPT + 1;
 const SIZE: i64 = 1_000_000_000_000_000;
 const COST: i64 = 1_000_000_000_000;
 
-/// The number that a field says; one past every range for a size above 10^18.
+/// The number of a field. An absolute value above 10^18 becomes a number outside every range.
 fn number(field: &[u8]) -> Result<i64, &'static str> {
     let (negative, digits) = match field {
         [b'-', digits @ ..] => (true, digits),

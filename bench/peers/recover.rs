@@ -1,6 +1,5 @@
-//! Recovers prices from the state of an answer, as `mcf_cancel::recover` does, in plain Rust: prices are
-//! lowered from 0 in rounds of a queue, and after each round the residual arcs that gave them are searched
-//! for a cycle.
+//! Recovers prices from the flow of an answer, as `mcf_cancel::recover` does, in plain Rust: a label-correcting search
+//! lowers prices from 0 in rounds of a queue, and looks after each round for a cycle of predecessor arcs.
 #![allow(dead_code)]
 #[path = "answer.rs"]
 pub mod answering;
@@ -13,7 +12,7 @@ use feasibility::net::{Net, Rid, instance_of};
 use std::mem;
 use std::time::Instant;
 
-/// Nodes that wait, each once.
+/// A queue that holds each node at most once.
 struct Queue {
     marks: Vec<bool>,
     nodes: Vec<u32>,
@@ -37,7 +36,7 @@ impl Queue {
     }
 }
 
-/// A price for each node, and the residual arc that gave it.
+/// The price of each node, and its predecessor arc: the residual arc that gave the price.
 struct Search<'s, 'n> {
     state: &'s State<'n>,
     prices: Vec<i128>,
@@ -45,7 +44,7 @@ struct Search<'s, 'n> {
 }
 
 impl Search<'_, '_> {
-    /// Whether the price of the tail of a residual arc falls by it.
+    /// Whether a residual arc lowers the price of its tail.
     fn relax(&mut self, rid: Rid) -> bool {
         if self.state.room(rid) <= 0 {
             return false;
@@ -72,7 +71,7 @@ impl Search<'_, '_> {
         }
     }
 
-    /// A cycle of links, if there is one.
+    /// A cycle of predecessor arcs, if there is one.
     fn cycle(&self) -> Option<Vec<Rid>> {
         let nodes = self.prices.len();
         let mut seen = vec![false; nodes];
@@ -124,7 +123,7 @@ pub fn recover(state: &State) -> Recovered {
     }
 }
 
-/// The state in which each arc has what the answer sends on it.
+/// The state with the flow of the answer.
 pub fn state_of<'n>(net: &'n Net, answer: &Answer) -> State<'n> {
     let mut state = State::zero(net);
     if let Answer::Flow { sent, .. } = answer {

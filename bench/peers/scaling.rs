@@ -1,6 +1,6 @@
 //! Solves a net by cost scaling, as `Scaling` of `mcf_scaling` does, in plain Rust: a feasible flow, phases of pushes
-//! and relabels depth first, and the greatest prices. What a scan reads of a residual arc are 16 bytes in the order of
-//! the star, the top bit of the head set where there is no room, and the phases read without a test of the index.
+//! and relabels depth first, and the greatest prices. A residual arc takes 16 bytes in the forward star; the top bit of
+//! its head is set if it has no residual capacity. The phases read these without a test of the index.
 #![allow(dead_code)]
 #[path = "raise.rs"]
 mod raising;
@@ -11,8 +11,7 @@ use raising::{Heap, raise};
 use std::collections::VecDeque;
 use std::time::Instant;
 
-/// A residual arc: what a unit along it costs, the node that it enters, and its arc, forward or backward. Nodes count
-/// from 0 here.
+/// A residual arc: its unit cost, its head, and its arc with the direction. Nodes count from 0 here.
 #[derive(Clone, Copy)]
 struct Place {
     cost: i64,
@@ -20,7 +19,7 @@ struct Place {
     link: u32,
 }
 
-/// Set in the head of a place that has no room.
+/// The bit that marks the head of a residual arc without residual capacity.
 const FULL: u32 = 1 << 31;
 
 macro_rules! at {
@@ -37,10 +36,10 @@ macro_rules! at_mut {
 
 struct Refine<'n> {
     state: State<'n>,
-    /// Where the places of each node begin, and after the last node the end.
+    /// The place of the first residual arc of each node, and the end after the last node.
     firsts: Vec<u32>,
     places: Vec<Place>,
-    /// The two places of each arc, forward and backward.
+    /// The places of each arc's two residual arcs, forward and backward.
     sites: Vec<[u32; 2]>,
     prices: Vec<i128>,
     currents: Vec<u32>,
@@ -88,7 +87,7 @@ impl<'n> Refine<'n> {
         if place.link & 1 == 1 { amount } else { arc.width - amount }
     }
 
-    /// Moves an amount out of node `v`, and turns the bits of its arc.
+    /// Pushes an amount along a residual arc out of node `v`, and updates the marks of both residual arcs.
     fn push(&mut self, v: u32, place: Place, amount: i64) {
         let (arc, back) = (place.link >> 1, place.link & 1 == 1);
         let moved = at!(self.state.amounts, arc) + if back { -amount } else { amount };
@@ -105,7 +104,7 @@ impl<'n> Refine<'n> {
         }
     }
 
-    /// Halves e, and fills each residual arc of negative reduced cost.
+    /// Halves e, and saturates each residual arc of negative reduced cost.
     fn begin(&mut self) {
         self.power /= 2;
         for v in 0..self.state.net.node_count() {
@@ -128,7 +127,7 @@ impl<'n> Refine<'n> {
         }
     }
 
-    /// The first node of the queue that has a surplus.
+    /// The first active node of the queue.
     fn active(&mut self) -> Option<u32> {
         while let Some(&v) = self.queue.front() {
             if at!(self.state.surpluses, v) > 0 {
@@ -169,7 +168,7 @@ impl<'n> Refine<'n> {
         self.relabels += 1;
     }
 
-    /// Pushes and relabels, from the node that was pushed to where that has a surplus, until no node has one.
+    /// Pushes and relabels until no node is active. After a push to an active node it continues there.
     fn settle(&mut self) {
         let mut next = self.active();
         while let Some(v) = next {

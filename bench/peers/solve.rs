@@ -1,6 +1,6 @@
-//! Reads an instance text, copies what it holds, and writes an answer of the same shape, in plain Rust: what
-//! solving does beside the engine. Of an instance without supplies whose lows are 0 and whose costs aren't below
-//! 0 it is the very answer.
+//! Reads an instance text, copies the instance, and writes an answer of the same shape, in plain Rust: the work of
+//! `mcf solve` without the engine. The answer is correct for an instance without supplies whose lower bounds are 0 and
+//! whose costs aren't negative.
 #[path = "read.rs"]
 #[allow(dead_code)]
 mod reading;
@@ -14,7 +14,7 @@ struct Sent {
     flow: i128,
 }
 
-/// What each arc carries, with its ends, and what that costs.
+/// The flow of each arc, with the arc's ends, and the cost.
 fn copied(state: &reading::State) -> (i128, Vec<Sent>) {
     let mut cost = 0;
     let mut sent = Vec::with_capacity(state.arcs.len());

@@ -24,7 +24,7 @@ fn is_blank(byte: u8) -> bool {
     matches!(byte, b' ' | b'\t' | b'\r')
 }
 
-// The number that up to 17 digits write.
+// The number of up to 17 digits.
 fn short_magnitude(digits: &[u8]) -> Option<u64> {
     let mut sum = 0u64;
     for byte in digits {
@@ -37,7 +37,7 @@ fn short_magnitude(digits: &[u8]) -> Option<u64> {
     Some(sum)
 }
 
-// The number that digits write, or the greatest `u128` where it is greater.
+// The number of some digits, or the greatest `u128` if it is greater.
 fn long_magnitude(digits: &[u8]) -> Option<u128> {
     let mut sum = 0u128;
     for byte in digits {
@@ -75,7 +75,7 @@ fn whole(field: &[u8], low: i128, high: i128) -> Whole {
     }
 }
 
-// Whether the byte ends the field before it.
+// Whether a byte ends the field before it.
 fn ends_field(byte: u8) -> bool {
     matches!(byte, b' ' | b'\t' | b'\r' | b'\n')
 }
