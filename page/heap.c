@@ -1,19 +1,19 @@
-/* The heap of the page's module, in the place of the C library's.
+/* The heap of the page's module, which replaces the C library's.
 
-   Blocks lie one after another above the stack, each behind a header of 16 bytes. Free ones are
-   kept in a list by address, and merged with their neighbours. The memory grows where no free block
-   is large enough. */
+   Blocks lie one after another above the stack, each behind a header of 16 bytes. A list has the
+   free blocks by address; free neighbours merge. The memory grows if no free block is large enough.
+ */
 typedef unsigned long u64;
 typedef struct block {
     u64 size;
     struct block *next;
-} block; /* size: of what comes after the header, a multiple of 16 */
+} block; /* size: the bytes after the header, a multiple of 16 */
 typedef struct {
     u64 ok, at;
 } tried;
 
-/* No block reaches beyond this: addresses stay below 2^32, and the last 64 MB below that are no
-   memory, so that a stack that runs out traps. */
+/* No block reaches beyond this. Addresses stay below 2^32, and the last 64 MB below 2^32 are never
+   memory, so that a stack overflow traps. */
 #define MOST 0xfc000000ul
 
 extern unsigned char __heap_base;
@@ -29,11 +29,10 @@ static void count(u64 more) {
     if (live > peak) peak = live;
 }
 
-/* Grows the memory by so many pages. Lowered to 32 bits, a refusal is 2^32 - 1. */
+/* Grows the memory by some pages. After the lowering to 32 bits, 2^32 - 1 means a refusal. */
 static int grow(u64 pages) { return (unsigned)__builtin_wasm_memory_grow(0, pages) != ~0u; }
 
-/* Makes the memory reach to a place, and an eighth of it more at least, if the host gives that
- * much. */
+/* Makes the memory reach to an address. Grows by at least an eighth, if the host grants that. */
 static int reach(u64 to) {
     if (!limit) limit = __builtin_wasm_memory_size(0) << 16;
     if (to <= limit) return 1;
@@ -47,8 +46,7 @@ static int reach(u64 to) {
     return 1;
 }
 
-/* A block that is taken from the free list, whose rest stays there; 0 where none is large enough.
- */
+/* Takes a block from the free list, which keeps the rest of it. 0 if no block is large enough. */
 static block *reuse(u64 n) {
     for (block **at = &first_free, *b; (b = *at); at = &b->next) {
         if (b->size < n) continue;
@@ -97,7 +95,7 @@ static void give(block *b) {
         before->next = b->next;
         b = before;
     }
-    if (behind(b) == end) { /* the last block is given back whole */
+    if (behind(b) == end) { /* the last block becomes unused memory */
         end = (u64)b;
         for (at = &first_free; *at != b; at = &(*at)->next) {
         }
@@ -105,7 +103,7 @@ static void give(block *b) {
     }
 }
 
-/* What compiled code calls. Alignments are at most 16. */
+/* The allocator that compiled code calls. Alignments are at most 16. */
 tried rattle_alloc(u64 n, u64 align) {
     (void)align;
     u64 at = take(n > MOST ? n : rounded(n));
@@ -120,7 +118,7 @@ tried rattle_realloc(u64 at, u64 kept, u64 n, u64 align) {
     u64 want = n > MOST ? n : rounded(n);
     if (want <= b->size) return (tried){1, at};
     if (behind(b) == end && want <= MOST && (u64)b + 16 + want <= MOST &&
-        reach((u64)b + 16 + want)) { /* the last one grows in place */
+        reach((u64)b + 16 + want)) { /* the last block grows in place */
         count(want - b->size);
         b->size = want;
         end = behind(b);
@@ -133,6 +131,6 @@ tried rattle_realloc(u64 at, u64 kept, u64 n, u64 align) {
     return (tried){1, to};
 }
 
-/* What the page calls: room for a text, and the most that was taken at once. */
+/* The page calls these: memory for a text, and the peak of the memory in use. */
 u64 page_alloc(u64 n) { return n > MOST ? 0 : take(rounded(n)); }
 u64 page_peak(void) { return peak; }

@@ -101,7 +101,7 @@ class Comparison:
                 f"  {name_text(key)}: {words[0]}, now {words[1]} ({sign}{self.text(difference)})"
             )
         if len(differing) > TOLD and not self.show_all:
-            lines.append(f"  and {len(differing) - TOLD} more (--all tells them)")
+            lines.append(f"  and {len(differing) - TOLD} more (--all lists them)")
         return lines
 
 

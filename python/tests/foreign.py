@@ -1,10 +1,11 @@
-"""The tests that networkx and scipy have of their own, with mcf in the place of their functions:
-what each package tests of minimum-cost flow and of assignments. It says how many passed, and which
-did not, and skips with a word what isn't installed; pytest runs them.
+"""Runs the tests of minimum-cost flow and of assignments that networkx and scipy contain, with the
+functions of mcf in place of theirs. Prints how many passed and which did not, and what it skips
+because a package isn't installed. Needs pytest.
 
-Just those tests fail that `DIFFERS` names, or the status is 1. MCF_LIBRARY names the library.
+The status is 0 if exactly the tests that `DIFFERS` names fail, and otherwise 1. MCF_LIBRARY names
+the library.
 
-Usage: foreign.py networkx|scipy
+    foreign.py networkx|scipy
 """
 import contextlib
 import importlib
@@ -22,8 +23,8 @@ FLOWS = (
 )
 ASSIGNMENTS = ("scipy.optimize.tests.test_linear_assignment",)
 FUNCTIONS = ("network_simplex", "min_cost_flow", "min_cost_flow_cost", "max_flow_min_cost")
-# Two flows of cost 150 are least in the graph of both tests. They want one of them, and the network
-# simplex of mcf gives the other.
+# The graph of both tests has two least-cost flows, of cost 150. The tests expect one of them, and
+# the network simplex of mcf finds the other.
 ANOTHER_LEAST_FLOW = {
     "test_mincost.py TestMinCostFlow.test_digraph1",
     "test_networksimplex.py test_digraph1",
@@ -32,7 +33,7 @@ DIFFERS = {"by auto": ANOTHER_LEAST_FLOW, "as a backend": ANOTHER_LEAST_FLOW}
 
 
 class Outcomes:
-    """How each test ended, by its file and name."""
+    """The outcome of each test, by its file and name."""
 
     def __init__(self):
         self.ended = {}
@@ -45,7 +46,7 @@ class Outcomes:
 
 
 class Counted:
-    """A function that counts how often it is called, with options of its own."""
+    """A function that counts its calls, and adds options to each."""
 
     calls = 0
 
@@ -58,7 +59,8 @@ class Counted:
 
 
 def run(way, modules):
-    """Runs the tests of the modules: how many passed, and whether just those failed that may."""
+    """Runs the tests of some modules. Returns how many passed, and whether exactly the tests of
+    `DIFFERS` failed."""
     import pytest
 
     outcomes = Outcomes()
@@ -81,8 +83,8 @@ def run(way, modules):
 
 
 def networkx_ways():
-    """networkx with mcf as its backend, where it has backends; and with its functions replaced, by
-    two engines."""
+    """networkx with mcf as its backend, if it has backends; and networkx with its functions
+    replaced, with two engines."""
     with tempfile.TemporaryDirectory() as folder:
         about = os.path.join(folder, "yokdelm-0.dist-info")
         os.mkdir(about)

@@ -1,6 +1,6 @@
-"""What the package mcf makes of hostile arguments: noise, numbers at the limits and past them,
-arrays of all kinds of numpy, things that are no numbers. Each call has to answer what is right, or
-to raise what says why not. MCF_LIBRARY names the library."""
+"""Calls the package mcf with hostile arguments: noise, numbers at the limits and beyond, numpy
+arrays of all kinds, and objects that aren't numbers. Each call must return the right answer, or
+raise an exception that names the fault. MCF_LIBRARY names the library."""
 import collections
 import os
 import random
@@ -60,7 +60,7 @@ COSTS = (
 
 
 def fault(supplies, arcs):
-    """The first fault: the arc, the node and the reason, as Refused has them."""
+    """The first fault: the arc, the node and the reason, as `Refused` has them."""
     total = 0
     for node, supply in enumerate(supplies):
         if abs(supply) > BOUND:
@@ -81,7 +81,8 @@ def fault(supplies, arcs):
 
 
 def least(supplies, arcs, answer):
-    """Whether an answer is a flow of its cost that its prices show to be least."""
+    """Whether an answer is a feasible flow of the stated cost, and its prices certify that it is
+    optimal."""
     left, flow, prices = list(supplies), answer.flow, answer.prices
     for (u, v, low, cap, cost), f in zip(arcs, flow):
         reduced = cost - prices[u] + prices[v]
@@ -93,7 +94,7 @@ def least(supplies, arcs, answer):
 
 
 def problem_of(chance):
-    """The supplies and arcs of a random problem, one of three of it with numbers past all
+    """The supplies and arcs of a random problem. One problem in three has numbers beyond all
     limits."""
     n, wild = chance.randrange(5), chance.randrange(3)
     amounts, costs = (AMOUNTS[: (6, 10, 18)[wild]], COSTS[: (6, 9, 15)[wild]])
@@ -111,7 +112,7 @@ def problem_of(chance):
     return supplies, arcs
 
 
-# Calls that are refused: the number, the ends or the place in a matrix, and what is said.
+# Calls that raise `Refused`: the number, the ends or the place in a matrix, and the message.
 REFUSALS = (
     (
         lambda: mcf.solve([0, 0], [(0, 1, 5, 0.1234567890123457)]),
@@ -188,7 +189,7 @@ REFUSALS = (
 
 class Numbers(unittest.TestCase):
     def kind_of(self, supplies, arcs, engine):
-        """What comes of a problem, judged by its definition."""
+        """Solves a problem, compares the result with the definitions, and returns its kind."""
         problem = (supplies, arcs)
         try:
             answer = mcf.solve(supplies, arcs, engine=engine)
@@ -314,7 +315,7 @@ class Numbers(unittest.TestCase):
                 self.assertRaises(
                     (ValueError, TypeError, ZeroDivisionError), call, Lying(answers * 9)
                 )
-        # Asked once, whatever it would say the next time.
+        # The package asks the object once, though it would give another number the next time.
         self.assertEqual(
             mcf.solve(
                 [Lying([3, 4, 5]), -3], [(0, Lying([1, 0, 7]), Lying([3, -1, 0]), Lying([2, 9]))]
@@ -550,7 +551,7 @@ class Arrays(unittest.TestCase):
                     [np.array([wrong, 2], kind), np.array([1, 9], kind)],
                 )
             self.assertEqual(mcf.solve([1, -1], [np.array([0, 1, np.inf, 0.25], kind)]).cost, 0.25)
-        # A float is the decimal that it prints as, with few digits.
+        # A float stands for the decimal number that it prints as, which has few digits.
         self.assertEqual(mcf.solve([1, -1], [np.array([0, 1, np.inf, 0.1], "f4")]).cost, 0.1)
 
     def test_floats_of_arrays_are_what_they_print_as(self):
@@ -654,7 +655,8 @@ class Arrays(unittest.TestCase):
 
 
 def mcf_sum(matrix, **options):
-    """What an assignment of least cost costs, of a matrix that is as it was after."""
+    """The cost of a least-cost assignment of a matrix. Checks that the call left the matrix
+    unchanged."""
     before = np.array(matrix)
     rows, columns = mcf.linear_sum_assignment(matrix, **options)
     assert np.array_equal(before, matrix) and len(set(columns.tolist())) == len(rows) == min(

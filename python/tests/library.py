@@ -1,4 +1,4 @@
-"""The tests of the package mcf, with the standard library alone; those of networkx and scipy where
+"""The tests of the package mcf, with the standard library alone, and with networkx and scipy if
 they are installed. MCF_LIBRARY names the library."""
 import copy
 import doctest
@@ -31,7 +31,7 @@ import mcf.simple
 
 
 def load_tests(loader, tests, pattern):
-    """The examples of the docstrings are tests."""
+    """Adds the examples of the docstrings as tests."""
     for module in (mcf, mcf._solving, mcf.assignment, mcf.simple):
         tests.addTests(
             doctest.DocTestSuite(
@@ -51,12 +51,12 @@ def _installed(name):
 
 
 def solve_by_place(supply):
-    """One of the calls of a pool: no flow is feasible where more than 3 are sent."""
+    """A call for a pool of processes: no flow is feasible if the supply exceeds 3."""
     return mcf.solve([supply, -supply], [(0, 1, 3, 1)]).cost
 
 
 class Raised(unittest.TestCase):
-    """Exceptions that go from one process to another."""
+    """Exceptions that pass from one process to another."""
 
     def raised(self):
         yield mcf.Refused(3, None, "cost", 10)
@@ -237,7 +237,7 @@ class Solving(unittest.TestCase):
             matrix = [list(range(n))] * n
             self.assertEqual(len(set(mcf.linear_sum_assignment(matrix)[1])), n)
         del matrix
-        # The thread of a call lets go of what it read just after the call is answered.
+        # The thread of a call releases the caller's objects shortly after the call returns.
         end = time.monotonic() + 5
         while tracemalloc.get_traced_memory()[0] > 10**6 and time.monotonic() < end:
             time.sleep(0.01)
@@ -304,7 +304,7 @@ class Solving(unittest.TestCase):
 
 
 def solved(supplies, arcs):
-    """The cost, or the name of what is raised."""
+    """The cost, or the name of the exception."""
     try:
         return mcf.solve(supplies, arcs).cost
     except mcf.MCFError as error:
@@ -312,7 +312,7 @@ def solved(supplies, arcs):
 
 
 class WithoutLimits(unittest.TestCase):
-    """Arcs without limit, whatever stands for none."""
+    """Arcs without a capacity, in each way to write that."""
 
     def test_nothing_given_is_past_a_limit(self):
         bound = 10**18
@@ -382,7 +382,7 @@ class WithoutLimits(unittest.TestCase):
 
 
 class Series:
-    """A stand-in for what pandas has by that name."""
+    """A stand-in for the pandas class of that name."""
 
     def __init__(self, values, index):
         self.values, self.index = values, index
@@ -422,7 +422,7 @@ class BySeries(unittest.TestCase):
         self.assertEqual(mcf.solve(supplies, [("a", "b", 1, 1)]).flow, [0.1])
 
 
-# What a process does that is interrupted while the library works, for some seconds if it were let.
+# A script for a process that gets a signal while the library works, which would take some seconds.
 LASTING = """
 import random, sys, time
 sys.path.insert(0, %r)
@@ -519,7 +519,7 @@ class WithNetworkx(unittest.TestCase):
             H = nx.DiGraph(G.edges)
             nx.set_edge_attributes(H, {("a", "b"): great, ("b", "c"): 5}, "capacity")
             self.assertEqual(mcf.nx.maximum_flow_value(H, "a", "c"), 5)
-            # A cycle of negative cost carries all that it may, which is too much here.
+            # The flow saturates a cycle of negative cost, whose capacity is beyond the limit here.
             G.edges["c", "a"]["weight"] = -9
             self.assertRaises(nx.NetworkXException, mcf.nx.network_simplex, G)
             with self.assertRaises(mcf.nx.NetworkXRefused) as c:

@@ -1,14 +1,14 @@
 #!/usr/bin/env python3
-"""Least plans of small random models, found by trying all of them, with no code of the suite.
+"""Finds least-cost plans of small random models by trying all of them, without code of the suite.
 
     python/tests/plans.py write     writes the rows of crates/mcf_plan_tests/src/tried.rt
     python/tests/plans.py check     compares them with what `write` would write; status 1 if they
                                     differ
 
-A model has three places and three routes. Each route carries at least so much; its steps, of rising
-cost, are filled in order; the last may be without a limit; it may be used both ways. All amounts in
-halves of a unit are tried, up to all supplies, demands and leasts together, and one more. One in
-ten of the models without a plan is used.
+A model has three places and three routes. A route has a least amount, and steps of rising cost that
+are filled in order; the last step may be without a limit, and the route may go both ways. The
+script tries all amounts in halves of a unit, up to one more than all supplies, demands and least
+amounts together. It uses one in ten of the models without a plan.
 """
 import itertools
 import pathlib
@@ -20,12 +20,12 @@ TABLE = pathlib.Path(__file__).resolve().parents[2] / "crates/mcf_plan_tests/src
 COUNT, SEED = 16, 1
 PLACES = 3
 ROUTES = 3
-# No route of limited steps takes more.
+# No route whose steps are all limited carries more.
 MOST = 8
 
 
 def charge(route, amount):
-    """What a route costs that carries so much; None if it may not."""
+    """The cost of an amount on a route, or None if the route can't carry it."""
     charged = abs(amount) if route["both"] else amount
     if charged < route["least"]:
         return None
@@ -40,7 +40,7 @@ def charge(route, amount):
 
 
 def least(supplies, routes):
-    """The least cost of a plan; None if there is no plan."""
+    """The cost of a least-cost plan, or None if no plan exists."""
     reach = 1 + sum(map(abs, supplies)) + sum(abs(route["least"]) for route in routes)
     reach = max(reach, MOST)
     amounts = [Fraction(half, 2) for half in range(-2 * reach, 2 * reach + 1)]
@@ -68,7 +68,7 @@ def least(supplies, routes):
 
 
 def random_model(rng):
-    """A model with which nothing is wrong."""
+    """A random model without a fault."""
     limited = rng.random() < 0.5
     routes = []
     for _ in range(ROUTES):

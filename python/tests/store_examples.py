@@ -1,6 +1,6 @@
 #!/usr/bin/env python3
-"""Writes what the plans of examples/plans/ give now, and the pictures of docs/, to be looked at
-before it is committed."""
+"""Writes the results of the plans of examples/plans/ and the pictures of docs/ from the present
+code. Review the changes before you commit them."""
 import os
 import pathlib
 import shutil
@@ -14,13 +14,13 @@ sys.path[:0] = [
 from support import TOP  # noqa: E402
 from test_examples import example_folders, results_of  # noqa: E402
 
-# The pictures of docs/ by their plans, and the date that they have, in seconds since 1970.
+# The pictures of docs/ by their plans, and the date in them, in seconds since 1970.
 PICTURES = {"network": "plan.svg", "network-blocked": "plan-blocked.svg"}
 DATE = "1795737600"
 
 
 def main():
-    """Writes all."""
+    """Writes all results and pictures."""
     os.environ["SOURCE_DATE_EPOCH"] = DATE
     for folder in example_folders():
         shutil.rmtree(folder / "expected", ignore_errors=True)

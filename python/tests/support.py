@@ -1,4 +1,4 @@
-"""What the tests share: the tool run in this process, and folders of tables."""
+"""Helpers that the tests share: a run of the tool in this process, and folders of tables."""
 import contextlib
 import csv
 import io
@@ -11,14 +11,14 @@ from mcf_plan import cli
 
 TOP = pathlib.Path(__file__).resolve().parents[2]
 PLANS = TOP / "examples" / "plans"
-# What is compared of the results: the tables. The picture depends on whether Graphviz is there.
+# The results that tests compare: the tables. The picture depends on whether Graphviz is installed.
 COMPARED = ("flows.csv", "prices.csv", "pairs.csv", "bottleneck.csv")
 PLACES = "name,supply\nMill,30\nWien,-18\nGraz,-12\n"
 ROUTES = "from,to,least,most,cost\nMill,Wien,0,15,4\nMill,Graz,0,20,7\nGraz,Wien,0,10,2\n"
 
 
 def run(*words):
-    """Runs the tool. Gives its status, what it said, and what it said on standard error."""
+    """Runs the tool. Returns its status, its standard output and its standard error."""
     said, told = io.TextIOWrapper(io.BytesIO(), "utf-8"), io.TextIOWrapper(io.BytesIO(), "utf-8")
     with contextlib.redirect_stdout(said), contextlib.redirect_stderr(told):
         status = cli.main([str(word) for word in words])
@@ -30,19 +30,19 @@ def run(*words):
 
 
 def rows_of(path, separator=","):
-    """The rows of a table, by their heads."""
+    """The rows of a table, as dicts by the heads of the columns."""
     with open(path, newline="", encoding="utf-8-sig") as table:
         return list(csv.DictReader(table, delimiter=separator))
 
 
 def script(path, text):
-    """Writes a program of the shell."""
+    """Writes an executable shell script."""
     path.write_text("#!/bin/sh\n" + text)
     path.chmod(path.stat().st_mode | stat.S_IXUSR)
 
 
 class WithFolder(unittest.TestCase):
-    """A test with a folder of its own, in which tables are written and plans are made."""
+    """A test with its own folder for tables and plans."""
 
     def setUp(self):
         scratch = tempfile.TemporaryDirectory()
@@ -51,7 +51,7 @@ class WithFolder(unittest.TestCase):
         self.out = self.folder / "out"
 
     def put(self, name, text):
-        """Writes a file, of a text or of bytes."""
+        """Writes a file with a text or with bytes."""
         (self.folder / name).write_bytes(text if isinstance(text, bytes) else text.encode())
         return self.folder / name
 

@@ -1,4 +1,4 @@
-"""The words that the shells complete, beside those that the commands name in their help."""
+"""Compares the words that the shells complete with the words in the commands' help."""
 import os
 import pathlib
 import re
@@ -10,8 +10,7 @@ import unittest
 TOP = pathlib.Path(__file__).resolve().parents[2]
 SOLVER = pathlib.Path(os.environ.get("MCF_BIN", TOP / "bin"), "mcf")
 HELP = {"-h", "--help"}
-# What is asked of a shell: the words of a line, of which the last is completed; and each line's
-# command with its subcommand.
+# The lines whose last word a shell completes: a command and its subcommand.
 LINES = (
     ("mcf",),
     ("mcf", "solve"),
@@ -24,22 +23,21 @@ LINES = (
 BASH = """
 . "$0"; COMP_WORDS=("$@"); COMP_CWORD=$(($# - 1)); _mcf "$1" "${!#}" "${@:$#-1:1}"; printf '%s\\n' "${COMPREPLY[@]}"
 """  # noqa: E501
-# What zsh would offer is what _arguments is given.
+# The completion of zsh passes its offers to _arguments, which prints them here.
 ZSH = """
 _arguments() { print -rl -- "$@" }; file=$1; shift; words=("$@"); CURRENT=$#; service=$1; . $file
 """
 
 
 def said(*words):
-    """What a command says."""
+    """The output of a command."""
     return subprocess.run(
         [str(word) for word in words], stdout=subprocess.PIPE, check=True, timeout=60
     ).stdout.decode()
 
 
 def helped(command, *words):
-    """The options of a command in its help, each with the values that it takes, if these are some
-    words."""
+    """The options of a command in its help, each with its values if the help lists them."""
     if command == "mcf":
         text = said(SOLVER, *words, "--help").split("\nOptions:")[1].split("\n\n")[0]
         values = re.findall(r"(--[a-z-]+) <\w+> .*\[possible values: ([^]]*)\]", text)
@@ -58,13 +56,13 @@ def options_in(text):
 
 
 def bash(*words):
-    """What bash offers for the last of some words."""
+    """The words that bash offers for the last of some words."""
     return said("bash", "-c", BASH, TOP / "completion" / "mcf.bash", *words).split()
 
 
 def zsh(*words):
-    """What zsh would offer for some words: options, each with the values that it takes, if these
-    are some words; and subcommands."""
+    """The words that zsh offers after some words: options, each with its values if they are listed,
+    and subcommands."""
     lines = said("zsh", "-f", "-c", ZSH, "zsh", TOP / "completion" / "_mcf", *words).splitlines()
     options, values, subcommands = set(), {}, []
     for line in lines:
@@ -81,7 +79,7 @@ def zsh(*words):
 
 @unittest.skipUnless(shutil.which("bash"), "bash isn't there")
 class Bash(unittest.TestCase):
-    """What bash completes."""
+    """The completion of bash."""
 
     def test_options_and_values(self):
         for line in LINES:
@@ -113,7 +111,7 @@ class Bash(unittest.TestCase):
 
 @unittest.skipUnless(shutil.which("zsh"), "zsh isn't there")
 class Zsh(unittest.TestCase):
-    """What zsh completes."""
+    """The completion of zsh."""
 
     def test_options_and_values(self):
         for line in LINES:

@@ -1,4 +1,4 @@
-"""Two plans compared."""
+"""Tests of the comparison of two plans."""
 import hashlib
 import json
 import os
@@ -8,7 +8,8 @@ from mcf_plan.solve import Programs
 from support import PLACES, PLANS, ROUTES, WithFolder, run
 from test_examples import call_of, example_folders
 
-# Places and routes with decimals, steps and both ways; with less room on one route 1.5 are missing.
+# Places and routes with decimals, steps and both directions. A smaller capacity of one route leaves
+# 1.5 units missing.
 DECIMAL_PLACES = "name;supply\nMill;30,5\nWien;-18,5\nGraz;-12\n"
 DECIMAL_ROUTES = (
     "from;to;most;cost;most 2;cost 2;both\nMill;Wien;15;4,25;2;5,5;\nMill;Graz;20;7;;;yes\n"
@@ -20,13 +21,13 @@ class Diff(WithFolder):
     """`mcf_plan diff`."""
 
     def made(self, name, places, routes, *words):
-        """A plan in a folder of this name."""
+        """Makes a plan in a folder of this name."""
         self.out = self.folder / name
         self.flow(places, routes, *words)
         return self.out
 
     def changed(self, folder, **changes):
-        """Writes other things into the record of a folder."""
+        """Replaces values in the record of a folder."""
         record = json.loads((folder / "plan.json").read_text(encoding="utf-8"))
         (folder / "plan.json").write_text(json.dumps({**record, **changes}), encoding="utf-8")
         return record

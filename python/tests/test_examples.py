@@ -1,8 +1,8 @@
-"""The plans of examples/plans/, compared with what is stored there; `store_examples.py` writes what
-they give now.
+"""Compares the results of the plans of examples/plans/ with the stored ones; `store_examples.py`
+stores the present results.
 
-A folder has its tables, the words of the call in call.txt where they aren't the usual ones, and
-`expected/` with the results and what is said.
+Each folder has tables and `expected/` with the results and messages. If the arguments aren't the
+usual ones, call.txt has them.
 """
 import copy
 import os
@@ -11,7 +11,7 @@ import re
 from mcf_plan import flownet, model, solve, tables
 from support import COMPARED, PLANS, TOP, WithFolder, rows_of, run
 
-# Examples that are solved again with one unit more and one less.
+# Examples that the tests solve again with one unit more and one unit less.
 SOLVED_AGAIN = ("transport", "network", "degenerate")
 
 
@@ -34,7 +34,8 @@ class Examples(WithFolder):
         )
 
     def solved(self, problem, **changes):
-        """The plan of a problem, perhaps with other places or routes, or None."""
+        """The plan of a problem, with other places or routes if given, or None if no plan
+        exists."""
         changed = copy.copy(problem)
         vars(changed).update(changes)
         net = flownet.FlowNet(changed)
@@ -75,7 +76,7 @@ class Examples(WithFolder):
                         self.check_units(problem, plan, begin, end, units)
 
     def check_units(self, problem, plan, begin, end, units):
-        """Whether the figures hold of units more from one place to another."""
+        """Checks the figures on one more unit, and on units from one place to another."""
         figure = plan.places[end].price - plan.places[begin].price
         changed = list(problem.places)
         changed[begin] = changed[begin]._replace(supply=changed[begin].supply + units)
@@ -107,7 +108,7 @@ def example_folders():
 
 
 def call_of(folder):
-    """The words of the call of an example, which is made in its folder."""
+    """The arguments of the call of an example, which runs in the example's folder."""
     if (folder / "call.txt").exists():
         return (folder / "call.txt").read_text(encoding="utf-8").split()
     if (folder / "places.csv").exists():
@@ -116,7 +117,7 @@ def call_of(folder):
 
 
 def results_of(folder, out):
-    """What the tool writes and says on an example."""
+    """The tables and messages that the tool writes for an example."""
     here = os.getcwd()
     os.chdir(folder)
     try:

@@ -1,4 +1,4 @@
-"""mcf_explain: what it says of instances, and that this agrees with mcf."""
+"""Tests of mcf_explain: its explanations of instances, and that they agree with mcf."""
 import contextlib
 import io
 import random
@@ -12,7 +12,7 @@ from support import TOP, WithFolder, script
 
 GOOD = "p min 3 2\nn 1 4\nn 3 -4\na 1 2 0 9 1\na 2 3 0 9 1\n"
 ASSIGNMENT = "p asn 4 3\nn 1\nn 2\na 1 3 5\na 2 3 1\na 2 4 2\n"
-# A text, and what is said of it: of the first fault, and of its usual cause.
+# A text, and its explanation: the first fault, and its usual cause.
 SAID = [
     (b"\xef\xbb\xbfp min 1 0\n", "r 1 kind", "the file begins with a byte-order mark"),
     (b"\x1f\x8b\x08\x00\x00", "r 1 kind", "the file is compressed by gzip"),
@@ -39,10 +39,10 @@ SAID = [
 
 
 class Explain(WithFolder):
-    """What is said."""
+    """The explanations."""
 
     def explained(self, data):
-        """What is said of a text, and the status."""
+        """The explanation of a text, and the status."""
         lines, status = cli.explained("text", data, Programs(None))
         return "\n".join(lines), status
 

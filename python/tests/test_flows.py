@@ -1,7 +1,7 @@
-"""Plans of flows, and why there are none."""
+"""Tests of flow plans, and of the messages if no plan exists."""
 from support import PLACES, ROUTES, WithFolder, rows_of
 
-# What `mcf` refuses, and the table's line that it came from.
+# Refusals of `mcf`, and the line of the table that caused them.
 REFUSED_FLOWS = [
     (
         "name,supply\n\nA,1000000000000000001\nB,-1000000000000000001\n",
@@ -34,7 +34,7 @@ REFUSED_FLOWS = [
         "routes.csv, line 1002, column cost: with this route, costs",
     ),
 ]
-# The same two tables as PLACES and ROUTES, written in other ways that mean the same.
+# Other spellings of the tables PLACES and ROUTES, with the same meaning.
 SAME_PLACES = [
     "\ufeffname,supply\nMill,30\nWien,-18\nGraz,-12\n",
     "Name;Supply\r\nMill;30\r\nWien;-18\r\nGraz;-12\r\n",
@@ -48,7 +48,7 @@ SAME_PLACES = [
 
 
 class Flows(WithFolder):
-    """Plans, and why there are none."""
+    """Plans, and the messages if none exists."""
 
     def test_a_plan(self):
         status, said, told = self.flow(PLACES, ROUTES)
@@ -165,7 +165,7 @@ class Flows(WithFolder):
 
 
 class Unbalanced(WithFolder):
-    """Supplies and demands that don't agree."""
+    """Tables whose supplies and demands have different sums."""
 
     PLACES = "name,supply\nA,9\nB,4\nC,-7\nD,-3\n"
     ROUTES = "from,to,most,cost\nA,C,9,2\nA,D,9,5\nB,C,9,1\nB,D,2,1\n"

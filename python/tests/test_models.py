@@ -1,5 +1,5 @@
-"""What tables may ask beyond plain routes, compared with glpsol, which gets the problem as it is
-meant, and with networkx."""
+"""Compares plans from tables with all kinds of columns with glpsol, which gets the problem as a
+linear program, and with networkx."""
 import collections
 import copy
 import importlib.util
@@ -19,7 +19,7 @@ GLPSOL = shutil.which("glpsol")
 
 
 class Case:
-    """Random places and routes with all that columns may say, as tables and as a linear program."""
+    """Random places and routes that use all columns, as tables and as a linear program."""
 
     def __init__(self, seed, policy=None):
         draw = random.Random(seed)
@@ -41,7 +41,7 @@ class Case:
 
     @staticmethod
     def route(draw, count):
-        """A route: its ends, its least, its steps, and whether it is used both ways."""
+        """A route: its ends, its least amount, its steps, and whether it goes both ways."""
         both = draw.random() < 0.3
         steps, cost = [], draw.randint(0, 9)
         for _ in range(draw.randint(1, 3)):
@@ -81,7 +81,8 @@ class Case:
         return "\n".join(places) + "\n", "\n".join(routes) + "\n"
 
     def program(self):
-        """The linear program: an amount for each step and way; sums for each place."""
+        """The linear program: a variable for each step and direction, a constraint for each
+        place."""
         costs, rows, bounds, outs, ins = [], [], [], {}, {}
         for number, (tail, head, least, steps, both) in enumerate(self.routes):
             for step, (most, cost) in enumerate(steps):
@@ -118,8 +119,8 @@ class Case:
         return program_text(costs, rows, bounds)
 
     def balance(self, number, supply, outs, ins, costs):
-        """What goes out of a place is what comes in and what is sent there, less what is taken and
-        isn't missing."""
+        """Flow conservation at a place: outflow = inflow + what the place sends - what it takes,
+        without what is missing there."""
         out, come = outs.get(number, []), ins.get(number, [])
         if supply < 0:
             costs.append((self.penalty, f"lack{number}"))
@@ -127,7 +128,7 @@ class Case:
         return f"{sum_of(out, come + [f'sent{number}'] * (supply > 0))} = 0"
 
     def is_one_sided(self):
-        """Whether places send and none takes, or the other way round."""
+        """Whether some places send and none takes, or some take and none sends."""
         return (max(self.supplies) > 0) != (min(self.supplies) < 0)
 
     def words(self):
@@ -152,7 +153,7 @@ def program_text(costs, rows, bounds):
 
 
 def sum_of(added, taken):
-    """A sum of a linear program, in which each name stands once."""
+    """A sum of a linear program, in which each name occurs once."""
     counts = collections.Counter(added)
     counts.subtract(taken)
     return (
@@ -164,10 +165,12 @@ def sum_of(added, taken):
 
 
 class OneMoreUnit(WithFolder):
-    """What one more unit of room saves, of routes with steps and both ways, and of places."""
+    """The saving by one more unit of room (capacity), of routes with steps and in both directions,
+    and of places."""
 
     def solved(self, problem, **changes):
-        """The plan of a problem, perhaps with other places or routes, or None."""
+        """The plan of a problem, with other places or routes if given, or None if no plan
+        exists."""
         changed = copy.copy(problem)
         vars(changed).update(changes)
         net = FlowNet(changed, Policy(unused=True, short=True, penalty=40))
@@ -191,7 +194,7 @@ class OneMoreUnit(WithFolder):
         self.assertTrue(seen[True, True] > 5 and seen[True, False] > 5, seen)
 
     def wider(self, problem, plan):
-        """Results with the plans that one more unit of room gives, where there is a limit."""
+        """The results of plans with one more unit of room, for each limit."""
         for number, (route, result) in enumerate(zip(problem.routes, plan.routes)):
             if route.most is not None:
                 step = Step(route.steps[-1].most + 1, route.steps[-1].cost)
@@ -209,10 +212,10 @@ class OneMoreUnit(WithFolder):
 
 @unittest.skipUnless(GLPSOL, "glpsol isn't there: what tables may ask, compared with it")
 class WithGlpsol(WithFolder):
-    """All that columns may say, at once."""
+    """All columns at once."""
 
     def best(self, case):
-        """The least cost by glpsol, or None where there is no plan."""
+        """The least cost by glpsol, or None if no plan exists."""
         program = self.put("case.lp", case.program())
         done = subprocess.run(
             [GLPSOL, "--lp", str(program), "-o", str(self.folder / "case.sol")],
@@ -254,7 +257,7 @@ class WithGlpsol(WithFolder):
     "networkx isn't there: the most flow at the least cost, compared with it",
 )
 class WithNetworkx(WithFolder):
-    """The most flow at the least cost."""
+    """The greatest flow at the least cost."""
 
     def test_random_networks(self):
         import networkx
@@ -286,7 +289,7 @@ class WithNetworkx(WithFolder):
 
 
 class Columns(WithFolder):
-    """What columns may say, one by one."""
+    """The columns, one by one."""
 
     def test_steps(self):
         routes = (

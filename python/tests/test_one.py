@@ -1,4 +1,4 @@
-"""mcf_one: one instance solved and judged, and the log of many."""
+"""Tests of mcf_one: one instance solved and judged, and the log of many."""
 import csv
 import hashlib
 import itertools
@@ -16,10 +16,10 @@ FLOW = "p min 2 1\nn 1 3\nn 2 -3\na 1 2 0 4 5\n"
 
 
 class One(WithFolder):
-    """The script, with the shells that are there."""
+    """The script, run by each shell that is installed."""
 
     def run_one(self, *words, **variables):
-        """Runs the script: its status and what it says."""
+        """Runs the script. Returns its status and its output."""
         environment = {
             **os.environ,
             "MCF_BIN": os.path.dirname(Programs(None).solver),
@@ -114,7 +114,7 @@ class One(WithFolder):
         )
 
     def run_one_with(self, path, **variables):
-        """Begins the script in a group of its own."""
+        """Starts the script in its own process group."""
         return subprocess.Popen(
             ["/bin/sh", TOOL, str(path)],
             env=dict(os.environ, MCF_BIN=str(self.folder), **variables),

@@ -1,4 +1,4 @@
-"""The page of a plan, in Chromium where it is there."""
+"""Tests of the page of a plan, in Chromium if it is installed."""
 import hashlib
 import html.parser
 import json
@@ -17,7 +17,7 @@ from support import PLACES, ROUTES, WithFolder, run
 CHROMIUM = (
     shutil.which("chromium") or shutil.which("chromium-browser") or shutil.which("google-chrome")
 )
-# What is done with a page in the browser, and what is told of it.
+# A script that acts on a page in the browser and reports the result in the title.
 TRIED = """
 const said = {}, table = document.querySelectorAll("section table")[1];
 const seen = () => Array.from(table.tBodies[0].rows).filter(row => !row.hidden);
@@ -53,7 +53,7 @@ document.title = "said " + JSON.stringify(said);
 
 
 class Balanced(html.parser.HTMLParser):
-    """Notes tags that aren't closed in their order, and what a page would fetch."""
+    """A parser that notes unclosed tags and the addresses that a page would fetch."""
 
     def __init__(self):
         super().__init__()
@@ -77,7 +77,7 @@ class Pages(WithFolder):
     """report.html."""
 
     def page(self):
-        """The text of the page, which is well formed and fetches nothing."""
+        """The text of the page. Checks that it is well formed and fetches nothing."""
         text = (self.out / "report.html").read_text(encoding="utf-8")
         parser = Balanced()
         parser.feed(text)
@@ -206,7 +206,7 @@ class Pages(WithFolder):
         self.assertNotIn("<svg", self.page())
 
     def in_chromium(self, page):
-        """What a page says of itself in its title, once the browser has run it."""
+        """The title of a page, which its script sets, after the browser has run it."""
         done = subprocess.run(
             [
                 CHROMIUM,

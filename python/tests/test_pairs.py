@@ -1,4 +1,4 @@
-"""Pairs, rosters, and who competes."""
+"""Tests of pairs and rosters, and of messages about persons who compete."""
 import itertools
 import random
 
@@ -61,11 +61,11 @@ class Pairs(WithFolder):
 
 
 class Each(WithFolder):
-    """Who has to get one."""
+    """The option that says which side must be matched completely."""
 
     def nurses(self, count, shifts, shut=()):
-        """A matrix of nurses and shifts, with costs of a pattern; nobody may do those that are
-        shut."""
+        """A matrix of nurses and shifts with a pattern of costs. The shifts in `shut` are forbidden
+        for everybody."""
         lines = [";" + ";".join(f"Schicht {shift}" for shift in range(shifts))]
         for nurse in range(count):
             lines.append(

@@ -1,4 +1,4 @@
-"""The picture, with Graphviz where it is there, and without it."""
+"""Tests of the picture, with Graphviz if it is installed, and without it."""
 import datetime
 import itertools
 import math
@@ -10,10 +10,11 @@ from unittest import mock
 from mcf_plan import drawing, layout, picture, scene
 from support import PLACES, ROUTES, WithFolder, rows_of, script
 
-# Kinds of routes; how an arrow between dots begins: with the seven corners of its line and head.
+# The kinds of routes, and the beginning of an arrow between dots: the seven corners of its line and
+# head.
 KINDS = ("flowing", "full", "idle")
 ARROW = r'<path class="(?:flowing|full)" d="M[-0-9.]+,[-0-9.]+(?: L[-0-9.]+,[-0-9.]+){6} Z'
-# Long names, and what stands of them in boxes: their ends, or where they differ.
+# Long names, and their short forms in boxes: their ends, or the part where they differ.
 LONG_NAMES = (
     (
         [
@@ -51,7 +52,7 @@ def rectangles(drawn, kind):
 
 
 def overlap(one, other, within=0.11):
-    """Whether two rectangles overlap by more than their rounded edges show."""
+    """Whether two rectangles overlap by more than their rounded edges."""
     return (
         other[0] + within < one[2]
         and one[0] + within < other[2]
@@ -61,15 +62,15 @@ def overlap(one, other, within=0.11):
 
 
 class Pictures(WithFolder):
-    """The picture, with Graphviz where it is there, and without it."""
+    """The picture, with Graphviz if it is installed, and without it."""
 
     def drawn(self, places, routes):
-        """The texts of the picture."""
+        """Draws the picture, and returns its texts."""
         self.flow(places, routes)
         return self.texts()
 
     def texts(self):
-        """The texts of the picture that was drawn last."""
+        """The texts of the last picture."""
         root = xml.etree.ElementTree.parse(self.out / "plan.svg").getroot()
         return [element.text for element in root.iter("{http://www.w3.org/2000/svg}text")]
 
@@ -148,7 +149,7 @@ class Pictures(WithFolder):
             notes = {"flowing": "as wide as it carries (widest 999999)", "full": "full"}
             drawn = picture.svg_of(scene.Scene("", nodes, links, [{5}], notes))
             texts = re.findall("<text [^>]*>([^<]*)</text>", drawn)
-            # What blocks is named first, then the ends of the widest route.
+            # The picture names the places that block first, then the ends of the widest route.
             self.assertLessEqual({"Ort 5", "Ort 7", "Ort 230", "999999"}, set(texts))
             self.assertLessEqual({*notes.values(), "passes on", drawing.BLOCKS}, set(texts))
             self.assertEqual(
@@ -250,7 +251,7 @@ class Pictures(WithFolder):
         for name in ("Werk", "Markt"):
             self.assertLessEqual({f"{name} {k}" for k in range(150)}, set(texts))
         left, top, wide, high = map(float, re.search('viewBox="(.*?)"', drawn)[1].split())
-        # On a page 1310 wide the names are at least 9 px high, and the page is used.
+        # On a page 1310 px wide the names are at least 9 px high, and the picture fills the page.
         self.assertGreater(12 * 1310 / wide, 9)
         self.assertGreater(wide, 900)
         carried = sum(row["carries"] != "0" for row in rows_of(self.out / "flows.csv"))

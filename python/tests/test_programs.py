@@ -1,4 +1,4 @@
-"""Programs that are missing, that fail, or that say what isn't so."""
+"""Tests with programs that are missing, fail, or print wrong answers."""
 import shutil
 
 from mcf_plan import solve
@@ -7,10 +7,10 @@ from support import COMPARED, PLACES, ROUTES, WithFolder, script
 
 
 class Programs(WithFolder):
-    """Programs that are missing, that fail, or that say what isn't so."""
+    """Programs that are missing, fail, or print wrong answers."""
 
     def judged(self, solver, checker):
-        """What the tool does with these two programs."""
+        """The status and output of the tool with these two programs."""
         script(self.folder / "mcf", solver)
         script(self.folder / "mcfcheck", checker)
         status, said, told = self.flow(PLACES, ROUTES, "--programs", self.folder)

@@ -1,4 +1,5 @@
-"""Exit statuses, signals, want of memory, and folders that are written whole or not at all."""
+"""Tests of exit statuses, signals, refused memory, and of folders, which the tool writes completely
+or not at all."""
 import os
 import pty
 import resource
@@ -19,12 +20,12 @@ class Statuses(WithFolder):
     """The tool as a process."""
 
     def words(self, *more):
-        """A call on two tables that have a plan."""
+        """The arguments for two tables that have a plan."""
         tables = [str(self.put("places.csv", PLACES)), str(self.put("routes.csv", ROUTES))]
         return TOOL + ["flow", *tables, "-o", str(self.out), *more]
 
     def left(self):
-        """What stands in the folder of the test besides the tables."""
+        """The names in the test's folder besides the tables."""
         return sorted(
             path.name
             for path in self.folder.iterdir()

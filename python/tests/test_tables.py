@@ -1,4 +1,4 @@
-"""What is said of tables that can't be read as meant."""
+"""Tests of the messages about tables that can't be read as intended."""
 import importlib.util
 import json
 import pathlib
@@ -7,16 +7,16 @@ import unittest
 
 from support import PLACES, ROUTES, WithFolder, rows_of, run
 
-# Tables with options, and what has to be said of them with which status; the page that solves is
-# tested by the same list.
+# Tables with options, the expected status and message. The tests of the browser page use the same
+# list.
 RULES = json.loads((pathlib.Path(__file__).parent / "rules.json").read_text(encoding="utf-8"))
 
 
 class Rules(WithFolder):
-    """The list of rules: how tables are read, and what is said."""
+    """The list of rules: how tables are read, and the messages."""
 
     def said_of(self, rule, *more):
-        """What the tool says of the tables of a rule, and its status."""
+        """The message of the tool about the tables of a rule, and its status."""
         for name in ("places", "routes", "costs"):
             if name in rule:
                 table = rule[name]
@@ -31,7 +31,7 @@ class Rules(WithFolder):
 
     def test_what_is_said(self):
         for rule in RULES:
-            # What isn't for mcf to refuse is told before anything is run.
+            # The tool reports faults that `mcf` wouldn't refuse before it runs a program.
             early = rule["status"] == 2 and not any("(mcf: " in text for text in rule["says"])
             with self.subTest(says=rule["says"]):
                 status, said = self.said_of(
@@ -45,7 +45,8 @@ class Rules(WithFolder):
 
 
 class BadTables(WithFolder):
-    """What is said of tables that can't be read as meant, before anything is run."""
+    """Messages about tables that can't be read as intended. The tool writes them before it runs a
+    program."""
 
     def test_each_kind_of_fault_is_told_once(self):
         places = "name,supply\n" + "".join(f"A{k},x{k}\n" for k in range(300)) + "A1,1\n"
@@ -102,7 +103,7 @@ class BadTables(WithFolder):
 
 
 class Reading(WithFolder):
-    """What planners have is read."""
+    """The forms of tables that planners have."""
 
     def total(self, costs, *more, places="name;supply\nA;2,5\nB;-2,5\n"):
         """The cost of a plan over one route of this cost."""
@@ -228,7 +229,7 @@ class Workbooks(WithFolder):
     """Excel workbooks."""
 
     def book(self, **sheets):
-        """A workbook of these sheets."""
+        """A workbook with these sheets."""
         import openpyxl
 
         book = openpyxl.Workbook()

@@ -1,5 +1,5 @@
-"""What docs/LIBRARY.md and the docstrings show, as mypy has to take it; run, it says whether it is
-so. Needs numpy, as its arrays are part of it. MCF_LIBRARY names the library."""
+"""The calls in docs/LIBRARY.md and in the docstrings, for mypy to check; as a program it checks
+their results. Needs numpy, because some calls take its arrays. MCF_LIBRARY names the library."""
 import os
 import sys
 from decimal import Decimal
@@ -13,7 +13,7 @@ import mcf
 
 
 def labels() -> None:
-    """Whole numbers stay ints, and prices are looked up by label."""
+    """Ints give ints, and prices are found by label."""
     r = mcf.solve(
         {"mill": 4, "shop": -4},
         [("mill", "depot", 2, 1), ("mill", "shop", None, 5), ("depot", "shop", 3, 1)],
@@ -29,7 +29,7 @@ def labels() -> None:
 
 
 def places() -> None:
-    """Prices by place where supplies have no labels."""
+    """A list of prices, if the supplies have no labels."""
     r = mcf.solve([4, -4], [(0, 1, 3, 2), (0, 1, 9, 5)])
     cost: int = r.cost
     price: int = r.prices[1]
@@ -39,7 +39,7 @@ def places() -> None:
 
 
 def decimals() -> None:
-    """Other numbers, and arcs in lists."""
+    """Other types of numbers, and arcs as lists."""
     r = mcf.solve([0.5, Decimal("-0.5")], [[0, 1, float("inf"), Fraction(3, 2)]])
     cost: float = r.cost
     price: float = r.prices[1]
@@ -50,7 +50,7 @@ def decimals() -> None:
 
 
 def arrays() -> None:
-    """Arrays of numpy, whatever takes numbers."""
+    """Numpy arrays, for each argument that takes numbers."""
     r = mcf.solve(np.array([4, 0, -4]), np.array([[0, 1, 3, 1], [1, 2, 3, -1], [0, 2, 9, 5]]))
     cost: float = r.cost
     assert (cost, r.flow) == (5, [3, 3, 1])
@@ -73,7 +73,7 @@ def assignments() -> None:
 
 
 def exceptions() -> None:
-    """What exceptions have to tell."""
+    """The attributes of the exceptions."""
     try:
         mcf.solve([1, -1], [(1, 0, 5, 3)])
     except mcf.Infeasible as error:
