@@ -3,8 +3,12 @@
 
     scripts/documents.py write     writes DEFINITIONS, CONTRACTS, HEADLINE, CHOSEN, RUNS and MADE
                                    in docs/
-    scripts/documents.py check     lists those that differ from what `write` would write, and
-                                   public names without a comment; status 1 if there is one
+    scripts/documents.py check     lists those that differ from what `write` would write, public
+                                   names without a comment, pages that are too long, commands and
+                                   links of pages that lead nowhere, and blocks that don't say how
+                                   they run (scripts/commands.py); status 1 if there is one
+    scripts/documents.py run [PAGE ..]
+                                   runs the blocks of these pages, or of all pages that run
 
 scripts/headline.md, chosen.md, runs.md and made.md have the handwritten parts of the last four; a
 line there that begins with `@` is a placeholder for a generated part.
@@ -14,6 +18,8 @@ import pathlib
 import re
 import sys
 import textwrap
+
+import commands
 
 TOP = pathlib.Path(__file__).resolve().parent.parent
 CRATES = TOP / "crates"
@@ -658,6 +664,7 @@ def faults():
         count = len((TOP / name).read_text().split())
         if count > most:
             yield f"{name} has {count} words, and may have {most}"
+    yield from commands.faults([f"docs/{name}" for name in PAGES])
     for name, made in PAGES.items():
         if not (DOCS / name).exists() or (DOCS / name).read_text() != made():
             yield f"docs/{name} isn't what `scripts/documents.py write` writes today"
@@ -679,6 +686,8 @@ def main():
         found = list(faults())
         print("\n".join(found) or "documents: as the code and the spec files say")
         sys.exit(1 if found else 0)
+    elif sys.argv[1:2] == ["run"]:
+        sys.exit(1 if commands.run_all(sys.argv[2:] or list(commands.PAGES)) else 0)
     else:
         sys.exit(__doc__)
 

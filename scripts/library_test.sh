@@ -67,7 +67,7 @@ if has cc C; then
 fi
 has c++ C++ && step "the header in C++" c++ -std=c++98 -Wall -Wextra -Werror -Wno-long-long -x c++ -fsyntax-only library/mcf.h
 has cargo Rust && step "Rust" env MCF_LIB_DIR="$top/bin" CARGO_TARGET_DIR="$out/rust" cargo test --offline --quiet --manifest-path library/rust/Cargo.toml
-has python3 Python
+has python3 Python && { step "commands of docs/LIBRARY.md" scripts/documents.py run docs/LIBRARY.md; grep '^documents: skipped: ' "$out/log" | sed 's/^documents/library-test/'; }
 for python in $(interpreters); do
     version=$("$python" -V)
     step "$version" env MCF_LIBRARY="$top/bin/libmcf.so" "$python" python/tests/library.py

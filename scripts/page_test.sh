@@ -1,5 +1,5 @@
 #!/bin/sh
-# Builds the page's module (page/build.sh), packs the page, and runs the tests that need only node.
+# Builds the page by the commands of docs/PAGE.md, and runs the tests that need only node.
 # It reports what it skips, and why.
 set -u
 cd "$(dirname "$0")/.." || exit 1
@@ -9,5 +9,5 @@ if ! command -v node > /dev/null; then
 elif ! lacking=$(page/build.sh --needs 2>&1); then
     echo "page: skipped: the module can't be built: ${lacking#page: }"
 else
-    page/build.sh && python3 page/pack.py && node page/test.mjs
+    scripts/documents.py run docs/PAGE.md && node page/test.mjs
 fi

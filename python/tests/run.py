@@ -1,6 +1,6 @@
 #!/usr/bin/env python3
-"""Runs the tests of the Python tools, or those of the modules that are named, and says what was
-skipped: status 0 if none failed.
+"""Runs the tests of the Python tools, or those of the named modules, and prints what they skip. The
+status is 0 if no test failed.
 
     python/tests/run.py [test_flows ..]
 """
@@ -10,7 +10,7 @@ import unittest
 
 HERE = pathlib.Path(__file__).resolve().parent
 sys.dont_write_bytecode = True
-sys.path[:0] = [str(HERE), str(HERE.parent)]
+sys.path[:0] = [str(HERE), str(HERE.parent), str(HERE.parents[1] / "scripts")]
 
 
 def main(names):

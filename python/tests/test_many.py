@@ -1,15 +1,15 @@
-"""The script of docs/MANY.md for Dask, where the library is built: Dask itself is replaced."""
+"""Runs the Dask script of docs/MANY.md with a stand-in for Dask, if the library is built."""
 import contextlib
 import csv
 import io
 import os
 import sys
-import textwrap
 import types
 import unittest
 from unittest import mock
 
-from support import TOP, WithFolder
+import commands
+from support import WithFolder
 
 try:
     import mcf
@@ -19,7 +19,7 @@ FLOW = "p min 2 1\nn 1 3\nn 2 -3\na 1 2 0 %s 5\n"
 
 
 class Job:
-    """A job that is done, or that has killed its workers."""
+    """A finished job, or one that killed its workers."""
 
     def __init__(self, work, path):
         self.status = "error" if path.stem == "killed" else "finished"
@@ -27,7 +27,7 @@ class Job:
 
 
 class Client:
-    """A cluster that does a job when its result is asked for, in this process."""
+    """A cluster that runs a job in this process when the caller asks for its result."""
 
     def __init__(self, **_):
         pass
@@ -54,10 +54,8 @@ class Many(WithFolder):
         (self.folder / "jobs").mkdir()
 
     def test_the_script(self):
-        page = (TOP / "docs" / "MANY.md").read_text(encoding="utf-8")
-        script = textwrap.dedent(
-            page[page.index("    import csv\n") : page.index("\nOf 24 instances")]
-        )
+        blocks = commands.blocks("docs/MANY.md")
+        (script,) = [block.text for block in blocks if block.words.get("file") == "many.py"]
         for name, text in (
             ("a b", FLOW % 4),
             ("blocked", FLOW % 2),
