@@ -11,6 +11,9 @@ The tag of a fenced block says how it runs, in a folder that looks like the repo
 Words after the tag say more. `file=NAME` saves the block, of any language, as a file for later
 blocks. `needs=TOOL,..` skips the block if a tool is missing. `status=N` is the exit status that a
 block of `sh` must end with. `not-run` marks commands that don't run here; NOT_RUN has the reasons.
+
+In a manual page, the examples that begin with "$ " are blocks of `console`, in a folder that also
+has the instances of examples/. A file that they show by `cat`, and that doesn't exist, is made.
 """
 import contextlib
 import os
@@ -31,6 +34,10 @@ PAGES = (
     "docs/PAGE.md",
     "examples/README.md",
     "examples/plans/README.md",
+    "man/mcf.1",
+    "man/mcf_explain.1",
+    "man/mcf_plan.1",
+    "man/mcfcheck.1",
 )
 # Those that run in the repository itself, because they build something.
 IN_REPOSITORY = ("docs/PAGE.md",)
@@ -43,6 +50,8 @@ NOT_RUN = {
     ("docs/PAGE.md", "python3 -m http.server -d bin"): "the server runs until it is stopped",
 }
 SECONDS = 100
+# The characters that manual pages escape.
+ROFF = {"-": "-", "\\": "\\", "(rs": "\\", "(aq": "'"}
 
 
 class Block(NamedTuple):
@@ -74,8 +83,24 @@ class Outcome(NamedTuple):
     failed: str = ""
 
 
+def is_manual(page: str) -> bool:
+    return page.endswith(".1")
+
+
+def examples(page: str) -> List[Block]:
+    """The examples of a manual page that begin with a command."""
+    text = (TOP / page).read_text(encoding="utf-8")
+    found = []
+    for match in re.finditer(r"(?ms)^\.nf\n(\$ .*?)^\.fi$", text):
+        shown = re.sub(r"\\(-|\\|\(rs|\(aq)", lambda escape: ROFF[escape[1]], match[1])
+        found.append(Block(page, text.count("\n", 0, match.start()) + 1, "console", {}, shown))
+    return found
+
+
 def blocks(page: str) -> List[Block]:
-    """The fenced blocks of a page."""
+    """The fenced blocks of a page, or the examples of a manual page."""
+    if is_manual(page):
+        return examples(page)
     found, head, first, body = [], None, 0, []
     for number, line in enumerate((TOP / page).read_text(encoding="utf-8").splitlines(), 1):
         if head is None and line.startswith("```"):
@@ -132,6 +157,13 @@ def fill(folder: pathlib.Path) -> None:
         (folder / name).symlink_to(TOP / name)
 
 
+def install(scratch: pathlib.Path) -> None:
+    """Puts programs and tools on the path, and the instances of examples/ into the folder."""
+    (scratch / "exported").write_text('export PATH="$PWD/bin:$PWD/tools:$PATH"\n')
+    for instance in (TOP / "examples").glob("*.min"):
+        (scratch / "repository" / instance.name).symlink_to(instance)
+
+
 @contextlib.contextmanager
 def place_of(page: str) -> Iterator[Place]:
     """Where the blocks of a page run: a temporary folder, or the repository."""
@@ -141,18 +173,20 @@ def place_of(page: str) -> Iterator[Place]:
             yield Place(TOP, scratch)
         else:
             fill(scratch / "repository")
+            if is_manual(page):
+                install(scratch)
             yield Place(scratch / "repository", scratch)
 
 
-def bash(command: str, place: Place) -> "subprocess.CompletedProcess[str]":
-    """Runs a command with the variables that earlier commands of the page exported."""
+def bash(command: str, place: Place, *options: str) -> "subprocess.CompletedProcess[str]":
+    """Runs a command by bash, with the variables that earlier commands of the page exported."""
     state = place.scratch / "exported"
     kept = {k: v for k, v in os.environ.items() if k not in ("MCF_LIBRARY", "MCF_LOG")}
     # The tools look for the programs beside their own files, not beside the links to them.
     kept["MCF_BIN"] = str(place.folder / "bin")
     script = f'[ ! -f "{state}" ] || . "{state}"; trap \'export -p > "{state}"\' EXIT\n{command}'
     return subprocess.run(
-        ["bash", "-e", "-o", "pipefail", "-c", script],
+        ["bash", *options, "-c", script],
         cwd=place.folder,
         env=kept,
         stdin=subprocess.DEVNULL,
@@ -180,21 +214,31 @@ def sessions(text: str) -> Iterator[Tuple[str, str]]:
         yield command, shown
 
 
+def console_failure(block: Block, place: Place) -> str:
+    """Runs the commands of a block of `console`, and returns the first difference, or an empty
+    text."""
+    for command, shown in sessions(block.text):
+        file = place.folder / command[len("cat ") :]
+        is_made = is_manual(block.page) and re.fullmatch(r"cat [\w.]+", command)
+        if is_made and not file.exists():
+            file.write_text(shown, encoding="utf-8")
+        done = bash(command, place)
+        printed = done.stdout + done.stderr
+        if not re.fullmatch(pattern(shown), printed):
+            return f"`{command}` prints\n{printed}and the page shows\n{shown}"
+    return ""
+
+
 def failure(block: Block, place: Place) -> str:
-    """Runs a block, and gives what was wrong, or an empty text."""
+    """Runs a block, and returns what was wrong, or an empty text."""
     if block.tag == "console":
-        for command, shown in sessions(block.text):
-            done = bash(command, place)
-            printed = done.stdout + done.stderr
-            if not re.fullmatch(pattern(shown), printed):
-                return f"`{command}` prints\n{printed}and the page shows\n{shown}"
-        return ""
+        return console_failure(block, place)
     command = block.text
     if block.tag == "pycon":
         session = place.scratch / "session.txt"
         session.write_text(block.text, encoding="utf-8")
         command = f'python3 -m doctest "{session}"'
-    done = bash(command, place)
+    done = bash(command, place, "-e", "-o", "pipefail")
     if done.returncode == int(block.words.get("status", 0)):
         return ""
     return f"ends with status {done.returncode}:\n{command}{done.stdout}{done.stderr}"
@@ -360,7 +404,7 @@ def faults(generated: List[str]) -> Iterator[str]:
     """The faults of all handwritten pages, as texts."""
     pages = [str(path.relative_to(TOP)) for path in TOP.glob("*.md")]
     pages += [str(path.relative_to(TOP)) for path in TOP.glob("docs/*.md")]
-    pages += [page for page in PAGES if page not in pages]
+    pages += [page for page in PAGES if page not in pages and not is_manual(page)]
     for page in sorted(set(pages) - set(generated)):
         for line, span in spans(page):
             why = command_fault(span.strip())
@@ -368,7 +412,7 @@ def faults(generated: List[str]) -> Iterator[str]:
                 yield f"{page}:{line}: `{span.strip()}`: {why}"
         yield from link_faults(page)
     for page in PAGES:
-        yield from block_faults(page)
+        yield from () if is_manual(page) else block_faults(page)
     shown = [block for page in PAGES for block in blocks(page) if block.is_not_run]
     for key in NOT_RUN:
         if not any(block.begins(*key) for block in shown):
