@@ -8,6 +8,8 @@
 #[cfg(test)]
 mod assignments;
 #[cfg(test)]
+mod columns;
+#[cfg(test)]
 mod doubles;
 #[cfg(test)]
 mod matrices;

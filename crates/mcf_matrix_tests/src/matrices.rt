@@ -43,12 +43,15 @@ fn shapes_are_judged(rt: HostRuntime) -> Result<(), Fail> {
     Ok(())
 }
 
-// Whether the second row of two, a place apart from the first, reads as it stands.
+// Returns whether a matrix of two rows with a stride of 3 reads as expected.
 fn reads_its_rows(costs: &[i64]) -> bool {
     let Ok(matrix) = Matrix::of(costs, 2, 2, 3) else {
         return false;
     };
-    if matrix.rows() != 2 || matrix.columns() != 2 {
+    if matrix.rows() != 2 || matrix.columns() != 2 || matrix.stride() != 3 {
+        return false;
+    }
+    if matrix.entries().len() != costs.len() {
         return false;
     }
     let second = matrix.row(1);
