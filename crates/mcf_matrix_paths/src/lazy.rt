@@ -1,7 +1,8 @@
 //! A search over lists of the least entries of rows, which scans a whole row only if an entry that
 //! isn't listed may be on a shortest path.
 
-use crate::bidding::{Bid, Bidder, reduce_rows};
+use crate::augmenting::{Augmenter, assign_rows, lower_settled};
+use crate::bidding::{Bid, Bidder};
 use crate::heap::{Entry, Heap, Task};
 use crate::lists::{Listed, Lists};
 use crate::reduction::reduce_columns;
@@ -160,14 +161,7 @@ impl<'a> Lazy<'a> {
             }
             self.transfer_all(free.len() >= rows / FEW_FREE);
         }
-        reduce_rows(self, free, left, rows);
-        reduce_rows(self, left, free, rows);
-        'rows: for place in 0..free.len() {
-            if !self.augment(free.get(place)) {
-                return false;
-            }
-        }
-        true
+        assign_rows(self, free, left, rows)
     }
 
     // Lowers the price of each row's column until the row's second best column is as good
@@ -198,22 +192,6 @@ impl<'a> Lazy<'a> {
         let allows = self.budget >= entries;
         self.budget = self.budget.saturating_sub(entries);
         allows
-    }
-
-    // Augments the matching along a shortest path from a free row. Returns whether the budget
-    // allowed it.
-    fn augment(&mut self, free: u32) -> bool {
-        self.heap.clear();
-        self.stack.clear();
-        self.settled.clear();
-        self.marks.begin();
-        self.offer_listed(free, 0);
-        if !self.find_end() || self.heap.has_overflowed || self.marks.end == NOWHERE {
-            return false;
-        }
-        self.lower_settled();
-        self.turn(free);
-        self.pay(PATH_ENTRIES)
     }
 
     // Settles columns and scans rows until a free column is nearest. Returns false if the budget is
@@ -352,15 +330,6 @@ impl<'a> Lazy<'a> {
         }
     }
 
-    // Lowers the price of each settled column by how much nearer it is than the end of the path.
-    fn lower_settled(&mut self) {
-        'columns: for place in 0..self.settled.len() {
-            let column = self.settled.get(place);
-            let nearer = at(&self.marks.distances, column, 0).wrapping_sub(self.marks.nearest);
-            self.pairing.raise(column, nearer);
-        }
-    }
-
     // Augments the matching along the path from a free row to its end.
     fn turn(&mut self, free: u32) {
         let mut column = self.marks.end;
@@ -388,5 +357,26 @@ impl<'a> Bidder for Lazy<'a> {
             loser: self.pairing.displace(row, column),
             has_lowered,
         }
+    }
+}
+
+impl<'a> Augmenter for Lazy<'a> {
+    fn augment(&mut self, free: u32) -> bool {
+        self.heap.clear();
+        self.stack.clear();
+        self.settled.clear();
+        self.marks.begin();
+        self.offer_listed(free, 0);
+        if !self.find_end() || self.heap.has_overflowed || self.marks.end == NOWHERE {
+            return false;
+        }
+        lower_settled(
+            &mut self.pairing,
+            &self.settled,
+            &self.marks.distances,
+            self.marks.nearest,
+        );
+        self.turn(free);
+        self.pay(PATH_ENTRIES)
     }
 }

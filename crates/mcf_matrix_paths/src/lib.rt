@@ -7,6 +7,7 @@
 //!
 //! It builds on `mcf_columns` and `mcf_matrix_rows`.
 
+mod augmenting;
 mod bidding;
 mod heap;
 mod lazy;

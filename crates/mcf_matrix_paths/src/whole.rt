@@ -1,6 +1,7 @@
 //! A search that scans whole rows.
 
-use crate::bidding::{Bid, Bidder, reduce_rows};
+use crate::augmenting::{Augmenter, assign_rows, lower_settled};
+use crate::bidding::{Bid, Bidder};
 use crate::reduction::reduce_columns;
 use crate::tuning::{BUDGET_ROWS, HARD_ROWS, SETTLED_PER_ROW};
 use mcf_columns::{NOWHERE, Pile, at, copy, narrow, put};
@@ -90,14 +91,7 @@ impl<'a> WholeRows<'a> {
         if self.view.is_square() && is_hard(rows, free.len()) {
             return false;
         }
-        reduce_rows(self, free, left, rows);
-        reduce_rows(self, left, free, rows);
-        'rows: for place in 0..free.len() {
-            if !self.augment(free.get(place)) {
-                return false;
-            }
-        }
-        true
+        assign_rows(self, free, left, rows)
     }
 
     // Lowers the price of each column that is the only one with its least entry in its row, until
@@ -128,18 +122,6 @@ impl<'a> WholeRows<'a> {
             }
         }
         two.second_column
-    }
-
-    // Augments the matching along a shortest path from a free row. Returns whether the budget
-    // allowed it.
-    fn augment(&mut self, free: u32) -> bool {
-        self.begin();
-        let Some(end) = self.find_end(free) else {
-            return false;
-        };
-        self.lower_settled(end.distance);
-        self.turn(free, end.column);
-        true
     }
 
     // Begins a search, in which no column is reached or settled.
@@ -232,15 +214,6 @@ impl<'a> WholeRows<'a> {
         put(&mut self.offered, column, price.wrapping_sub(FAR));
     }
 
-    // Lowers the price of each settled column by how much nearer it is than the end of the path.
-    fn lower_settled(&mut self, distance: i64) {
-        'columns: for place in 0..self.settled.len() {
-            let column = self.settled.get(place);
-            let nearer = at(&self.reached, column, 0).wrapping_sub(distance);
-            self.pairing.raise(column, nearer);
-        }
-    }
-
     // Augments the matching along the path from a free row to a column.
     fn turn(&mut self, free: u32, end: u32) {
         let mut column = end;
@@ -269,6 +242,23 @@ impl<'a> Bidder for WholeRows<'a> {
             loser: self.pairing.displace(row, column),
             has_lowered,
         }
+    }
+}
+
+impl<'a> Augmenter for WholeRows<'a> {
+    fn augment(&mut self, free: u32) -> bool {
+        self.begin();
+        let Some(end) = self.find_end(free) else {
+            return false;
+        };
+        lower_settled(
+            &mut self.pairing,
+            &self.settled,
+            &self.reached,
+            end.distance,
+        );
+        self.turn(free, end.column);
+        true
     }
 }
 
