@@ -19,7 +19,7 @@ pub(crate) trait Bidder {
 }
 
 /// Lets each row of the pile `free` bid once. A row that loses its column bids again at once if the
-/// column's price fell, up to `BIDS_PER_ROW` times `rows` bids in all. Rows that end without a
+/// column's price fell, at most `BIDS_PER_ROW` times `rows` times in all. Rows that end without a
 /// column go onto the pile `left`.
 pub(crate) fn reduce_rows<B: Bidder>(bidder: &mut B, free: &Pile, left: &mut Pile, rows: u32) {
     let mut bids = rows.saturating_mul(BIDS_PER_ROW);

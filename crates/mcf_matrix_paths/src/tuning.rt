@@ -19,7 +19,8 @@ pub(crate) const LIST_BLOCKS: u32 = 18;
 /// all rows keep their first column.
 pub(crate) const FEW_FREE: u32 = 4;
 
-/// A round of row reduction ends after this many repeated bids per row, so that it can't take long.
+/// In a round of row reduction, rows bid again at once at most this many times per row, so that a
+/// round can't take long.
 pub(crate) const BIDS_PER_ROW: u32 = 4;
 
 /// A search by whole rows gives up after it has settled this many columns per row. Random costs

@@ -64,9 +64,9 @@ fn view_of<'a>(matrix: &Matrix<'a>) -> View<'a> {
 ///
 /// Prices are meant to satisfy `row_price + column_price <= cost` for each allowed pair, with
 /// equality for the pairs that the plan uses. The caller has to check the result: this call
-/// promises nothing about it. Returns `None` if a supply or demand is below 0, their sums differ,
-/// the plan found uses a forbidden pair, the search exceeds its budget of pivots, or the matrix has
-/// more than 2^30 rows or columns.
+/// promises nothing about it. Returns `None` if there isn't a supply for each row and a demand for
+/// each column, one of these is below 0, their sums differ, the plan found uses a forbidden pair,
+/// the search exceeds its budget of pivots, or the matrix has more than 2^30 rows or columns.
 ///
 /// The search is the network simplex on all pairs (Dantzig, Application of the simplex method to a
 /// transportation problem, 1951). It copies a matrix with forbidden pairs.
