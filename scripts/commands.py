@@ -9,8 +9,9 @@ The tag of a fenced block says how it runs, in a folder that looks like the repo
     text      nothing runs it
 
 Words after the tag say more. `file=NAME` saves the block, of any language, as a file for later
-blocks. `needs=TOOL,..` skips the block if a tool is missing. `status=N` is the exit status that a
-block of `sh` must end with. `not-run` marks commands that don't run here; NOT_RUN has the reasons.
+blocks. `needs=TOOL,..` skips the block if a command is missing, or the library (`libmcf`), or a
+package of Python (`python.NAME`). `status=N` is the exit status that a block of `sh` must end with.
+`not-run` marks commands that don't run here; NOT_RUN has the reasons.
 
 In a manual page, the examples that begin with "$ " are blocks of `console`, in a folder that also
 has the instances of examples/. A file that they show by `cat`, and that doesn't exist, is made.
@@ -49,7 +50,8 @@ NOT_RUN = {
     ("docs/MANY.md", "parallel --sshlogin one,two,:"): "it needs two other machines",
     ("docs/PAGE.md", "python3 -m http.server -d bin"): "the server runs until it is stopped",
 }
-SECONDS = 100
+# The most seconds of a command, and of one that builds.
+SECONDS, BUILDING = 100, 1200
 # The characters that manual pages escape.
 ROFF = {"-": "-", "\\": "\\", "(rs": "\\", "(aq": "'"}
 
@@ -101,7 +103,8 @@ def blocks(page: str) -> List[Block]:
     """The fenced blocks of a page, or the examples of a manual page."""
     if is_manual(page):
         return examples(page)
-    found, head, first, body = [], None, 0, []
+    found: List[Block] = []
+    head, first, body = None, 0, [""]
     for number, line in enumerate((TOP / page).read_text(encoding="utf-8").splitlines(), 1):
         if head is None and line.startswith("```"):
             head, first, body = line[3:].split(), number, []
@@ -124,15 +127,15 @@ def has_module(name: str) -> bool:
 def lacking(block: Block, folder: pathlib.Path) -> str:
     """Which of the things that a block needs is missing, as a reason, or an empty text."""
     for name in filter(None, block.words.get("needs", "").split(",")):
+        kind, _, package = name.partition(".")
         if name == "libmcf":
-            there = (folder / "bin" / "libmcf.so").exists()
-        elif name.startswith("python."):
-            there = has_module(name.partition(".")[2])
+            there, why = (folder / "bin" / "libmcf.so").exists(), "the library isn't built"
+        elif kind == "python" and package:
+            there, why = has_module(package), f"python3 has no {package}"
         else:
-            there = shutil.which(name) is not None
+            there, why = shutil.which(name) is not None, f"there is no {name}"
         if not there:
-            what = "the library isn't built" if name == "libmcf" else f"there is no {name}"
-            return f"{block.page}, line {block.line}: {what}"
+            return f"{block.page}, line {block.line}: {why}"
     return ""
 
 
@@ -192,7 +195,7 @@ def bash(command: str, place: Place, *options: str) -> "subprocess.CompletedProc
         stdin=subprocess.DEVNULL,
         capture_output=True,
         text=True,
-        timeout=SECONDS,
+        timeout=BUILDING if place.folder == TOP else SECONDS,
     )
 
 
@@ -260,7 +263,7 @@ def outcome(block: Block, place: Place) -> Optional[Outcome]:
     try:
         return Outcome(block, failed=failure(block, place))
     except subprocess.TimeoutExpired:
-        return Outcome(block, failed=f"takes more than {SECONDS} seconds:\n{block.text}")
+        return Outcome(block, failed=f"takes too long:\n{block.text}")
 
 
 def run(page: str) -> Iterator[Outcome]:
