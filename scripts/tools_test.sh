@@ -1,6 +1,6 @@
 #!/bin/sh
 # Runs the tests of python/ and tools/, if Python 3.8 is installed and the programs are built; they
-# may take three minutes. MCF_BIN names the folder of the programs, by default bin/. Reports what it
+# may take four minutes. MCF_BIN names the folder of the programs, by default bin/. Reports what it
 # skips.
 set -u
 cd "$(dirname "$0")/.." || exit 1
@@ -11,5 +11,5 @@ if [ ! -x "$MCF_BIN/mcf" ] || [ ! -x "$MCF_BIN/mcfcheck" ]; then
 elif ! python3 -c 'import sys; sys.exit(sys.version_info < (3, 8))' 2> /dev/null; then
     echo "tools-test: skipped: there is no Python 3.8 or newer"
 else
-    timeout 180 python3 python/tests/run.py || { echo "tools-test: failed (status $?; 124 is three minutes)"; exit 1; }
+    timeout 240 python3 python/tests/run.py || { echo "tools-test: failed (status $?; 124 is four minutes)"; exit 1; }
 fi
