@@ -118,7 +118,7 @@ export class Numbers {
       faults.add(
         at(other.table, other.line),
         'both marks',
-        `decimals stand after a point and after a comma: ${shown(first.cell)} `
+        `some decimals follow a point, others a comma: ${shown(first.cell)} `
           + `(${first.table.name}, line ${first.line}) and ${shown(other.cell)}; `
           + 'write them in one way, or say --decimal'
       );

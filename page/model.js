@@ -152,10 +152,10 @@ function checkBoth([placeTable, routeTable], faults) {
     PLACE_HEADS,
     faults,
     exchanged
-      ? 'this looks like the table of routes, which comes second; of places wanted are'
-      : 'wanted are'
+      ? 'this looks like the table of routes, which comes second; the table of places needs'
+      : 'the table needs'
   );
-  routeTable.need(ROUTE_HEADS, faults, `${matrixHint(placeTable, routeTable)}wanted are`);
+  routeTable.need(ROUTE_HEADS, faults, `${matrixHint(placeTable, routeTable)}the table needs`);
   if (!exchanged) {
     PLACES.check(placeTable, faults);
     ROUTES.check(routeTable, faults);

@@ -129,7 +129,7 @@ function rivalsSentence(net, found) {
     return isSend
       ? `${must.length} persons compete for ${countOf(can.length, 'thing', 'things')}: `
         + `${listed(names)} can only get ${listed(others)}.`
-      : `${must.length} things want for ${countOf(can.length, 'person', 'persons')}: `
+      : `${must.length} things compete for ${countOf(can.length, 'person', 'persons')}: `
         + `only ${listed(others)} may do ${listed(names)}.`;
   }
   const parts = [...can.map(([node, number]) => `${net.name(node)} (${number})`),

@@ -177,7 +177,7 @@ export class Table {
 
   // This method notes the wanted columns that are missing or appear twice.
   /** @type {(wanted: string[], faults: Faults, hint?: string) => void} */
-  need(wanted, faults, hint = 'wanted are') {
+  need(wanted, faults, hint = 'the table needs') {
     const lacking = wanted.filter((head) => !this.heads.includes(head));
     if (lacking.length) {
       const below = this.lineWith(lacking.map((head) => this.own.get(head) || head));
@@ -314,6 +314,6 @@ export function nameIn(table, line, head, cell, faults) {
  */
 export function once(where, key, text, seen, faults, cell = key) {
   if (seen.has(key)) {
-    faults.add(where, 'twice', `${text} stands on line ${seen.get(key)} already`, cell);
+    faults.add(where, 'twice', `${text} is already on line ${seen.get(key)}`, cell);
   } else seen.set(key, where.line);
 }

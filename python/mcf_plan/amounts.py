@@ -96,7 +96,7 @@ class Numbers:
                 At(other, other_line, ""),
                 "both marks",
                 (
-                    f"decimals stand after a point and after a comma: {shown(cell)} ({table.name},"
+                    f"some decimals follow a point, others a comma: {shown(cell)} ({table.name},"
                     f" line {line}) and {shown(other_cell)}; write them in one way, or say"
                     " --decimal"
                 ),

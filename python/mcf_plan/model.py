@@ -154,12 +154,12 @@ def check_heads(place_table, route_table, faults):
         PLACE_HEADS,
         faults,
         (
-            "this looks like the table of routes, which comes second; of places wanted are"
+            "this looks like the table of routes, which comes second; the table of places needs"
             if exchanged
-            else "wanted are"
+            else "the table needs"
         ),
     )
-    route_table.need(ROUTE_HEADS, faults, f"{matrix_hint(place_table, route_table)}wanted are")
+    route_table.need(ROUTE_HEADS, faults, f"{matrix_hint(place_table, route_table)}the table needs")
     if not exchanged:
         PLACES.check(place_table, faults)
         ROUTES.check(route_table, faults)

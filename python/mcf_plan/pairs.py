@@ -124,7 +124,7 @@ def blocked_sentence(net, bottleneck):
                 f" {listed(names)} can only get {listed(others)}."
             )
         return (
-            f"{len(must)} things want for {count_of(len(can), 'person', 'persons')}: only"
+            f"{len(must)} things compete for {count_of(len(can), 'person', 'persons')}: only"
             f" {listed(others)} may do {listed(names)}."
         )
     parts = [f"{net.name(node)} ({number})" for node, number in can]

@@ -145,7 +145,7 @@ class Table:
             faults.add(At(table, wrong[0], ""), "encoding", wrong[1])
         return table
 
-    def need(self, wanted, faults, hint="wanted are"):
+    def need(self, wanted, faults, hint="the table needs"):
         """Notes wanted columns that are missing or that occur twice."""
         lacking = [head for head in wanted if head not in self.heads]
         if lacking:
@@ -249,7 +249,7 @@ def once(at, key, text, seen, faults):
         faults.add(
             at,
             "twice",
-            f"{text} stands on line {seen[key]} already",
+            f"{text} is already on line {seen[key]}",
             key if isinstance(key, str) else "",
         )
     else:

@@ -98,7 +98,7 @@ class Each(WithFolder):
 
     def test_things_that_want_for_persons(self):
         said = self.pairs(",X,Y\nA,1,2\nB,,\nC,,\n", "--each", "what")[1]
-        self.assertIn("2 things want for 1 person: only A may do X, Y.", said)
+        self.assertIn("2 things compete for 1 person: only A may do X, Y.", said)
 
     def test_both(self):
         self.assertEqual(self.pairs(",X,Y\nA,1,1\nB,1,1\n", "--each", "both")[0], 0)

@@ -60,8 +60,8 @@ class BadTables(WithFolder):
                     " cells; also 'x1' in line 3, 'x2' in line 4, 'x3' in line 5, 'x4' in line 6)"
                 ),
                 (
-                    "mcf_plan: places.csv, line 302, column name: a place 'A1' stands on line 3"
-                    " already"
+                    "mcf_plan: places.csv, line 302, column name: a place 'A1' is already on line"
+                    " 3"
                 ),
                 (
                     "mcf_plan: routes.csv, line 2, column from: there is no place 'Mill' (3 such"
