@@ -1,7 +1,11 @@
 #![tactic(auto)]
 
 //! The greatest prices that show a flow, or a negative cycle, and the plain engine, which cancels
-//! such cycles.
+//! such cycles (a baseline for the others).
+//!
+//! Prices (node potentials) show a flow if no residual arc with room (residual capacity) has a
+//! reduced cost below 0. A search for them lowers prices along such arcs, and links each node to
+//! the arc that lowered it last (the predecessor arc); links that close are a negative cycle.
 //!
 //! It builds on `mcf_network`, `mcf_feas` and `mcf_engine`, whose names it re-exports. The
 //! definitions in `specs/`: `Recovering` says what `recover` answers, `Laws` what follows, and
