@@ -3,10 +3,11 @@ use Rattle.std.proofs.Common.{◌≡◌, ℕ, ◌+◌, ◌<◌, ◌≤◌, Bool,
 use Rattle.std.proofs.lemmas.Bool.{cases_eq}
 use Rattle.std.proofs.lemmas.List.{get_or-set_other, get_or-set_same}
 use Rattle.mcf_matrix.specs.Costs.{Costs}
+use Rattle.mcf_matrix.specs.Judging.{IsGoodPair}
 use Rattle.mcf_matrix.specs.Matchings.{IsPair}
 use Rattle.mcf_matrix.specs.MatrixPrices.{reduced_cost}
 use Rattle.mcf_matrix.specs.PlaceSums.{is_marked}
-use Rattle.mcf_matrix.specs.Private.Pairing.{AreGoodPairs, ArePairedSoFar, IsGoodPair}
+use Rattle.mcf_matrix.specs.Private.Pairing.{AreGoodPairs, ArePairedSoFar}
 
 pub nothing_paired : (m : Costs) (x : List ℕ) (u v : List ℤ) (seen : List Bool) → ((j : ℕ) → j < m.columns → is_marked seen j ≡ false) → ArePairedSoFar m x u v 0 seen
 nothing_paired m x u v seen none =
@@ -94,11 +95,10 @@ all_paired m x u v seen so_far =
     }
 
 -- a pair that isn't good, and a column that comes again, refute all rows
-pub bad_pair : (m : Costs) (x : List ℕ) (u v : List ℤ) (i : ℕ) → i < m.rows → get_or x i 0 < m.columns → AreGoodPairs m x u v
-    → IsSomeAnd (m.cost i (get_or x i 0)) (λ c. reduced_cost u v i (get_or x i 0) c ≡ pos 0)
-bad_pair m x u v i row column all =
-    good_to (m.cost i (get_or x i 0)) (λ c. reduced_cost u v i (get_or x i 0) c ≡ pos 0) (all.allowed i (get_or x i 0) (row, column, refl))
-    (all.tight i (get_or x i 0) (row, column, refl))
+pub good_pair : (m : Costs) (x : List ℕ) (u v : List ℤ) (i : ℕ) → i < m.rows → get_or x i 0 < m.columns → AreGoodPairs m x u v
+    → IsGoodPair m u v i (get_or x i 0)
+good_pair m x u v i row column all =
+    (all.allowed i (get_or x i 0) (row, column, refl), all.tight i (get_or x i 0) (row, column, refl))
 
 pub column_again : (m : Costs) (x : List ℕ) (u v : List ℤ) (i : ℕ) (seen : List Bool) → i < m.rows → get_or x i 0 < m.columns
     → is_marked seen (get_or x i 0) ≡ true → ArePairedSoFar m x u v i seen → AreGoodPairs m x u v → ⊥

@@ -2,10 +2,11 @@
 use Rattle.std.proofs.Common.{◌≡◌, ℕ, ◌<◌, min, ltb, Bool, List, length, get_or, inl, inr, ℤ}
 use Rattle.std.proofs.lemmas.Bool.{cases_Bool, cases_lt, lt-ltb, le-ltb}
 use Rattle.mcf_matrix.specs.Costs.{Costs}
+use Rattle.mcf_matrix.specs.Judging.{HasLengths, IsPricedPlace}
 use Rattle.mcf_matrix.specs.Matchings.{pair_count}
 use Rattle.mcf_matrix.specs.MatrixPrices.{AreColumnsPriced, AreNoneBelow, AreRowsPriced, IsShownMatching}
 use Rattle.mcf_matrix.specs.PlaceSums.{at_place, is_marked}
-use Rattle.mcf_matrix.specs.Private.Pairing.{AreGoodPairs, HasLengths, IsMarking, IsPricedPlace}
+use Rattle.mcf_matrix.specs.Private.Pairing.{AreGoodPairs, IsMarking}
 
 -- the tests of prices, by the marks of columns and by the entries of rows
 abbrev pub AreMarkedPriced : Costs → List Bool → List ℤ → Type 0

@@ -4,6 +4,7 @@ pub use Rattle.mcf_flows.specs.WellFormed
 pub mod Costs
 pub mod Covers
 pub mod Cuts
+pub mod Judging
 pub mod Laws
 pub mod Matchings
 pub mod MatrixPrices

@@ -1,13 +1,53 @@
 //! The judge of covers: it tests whether so few rows and columns cover all allowed pairs that no
 //! matching is large enough.
 ghost use Rattle.std.specs.Prelude.{◌≡◌, ◌+◌, ◌<◌, ◌↔◌, ◌⊎◌, ℕ, List, IsSome, IsTrue, count_by, length, min};
+ghost use Rattle.mcf_matrix.specs.Costs.{Costs};
 ghost use Rattle.mcf_matrix.specs.Covers.{AreCovered, IsShortCover};
+ghost use Rattle.mcf_matrix.specs.Judging.{IsRowCovered};
 ghost use Rattle.mcf_matrix.specs.Matchings.{IsMatching};
 ghost use Rattle.mcf_matrix.specs.PlaceSums.{at_place, is_marked, mark_count};
 ghost use Rattle.mcf_matrix.specs.Private.Narrow.{RowIsCovered};
 ghost use Rattle.mcf_matrix.specs.Tables.{cost_of, whole_costs};
 
 use crate::matrix::{FORBIDDEN, Matrix};
+
+/// A matrix some of whose pairs are forbidden, as the judge of covers reads it.
+pub trait Allows {
+    // What each pair costs.
+    ghost costs: { Self → Costs };
+
+    /// How many rows there are.
+    fn row_count(&self) -> usize
+        ensures { result ≡ (costs self.now).rows };
+
+    /// How many columns there are.
+    fn column_count(&self) -> usize
+        ensures { result ≡ (costs self.now).columns };
+
+    /// Whether the column of each allowed pair of a row is marked.
+    fn is_row_covered(&self, row: usize, columns: &[bool]) -> bool
+        requires row { row < (costs self.now).rows }
+        requires columns { length columns.now ≡ (costs self.now).columns }
+        ensures { IsTrue result ↔ IsRowCovered (costs self.now) row columns.now };
+}
+
+impl<'a> Allows for Matrix<'a> {
+    ghost costs = { whole_costs };
+
+    #[inline(always)]
+    fn row_count(&self) -> usize {
+        self.rows()
+    }
+
+    #[inline(always)]
+    fn column_count(&self) -> usize {
+        self.columns()
+    }
+
+    fn is_row_covered(&self, row: usize, columns: &[bool]) -> bool {
+        row_is_covered(self.row(row), columns)
+    }
+}
 
 /// Returns whether each allowed pair has a marked row or a marked column, and fewer rows and
 /// columns are marked than the smaller of both sides has. Then no matching is as large as that side
@@ -20,10 +60,18 @@ pub fn judge_cover(matrix: &Matrix, rows: &[bool], columns: &[bool]) -> bool
     ensures exact { IsTrue result ↔ IsShortCover (whole_costs matrix.now) rows.now columns.now }
     ensures none { IsTrue result → (x : List ℕ) → ¬ IsMatching (whole_costs matrix.now) x }
 {
-    if rows.len() != matrix.rows() {
+    excludes(matrix, rows, columns)
+}
+
+/// The same of whatever the costs are stored in.
+pub fn excludes<M: Allows>(matrix: &M, rows: &[bool], columns: &[bool]) -> bool
+    ensures exact { IsTrue result ↔ IsShortCover (M.costs matrix.now) rows.now columns.now }
+    ensures none { IsTrue result → (x : List ℕ) → ¬ IsMatching (M.costs matrix.now) x }
+{
+    if rows.len() != matrix.row_count() {
         return false;
     }
-    if columns.len() != matrix.columns() {
+    if columns.len() != matrix.column_count() {
         return false;
     }
     if !is_short(matrix, rows, columns) {
@@ -40,10 +88,10 @@ fn count_marks(table: &[bool]) -> usize
 }
 
 // Returns whether there are fewer marks than the smaller of both sides has rows or columns.
-fn is_short(matrix: &Matrix, rows: &[bool], columns: &[bool]) -> bool
-    ensures { IsTrue result ↔ (mark_count rows.now + mark_count columns.now < min matrix.now.rows matrix.now.columns) }
+fn is_short<M: Allows>(matrix: &M, rows: &[bool], columns: &[bool]) -> bool
+    ensures { IsTrue result ↔ (mark_count rows.now + mark_count columns.now < min (M.costs matrix.now).rows (M.costs matrix.now).columns) }
 {
-    let smaller = matrix.rows().min(matrix.columns());
+    let smaller = matrix.row_count().min(matrix.column_count());
     let row_marks = count_marks(rows);
     let column_marks = count_marks(columns);
     row_marks < smaller && column_marks < smaller - row_marks
@@ -70,13 +118,13 @@ fn row_is_covered(row: &[i64], columns: &[bool]) -> bool
 }
 
 // Returns whether each allowed pair has a marked row or a marked column.
-fn are_covered(matrix: &Matrix, rows: &[bool], columns: &[bool]) -> bool
-    requires rows { length rows.now ≡ matrix.now.rows }
-    requires columns { length columns.now ≡ matrix.now.columns }
-    ensures { IsTrue result ↔ AreCovered (whole_costs matrix.now) rows.now columns.now }
+fn are_covered<M: Allows>(matrix: &M, rows: &[bool], columns: &[bool]) -> bool
+    requires rows { length rows.now ≡ (M.costs matrix.now).rows }
+    requires columns { length columns.now ≡ (M.costs matrix.now).columns }
+    ensures { IsTrue result ↔ AreCovered (M.costs matrix.now) rows.now columns.now }
 {
     for (row, mark) in rows.iter().enumerate() {
-        if !*mark && !row_is_covered(matrix.row(row), columns) {
+        if !*mark && !matrix.is_row_covered(row, columns) {
             return false;
         }
     }

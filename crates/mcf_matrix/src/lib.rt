@@ -15,10 +15,11 @@ mod laws;
 mod matrix;
 mod prices;
 mod shipment;
+mod showing;
 mod transport;
 
 pub use assignment::judge_assignment;
-pub use cover::judge_cover;
+pub use cover::{Allows, excludes, judge_cover};
 pub use cut::judge_transport_cut;
 pub use laws::{
     covered_has_no_matching, cut_has_no_plan, shown_matchings_are_least,
@@ -26,4 +27,5 @@ pub use laws::{
 };
 pub use matrix::{FORBIDDEN, Matrix, MatrixFault, is_shaped};
 pub use shipment::{Masses, Shipment};
+pub use showing::{Priced, shows};
 pub use transport::judge_transport;

@@ -11,7 +11,7 @@ use Rattle.mcf_matrix_doubles.specs.declared.double.TheConstants.{INFINITY}
 use Rattle.mcf_matrix_doubles.specs.DoublePrices.{in_units}
 use Rattle.mcf_matrix_doubles.specs.Doubles.{double_cost, value_of}
 
-cost_is : (bits : ℕ) → (bits ≡ INFINITY → ⊥) → double_cost bits ≡ Some (value_of bits)
+pub cost_is : (bits : ℕ) → (bits ≡ INFINITY → ⊥) → double_cost bits ≡ Some (value_of bits)
 cost_is bits other = rw (ne_eqb bits INFINITY other) refl
 
 core : (o : Option ℤ) (z a b p m : ℤ) (r : Bool) → o ≡ Some z → m ≡ z → IsTrue r ↔ (((a +ℤ b) *ℤ p) ≤ℤ m) → IsTrue r ↔ IfSome o (λ c. pos 0 ≤ℤ (c -ℤ a *ℤ p -ℤ b *ℤ p))

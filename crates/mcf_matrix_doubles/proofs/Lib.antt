@@ -1,3 +1,4 @@
 pub mod BitRows
 pub mod Covering
+pub mod Judging
 pub mod Powers

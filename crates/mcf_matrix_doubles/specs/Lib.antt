@@ -1,5 +1,7 @@
 pub use Rattle.mcf_flows.specs.WellFormed
 pub use Rattle.mcf_matrix.specs.Costs
+pub use Rattle.mcf_matrix.specs.Covers
+pub use Rattle.mcf_matrix.specs.Matchings
 pub use Rattle.mcf_matrix.specs.MatrixPrices
 pub use Rattle.mcf_matrix.specs.PlaceSums
 pub mod DoublePrices

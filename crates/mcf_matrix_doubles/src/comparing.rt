@@ -25,6 +25,30 @@ impl Scaled {
             reaches_down(sum, self.mantissa, unit - self.shift)
         }
     }
+
+    /// Whether a sum of prices, in units of 2^unit, is at least the number.
+    fn is_at_most(self, sum: i128, unit: u32) -> bool
+        requires sum { IsUpTo (2 ^ 126 - 1) sum }
+        requires mantissa { IsUpTo (2 ^ 53 - 1) self.mantissa }
+        requires normal { 0 < self.shift → 2 ^ 52 ≤ unsigned_abs self.mantissa }
+        ensures { IsTrue result ↔ ((self.mantissa *ℤ pos (2 ^ self.shift)) ≤ℤ (sum *ℤ pos (2 ^ unit))) }
+    {
+        let negated = Scaled {
+            mantissa: -self.mantissa,
+            shift: self.shift,
+        };
+        negated.is_at_least(-sum, unit)
+    }
+
+    /// Whether a sum of prices, in units of 2^unit, is the number.
+    pub fn is_exactly(self, sum: i128, unit: u32) -> bool
+        requires sum { IsUpTo (2 ^ 126 - 1) sum }
+        requires mantissa { IsUpTo (2 ^ 53 - 1) self.mantissa }
+        requires normal { 0 < self.shift → 2 ^ 52 ≤ unsigned_abs self.mantissa }
+        ensures { IsTrue result ↔ (self.mantissa *ℤ pos (2 ^ self.shift) ≡ sum *ℤ pos (2 ^ unit)) }
+    {
+        self.is_at_least(sum, unit) && self.is_at_most(sum, unit)
+    }
 }
 
 // 2^places.

@@ -7,11 +7,15 @@
 //! says what bits stand for, `DoubleTables` which costs a list of them states, `DoublePrices` which
 //! whole numbers prices of one power of 2 are.
 
+mod assignment;
 mod comparing;
+mod cover;
 mod double;
 mod double_matrix;
 mod prices;
 
+pub use assignment::{DoublePrices, judge_assignment};
+pub use cover::judge_cover;
 pub use double::{INFINITY, Scaled};
 pub use double_matrix::{DoubleFault, DoubleMatrix};
 pub use prices::{are_small_prices, none_below};

@@ -1,7 +1,10 @@
 //! What the bits of doubles stand for, and which lists of them are matrices.
 use mcf_matrix_doubles::{
-    DoubleFault, DoubleMatrix, INFINITY, Scaled, are_small_prices, none_below,
+    DoubleFault, DoubleMatrix, DoublePrices, INFINITY, Scaled, are_small_prices, judge_assignment,
+    judge_cover, none_below,
 };
+use mcf_text::NoMemory;
+use std::alloc::Global;
 use std::test::Fail;
 
 // The bits of a double, and its mantissa and shift: 0.0, -0.0, the least double above 0, the
@@ -132,6 +135,78 @@ fn has_none_below(row_prices: &[i128], column_prices: &[i128]) -> bool {
 fn reduced_costs_are_judged(rt: HostRuntime) -> Result<(), Fail> {
     for (row_prices, column_prices, holds) in &PRICES {
         assert!(rt; has_none_below(row_prices, column_prices) == *holds);
+    }
+    Ok(())
+}
+
+// The column of each row, prices in units of 0.5, and whether these show the matching least in a
+// matrix of 1.0, +infinity, -2.5 and 1.0.
+static JUDGED: [(&[u32], &[i128], &[i128], bool); 6] = [
+    (&[0, 1], &[2, -5], &[0, 7], true),
+    (&[1, 0], &[2, -5], &[0, 7], false),
+    (&[0, 1], &[2, -4], &[0, 6], false),
+    (&[0, 1], &[2, -5], &[0, 8], false),
+    (&[0, 1], &[2, -5], &[0, i128::MAX], false),
+    (&[0, 1], &[2], &[0, 7], false),
+];
+
+// The matrix of the rows above.
+static JUDGED_ENTRIES: [u64; 4] = [
+    0x3FF0_0000_0000_0000,
+    INFINITY,
+    0xC004_0000_0000_0000,
+    0x3FF0_0000_0000_0000,
+];
+
+// Whether the prices show the matching least.
+fn is_shown(
+    alloc: Global,
+    columns_of: &[u32],
+    rows: &[i128],
+    columns: &[i128],
+) -> Result<bool, NoMemory> {
+    let Ok(matrix) = DoubleMatrix::of(&JUDGED_ENTRIES, 2, 2, 2) else {
+        return Ok(false);
+    };
+    let prices = DoublePrices {
+        rows,
+        columns,
+        unit: 1073,
+    };
+    judge_assignment(alloc, &matrix, columns_of, &prices)
+}
+
+#[test]
+fn assignments_are_judged(rt: HostRuntime) -> Result<(), Fail> {
+    for (columns_of, rows, columns, expected) in &JUDGED {
+        let holds = is_shown(rt.alloc(), columns_of, rows, columns)?;
+        assert!(rt; holds == *expected);
+    }
+    Ok(())
+}
+
+// Marks of two rows and of two columns, and whether they meet all pairs of a matrix of which only
+// that of row 1 and column 0 is allowed.
+static COVERS: [(&[bool], &[bool], bool); 4] = [
+    (&[false, true], &[false, false], true),
+    (&[false, false], &[true, false], true),
+    (&[true, false], &[false, false], false),
+    (&[true, true], &[false, false], false),
+];
+
+// Whether the marks are a cover.
+fn is_cover(rows: &[bool], columns: &[bool]) -> bool {
+    let entries = [INFINITY, INFINITY, 0x8000_0000_0000_0001, INFINITY];
+    let Ok(matrix) = DoubleMatrix::of(&entries, 2, 2, 2) else {
+        return false;
+    };
+    judge_cover(&matrix, rows, columns)
+}
+
+#[test]
+fn covers_are_judged(rt: HostRuntime) -> Result<(), Fail> {
+    for (rows, columns, expected) in &COVERS {
+        assert!(rt; is_cover(rows, columns) == *expected);
     }
     Ok(())
 }

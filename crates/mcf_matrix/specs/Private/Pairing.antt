@@ -1,8 +1,9 @@
 -- The tests that one pass over the rows of a matching makes.
-use Rattle.std.specs.Prelude.{◌≡◌, ℕ, ◌<◌, IfSome, Bool, true, false, List, ℤ, pos, ◌≤ℤ◌}
+use Rattle.std.specs.Prelude.{◌≡◌, ℕ, ◌<◌, Bool, true, false, List, ℤ}
 use Rattle.mcf_matrix.specs.Costs.{Costs, IsAllowed}
 use Rattle.mcf_matrix.specs.Matchings.{IsPair}
-use Rattle.mcf_matrix.specs.MatrixPrices.{AreTight, reduced_cost}
+use Rattle.mcf_matrix.specs.Judging.{IsGoodPair}
+use Rattle.mcf_matrix.specs.MatrixPrices.{AreTight}
 use Rattle.mcf_matrix.specs.PlaceSums.{is_marked}
 
 -- the pairs are allowed and tight, and no column comes twice
@@ -10,10 +11,6 @@ pub record AreGoodPairs (m : Costs) (x : List ℕ) (u v : List ℤ) : Type 0 whe
   pub allowed : (i j : ℕ) → IsPair m x i j → IsAllowed m i j
   pub tight : AreTight m x u v
   pub distinct : (i k j : ℕ) → IsPair m x i j → IsPair m x k j → i ≡ k
-
--- the pair is allowed and its reduced cost is 0
-abbrev pub IsGoodPair : Costs → List ℤ → List ℤ → ℕ → ℕ → Type 0
-IsGoodPair m u v i j = IsAllowed m i j × IfSome (m.cost i j) (λ c. reduced_cost u v i j c ≡ pos 0)
 
 -- the table marks the columns of the first so many rows
 pub record IsMarking (m : Costs) (x : List ℕ) (rows : ℕ) (seen : List Bool) : Type 0 where
@@ -25,13 +22,3 @@ pub record ArePairedSoFar (m : Costs) (x : List ℕ) (u v : List ℤ) (rows : �
   pub good : (i j : ℕ) → i < rows → IsPair m x i j → IsGoodPair m u v i j
   pub distinct : (i k j : ℕ) → i < rows → k < rows → IsPair m x i j → IsPair m x k j → i ≡ k
   pub marking : IsMarking m x rows seen
-
--- the price isn't above 0, and is 0 if the place isn't matched
-abbrev pub IsPricedPlace : ℤ → Bool → Type 0
-IsPricedPlace price is_matched = (price ≤ℤ pos 0) × (is_matched ≡ false → price ≡ pos 0)
-
--- an entry for each row, a price for each row and a price for each column
-pub record HasLengths (rows columns entries row_prices column_prices : ℕ) : Type 0 where
-  pub entries_are : entries ≡ rows
-  pub row_prices_are : row_prices ≡ rows
-  pub column_prices_are : column_prices ≡ columns
