@@ -10,6 +10,8 @@ mod assignments;
 #[cfg(test)]
 mod columns;
 #[cfg(test)]
+mod double_solving;
+#[cfg(test)]
 mod doubles;
 #[cfg(test)]
 mod matrices;

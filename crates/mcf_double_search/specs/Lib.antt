@@ -1,0 +1,1 @@
+pub use Rattle.mcf_matrix_doubles.specs.DoubleTables

@@ -1,0 +1,196 @@
+//! Exact reduced costs, and the pairs whose reduced cost is near 0.
+
+use crate::cutting::exact;
+use crate::window::Window;
+use mcf_columns::{at, narrow, put};
+use mcf_matrix_doubles::{DoubleMatrix, INFINITY};
+use mcf_matrix_search::Assignment;
+use mcf_text::{NoMemory, copies};
+use std::alloc::Global;
+
+/// A matrix with exact prices, and of each row the columns near it. The row after the last stands
+/// for the columns that stay free: its costs are 0.
+#[derive(Drop)]
+pub(crate) struct Near<'a> {
+    matrix: &'a DoubleMatrix<'a>,
+    pub(crate) rows: u32,
+    unit: u32,
+    // prices of rows, of which the last is that of the row of zeros
+    pub(crate) row_prices: Vec<i128>,
+    pub(crate) column_prices: Vec<i128>,
+    // where the columns of each row begin, and where the last end
+    starts: Vec<u32>,
+    columns: Vec<u32>,
+    // how far from 0 a reduced cost is near
+    reach: i128,
+}
+
+// The prices in finer units.
+fn finer(alloc: Global, prices: &[i64], more: usize, factor: i128) -> Result<Vec<i128>, NoMemory> {
+    let mut made = copies(alloc, prices.len().saturating_add(more), 0i128)?;
+    let count = prices.len().min(made.len());
+    'places: for i in 0..count {
+        made[i] = i128::from(prices[i]).wrapping_mul(factor);
+    }
+    Ok(made)
+}
+
+/// The prices of a whole matrix in finer units, with one more row.
+pub(crate) fn finer_prices(
+    alloc: Global,
+    found: &Assignment,
+    places: u32,
+) -> Result<(Vec<i128>, Vec<i128>), NoMemory> {
+    let factor = 1i128 << places.min(126);
+    let rows = finer(alloc, &found.row_prices, 1, factor)?;
+    let columns = finer(alloc, &found.column_prices, 0, factor)?;
+    Ok((rows, columns))
+}
+
+impl<'a> Near<'a> {
+    /// The matrix with the prices that were found on multiples of the grid. Rounding down kept each
+    /// exact reduced cost at least 0, and those of pairs below 2^grid; so exact prices lie within
+    /// as many times that as there are rows, and all that can come to 0 is near.
+    pub(crate) fn start(
+        alloc: Global,
+        matrix: &'a DoubleMatrix<'a>,
+        window: Window,
+        found: &Assignment,
+    ) -> Result<Near<'a>, NoMemory> {
+        let places = window.grid().wrapping_sub(window.low);
+        let (row_prices, column_prices) = finer_prices(alloc, found, places)?;
+        let rows = narrow(matrix.rows());
+        let reach = (i128::from(rows) + 2).wrapping_mul(1i128 << places.min(90));
+        let mut near = Near {
+            matrix,
+            rows,
+            unit: window.low,
+            row_prices,
+            column_prices,
+            starts: copies(alloc, matrix.rows().saturating_add(2), 0)?,
+            columns: Vec::new(alloc),
+            reach,
+        };
+        near.list_rows()?;
+        near.list_zeros()?;
+        Ok(near)
+    }
+
+    // The reduced cost of a pair, or none if it is forbidden.
+    #[inline(always)]
+    fn reduced_entry(&self, bits: u64, row_price: i128, column: usize) -> Option<i128> {
+        if bits == INFINITY || column >= self.column_prices.len() {
+            return None;
+        }
+        let cost = exact(bits, self.unit);
+        Some(
+            cost.wrapping_sub(row_price)
+                .wrapping_sub(self.column_prices[column]),
+        )
+    }
+
+    /// The reduced cost of an allowed pair.
+    pub(crate) fn reduced(&self, row: u32, column: u32) -> i128 {
+        let price = at(&self.row_prices, row, 0);
+        if (row as usize) < self.matrix.rows() && (column as usize) < self.matrix.columns() {
+            let bits = self.matrix.entry(row as usize, column as usize);
+            return self
+                .reduced_entry(bits, price, column as usize)
+                .unwrap_or(i128::MAX);
+        }
+        let column_price = at(&self.column_prices, column, 0);
+        0i128.wrapping_sub(price).wrapping_sub(column_price)
+    }
+
+    // Raises the price of each row until a pair of it has the reduced cost 0, and lists the columns
+    // near it.
+    fn list_rows(&mut self) -> Result<(), NoMemory> {
+        let matrix = self.matrix;
+        for row in 0..matrix.rows() {
+            let entries = matrix.row(row);
+            let price = at(&self.row_prices, narrow(row), 0);
+            let raised = price.wrapping_add(self.least_of(entries, price));
+            put(&mut self.row_prices, narrow(row), raised);
+            self.list_row(entries, raised)?;
+            let end = narrow(self.columns.len());
+            put(&mut self.starts, narrow(row).wrapping_add(1), end);
+        }
+        Ok(())
+    }
+
+    // The least reduced cost of a row, or 0 if all its pairs are forbidden.
+    fn least_of(&self, entries: &[u64], price: i128) -> i128 {
+        let mut least = i128::MAX;
+        'columns: for column in 0..entries.len() {
+            if let Some(reduced) = self.reduced_entry(entries[column], price, column) {
+                least = least.min(reduced);
+            }
+        }
+        if least == i128::MAX { 0 } else { least }
+    }
+
+    // Lists the columns near a row.
+    fn list_row(&mut self, entries: &[u64], price: i128) -> Result<(), NoMemory> {
+        for column in 0..entries.len() {
+            if let Some(reduced) = self.reduced_entry(entries[column], price, column) {
+                if reduced < self.reach {
+                    self.columns.push(narrow(column))?;
+                }
+            }
+        }
+        Ok(())
+    }
+
+    // Lists the columns near the row of zeros, if there are more columns than rows.
+    fn list_zeros(&mut self) -> Result<(), NoMemory> {
+        let columns = if self.matrix.rows() < self.matrix.columns() {
+            narrow(self.column_prices.len())
+        } else {
+            0
+        };
+        for column in 0..columns {
+            if self.reduced(self.rows, column) < self.reach {
+                self.columns.push(column)?;
+            }
+        }
+        let end = narrow(self.columns.len());
+        put(&mut self.starts, self.rows.wrapping_add(1), end);
+        Ok(())
+    }
+
+    /// How many columns are near a row.
+    pub(crate) fn count(&self, row: u32) -> u32 {
+        let end = at(&self.starts, row.wrapping_add(1), 0);
+        end.saturating_sub(at(&self.starts, row, 0))
+    }
+
+    /// A column near a row, by its place.
+    #[inline(always)]
+    pub(crate) fn column(&self, row: u32, place: u32) -> u32 {
+        let start = at(&self.starts, row, 0);
+        at(&self.columns, start.wrapping_add(place), u32::MAX)
+    }
+
+    /// Raises the price of a row.
+    pub(crate) fn raise_row(&mut self, row: u32, change: i128) {
+        let price = at(&self.row_prices, row, 0).wrapping_add(change);
+        put(&mut self.row_prices, row, price);
+    }
+
+    /// Lowers the price of a column.
+    pub(crate) fn lower_column(&mut self, column: u32, change: i128) {
+        let price = at(&self.column_prices, column, 0).wrapping_sub(change);
+        put(&mut self.column_prices, column, price);
+    }
+
+    /// Takes the price of the row of zeros off all rows, and gives it to all columns.
+    pub(crate) fn settle_zeros(&mut self) {
+        let change = at(&self.row_prices, self.rows, 0);
+        'rows: for row in 0..self.rows {
+            self.raise_row(row, 0i128.wrapping_sub(change));
+        }
+        'columns: for column in 0..narrow(self.column_prices.len()) {
+            self.lower_column(column, 0i128.wrapping_sub(change));
+        }
+    }
+}

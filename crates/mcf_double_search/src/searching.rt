@@ -1,0 +1,114 @@
+//! The search of a matrix of doubles.
+ghost use Rattle.std.specs.Prelude.{◌≤◌, ◌+◌, IfNone, IfOk, OnErr};
+
+use crate::cutting::cut_costs;
+use crate::found::{DoubleAssignment, DoubleFound};
+use crate::near::finer_prices;
+use crate::refining::refine;
+use crate::turning::{turn_found, turned_bits};
+use crate::window::Window;
+use mcf_matrix::Matrix;
+use mcf_matrix_doubles::DoubleMatrix;
+use mcf_matrix_search::{Assignment, Found};
+use mcf_text::NoMemory;
+use std::alloc::Global;
+
+// A matrix with more rows or columns is left alone.
+const MOST_LINES: usize = 1 << 30;
+
+/// An assignment that may be least, with prices that may show it, or a cover that may show that
+/// there is none.
+///
+/// What is found has to be judged: this call promises nothing of it. Entries whose bits span at
+/// most 49 places become whole costs exactly. All others are rounded down to multiples of a power
+/// of 2; a least assignment of these is then made exact by shortest augmenting paths among the
+/// pairs whose exact reduced cost is near 0 (Dijkstra 1959). Nothing is found where the bits of
+/// finite entries span more than 118 places. The whole costs take 8 bytes for each entry.
+///
+/// # Errors
+///
+/// `NoMemory` if an allocation is refused; a matrix without rows and columns needs none.
+pub fn find_assignment(
+    alloc: Global,
+    matrix: &DoubleMatrix<'_>,
+) -> Result<Option<DoubleFound>, NoMemory>
+    ensures none { IfOk result (λ found. IfNone found (1 ≤ matrix.now.rows + matrix.now.columns)) }
+    ensures wants { OnErr result (1 ≤ matrix.now.rows + matrix.now.columns) }
+{
+    let (rows, columns) = (matrix.rows(), matrix.columns());
+    if rows == 0 && columns == 0 {
+        return Ok(Some(DoubleFound::Assignment(DoubleAssignment {
+            column_of: Vec::new(alloc),
+            row_prices: Vec::new(alloc),
+            column_prices: Vec::new(alloc),
+            unit: 0,
+        })));
+    }
+    if rows > MOST_LINES || columns > MOST_LINES {
+        return Ok(None);
+    }
+    if rows > columns {
+        return find_turned(alloc, matrix);
+    }
+    find(alloc, matrix)
+}
+
+// What is found in a matrix with more rows than columns.
+fn find_turned(alloc: Global, matrix: &DoubleMatrix<'_>) -> Result<Option<DoubleFound>, NoMemory> {
+    let (rows, columns) = (matrix.rows(), matrix.columns());
+    let bits = turned_bits(alloc, matrix)?;
+    let Ok(turned) = DoubleMatrix::of(&bits, columns, rows, rows) else {
+        return Ok(None);
+    };
+    let found = find(alloc, &turned)?;
+    turn_found(alloc, found)
+}
+
+// What is found in a matrix that has no more rows than columns.
+fn find(alloc: Global, matrix: &DoubleMatrix<'_>) -> Result<Option<DoubleFound>, NoMemory> {
+    let window = Window::of(matrix);
+    match find_whole(alloc, matrix, window.grid())? {
+        Some(Found::Assignment(found)) => {
+            if window.is_whole() {
+                return Ok(Some(DoubleFound::Assignment(as_found(alloc, found, window)?)));
+            }
+            if !window.is_narrow() {
+                return Ok(None);
+            }
+            let refined = refine(alloc, matrix, window, found)?;
+            Ok(refined.map(DoubleFound::Assignment))
+        }
+        Some(Found::Cover(cover)) => Ok(Some(DoubleFound::Cover(cover))),
+        None => Ok(None),
+    }
+}
+
+// What is found in the matrix of whole costs.
+fn find_whole(
+    alloc: Global,
+    matrix: &DoubleMatrix<'_>,
+    grid: u32,
+) -> Result<Option<Found>, NoMemory> {
+    let (rows, columns) = (matrix.rows(), matrix.columns());
+    let costs = cut_costs(alloc, matrix, grid)?;
+    let Ok(whole) = Matrix::of(&costs, rows, columns, columns) else {
+        return Ok(None);
+    };
+    mcf_matrix_search::find_assignment(alloc, &whole)
+}
+
+// An assignment of whole costs that are exact.
+fn as_found(
+    alloc: Global,
+    found: Assignment,
+    window: Window,
+) -> Result<DoubleAssignment, NoMemory> {
+    let (mut row_prices, column_prices) = finer_prices(alloc, &found, 0)?;
+    row_prices.truncate(found.row_prices.len());
+    Ok(DoubleAssignment {
+        column_of: found.column_of,
+        row_prices,
+        column_prices,
+        unit: window.low,
+    })
+}

@@ -1,0 +1,22 @@
+-- What is answered for a matrix of doubles.
+-- Source: own
+use Rattle.std.specs.Prelude.{⊤, ℕ, List}
+use Rattle.mcf_matrix.specs.Costs.{Costs}
+use Rattle.mcf_matrix.specs.Covers.{IsShortCover}
+use Rattle.mcf_matrix.specs.Matchings.{IsLeastMatching, IsMatching}
+use Rattle.mcf_matrix.specs.MatrixPrices.{IsShownMatching}
+use Rattle.mcf_matrix_doubles.specs.DoublePrices.{in_units}
+use Rattle.mcf_double_solver.specs.declared.assigning.DoubleAssigned.{DoubleAssigned}
+use Rattle.mcf_double_solver.specs.declared.assigning.DoubleAssigned.TheVariants.{Least, Infeasible, NotShown}
+
+-- the matching that is answered, with its prices, or the cover, shows what it is answered for
+abbrev pub IsShownAnswer : Costs → DoubleAssigned → Type 0
+IsShownAnswer m (Least found) = IsShownMatching m found.column_of.items (in_units found.unit found.row_prices.items) (in_units found.unit found.column_prices.items)
+IsShownAnswer m (Infeasible cover) = IsShortCover m cover.rows.items cover.columns.items
+IsShownAnswer m NotShown = ⊤
+
+-- the matching that is answered is a least one, and where a cover is answered there is none
+abbrev pub IsRightAnswer : Costs → DoubleAssigned → Type 0
+IsRightAnswer m (Least found) = IsLeastMatching m found.column_of.items
+IsRightAnswer m (Infeasible cover) = (x : List ℕ) → ¬ IsMatching m x
+IsRightAnswer m NotShown = ⊤
