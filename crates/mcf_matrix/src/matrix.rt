@@ -188,6 +188,10 @@ fn first_beyond(costs: &[i64], rows: usize, columns: usize, stride: usize) -> Op
     ensures { MatchOption result (AreSmallCosts (whole_costs (record { entries = costs.now; rows = rows; columns = columns; stride = stride })))
         (λ p. IsFirstBeyond (whole_costs (record { entries = costs.now; rows = rows; columns = columns; stride = stride })) p.0 p.1) }
 {
+    // Without columns there may be more rows than anyone can count.
+    if columns == 0 {
+        return None;
+    }
     for row in 0..rows {
         let start = row * stride;
         if let Some(column) = first_beyond_in(&costs[start..start + columns]) {

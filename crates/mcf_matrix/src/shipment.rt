@@ -2,6 +2,7 @@
 
 /// An entry of a transport plan: `amount` units go from a row to a column. Rows and columns count
 /// from 0.
+#[repr(C)]
 #[derive(Clone, Copy, Debug, PartialEq, Eq)]
 pub struct Shipment {
     pub row: u32,
