@@ -1,5 +1,6 @@
 //! The results of searches, which a judge has to check.
 
+use mcf_flows::Side;
 use mcf_matrix::Shipment;
 
 /// An assignment that may be least, or a cover that may show that there is no assignment.
@@ -26,6 +27,13 @@ pub struct Cover {
     pub columns: Vec<bool>,
 }
 
+/// A transport plan that may be least, or a cut that may show that no plan exists.
+#[derive(Drop)]
+pub enum FoundPlan {
+    Plan(Plan),
+    Cut(Cut),
+}
+
 /// A transport plan that may be least, with prices that may show it. It has fewer entries than the
 /// matrix has rows and columns together.
 #[derive(Drop)]
@@ -33,4 +41,12 @@ pub struct Plan {
     pub shipments: Vec<Shipment>,
     pub row_prices: Vec<i64>,
     pub column_prices: Vec<i64>,
+}
+
+/// Rows and columns that may have more to send than they can, or more to take.
+#[derive(Drop)]
+pub struct Cut {
+    pub rows: Vec<bool>,
+    pub columns: Vec<bool>,
+    pub side: Side,
 }

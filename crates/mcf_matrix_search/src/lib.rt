@@ -12,10 +12,11 @@
 mod assigning;
 mod copying;
 mod covers;
+mod cuts;
 mod found;
 mod planning;
 mod ranges;
 mod searching;
 
-pub use found::{Assignment, Cover, Found, Plan};
+pub use found::{Assignment, Cover, Cut, Found, FoundPlan, Plan};
 pub use searching::{find_assignment, find_plan};

@@ -2,7 +2,8 @@
 ghost use Rattle.std.specs.Prelude.{◌≤◌, ◌+◌, OnErr};
 
 use crate::copying::copy_costs;
-use crate::found::Plan;
+use crate::cuts::find_reached;
+use crate::found::{FoundPlan, Plan};
 use crate::ranges::{far_cost, has_forbidden};
 use mcf_columns::put;
 use mcf_matrix::{Masses, Shipment};
@@ -23,7 +24,7 @@ pub(crate) fn find(
     alloc: Global,
     view: View<'_>,
     masses: &Masses<'_>,
-) -> Result<Option<Plan>, NoMemory> {
+) -> Result<Option<FoundPlan>, NoMemory> {
     if !has_forbidden(view) {
         return find_limited(alloc, view, masses, i64::MAX);
     }
@@ -37,27 +38,28 @@ pub(crate) fn find(
     find_limited(alloc, copy, masses, far)
 }
 
-// Searches a view in which the cost `far` stands for forbidden pairs. Returns `None` if the plan
-// uses one.
+// Searches a view in which the cost `far` stands for forbidden pairs. Returns a cut if the plan
+// uses such pairs.
 fn find_limited(
     alloc: Global,
     view: View<'_>,
     masses: &Masses<'_>,
     far: i64,
-) -> Result<Option<Plan>, NoMemory> {
+) -> Result<Option<FoundPlan>, NoMemory> {
     let Some(basis) = search_plan(alloc, view, masses.supplies, masses.demands)? else {
         return Ok(None);
     };
     if reaches(view, &basis, far) {
-        return Ok(None);
+        let cut = find_reached(alloc, view, &basis, far)?;
+        return Ok(Some(FoundPlan::Cut(cut)));
     }
     let mut shipments = copies(alloc, count_used(&basis), NO_SHIPMENT)?;
     write_used(&basis, shipments.as_mut_slice());
-    Ok(Some(Plan {
+    Ok(Some(FoundPlan::Plan(Plan {
         shipments,
         row_prices: basis.row_prices,
         column_prices: basis.column_prices,
-    }))
+    })))
 }
 
 // Returns whether a pair that is used costs at least `far`.
@@ -72,8 +74,8 @@ fn reaches(view: View<'_>, basis: &Basis<'_>, far: i64) -> bool {
     false
 }
 
-// Returns the shipment on the arc from a node to its parent, if its amount is above 0.
-fn used_at(basis: &Basis<'_>, node: u32) -> Option<Shipment> {
+/// Returns the shipment on the arc from a node to its parent, if its amount is above 0.
+pub(crate) fn used_at(basis: &Basis<'_>, node: u32) -> Option<Shipment> {
     let cell = basis.cell(node)?;
     if cell.amount <= 0 {
         return None;
@@ -105,8 +107,7 @@ fn write_used(basis: &Basis<'_>, shipments: &mut [Shipment]) {
     }
 }
 
-/// Returns the plan of a matrix without rows or without columns, or `None` if a supply or demand
-/// isn't 0.
+/// Returns the plan of a matrix without rows or without columns, whose supplies and demands are 0.
 ///
 /// # Errors
 /// `NoMemory` if an allocation is refused; a matrix without rows and columns needs none.
@@ -114,46 +115,12 @@ pub(crate) fn find_without_pairs(
     alloc: Global,
     rows: usize,
     columns: usize,
-    masses: &Masses<'_>,
-) -> Result<Option<Plan>, NoMemory>
-    ensures wants { OnErr result (1 ≤ rows + columns) }
+) -> Result<FoundPlan, NoMemory>
+    ensures { OnErr result (1 ≤ rows + columns) }
 {
-    if are_some(masses.supplies) || are_some(masses.demands) {
-        return Ok(None);
-    }
-    Ok(Some(Plan {
+    Ok(FoundPlan::Plan(Plan {
         shipments: Vec::new(alloc),
         row_prices: copies(alloc, rows, 0)?,
         column_prices: copies(alloc, columns, 0)?,
     }))
-}
-
-// Returns whether one of the supplies or demands isn't 0.
-fn are_some(masses: &[i64]) -> bool {
-    'lines: for i in 0..masses.len() {
-        if masses[i] != 0 {
-            return true;
-        }
-    }
-    false
-}
-
-/// Returns whether no supply or demand is below 0, and the sums of both are equal.
-pub(crate) fn are_even(masses: &Masses<'_>) -> bool {
-    match (total(masses.supplies), total(masses.demands)) {
-        (Some(supply), Some(demand)) => supply == demand,
-        _ => false,
-    }
-}
-
-// Returns the sum of supplies or demands, or `None` if one is below 0.
-fn total(masses: &[i64]) -> Option<i128> {
-    let mut total = 0i128;
-    'lines: for i in 0..masses.len() {
-        if masses[i] < 0 {
-            return None;
-        }
-        total = total.saturating_add(i128::from(masses[i]));
-    }
-    Some(total)
 }

@@ -1,8 +1,9 @@
 //! The searches of cost matrices.
 ghost use Rattle.std.specs.Prelude.{◌≤◌, ◌+◌, IfNone, IfOk, OnErr};
 
-use crate::found::{Assignment, Found, Plan};
-use crate::planning::{are_even, find_without_pairs};
+use crate::cuts::find_uneven;
+use crate::found::{Assignment, Found, FoundPlan};
+use crate::planning::find_without_pairs;
 use crate::{assigning, planning};
 use mcf_columns::narrow;
 use mcf_matrix::{Masses, Matrix};
@@ -60,16 +61,18 @@ fn view_of<'a>(matrix: &Matrix<'a>) -> View<'a> {
 }
 
 /// Searches for a least transport plan for supplies of rows and demands of columns, with prices
-/// that show it.
+/// that show it, or for a cut that shows that no plan exists.
 ///
 /// Prices are meant to satisfy `row_price + column_price <= cost` for each allowed pair, with
 /// equality for the pairs that the plan uses. The caller has to check the result: this call
-/// promises nothing about it. Returns `None` if there isn't a supply for each row and a demand for
-/// each column, one of these is below 0, their sums differ, the plan found uses a forbidden pair,
-/// the search exceeds its budget of pivots, or the matrix has more than 2^30 rows or columns.
+/// promises nothing about it. If a supply or a demand is below 0, or their sums differ, it finds a
+/// cut. Returns `None` if there isn't a supply for each row and a demand for each column, the
+/// search exceeds its budget of pivots, or the matrix has more than 2^30 rows or columns.
 ///
 /// The search is the network simplex on all pairs (Dantzig, Application of the simplex method to a
-/// transportation problem, 1951). It copies a matrix with forbidden pairs.
+/// transportation problem, 1951). It copies a matrix with forbidden pairs. If the plan that it
+/// finds there uses forbidden pairs, the cut has the rows that send through these, and all that
+/// residual paths reach from them.
 ///
 /// # Errors
 ///
@@ -78,16 +81,19 @@ pub fn find_plan(
     alloc: Global,
     matrix: &Matrix<'_>,
     masses: &Masses<'_>,
-) -> Result<Option<Plan>, NoMemory>
+) -> Result<Option<FoundPlan>, NoMemory>
     ensures wants { OnErr result (1 ≤ matrix.now.rows + matrix.now.columns) }
 {
     let (rows, columns) = (matrix.rows(), matrix.columns());
     let are_counted = masses.supplies.len() == rows && masses.demands.len() == columns;
-    if !are_counted || !are_even(masses) || rows > MOST_LINES || columns > MOST_LINES {
+    if !are_counted || rows > MOST_LINES || columns > MOST_LINES {
         return Ok(None);
     }
+    if let Some(cut) = find_uneven(alloc, rows, columns, masses)? {
+        return Ok(Some(cut));
+    }
     if rows == 0 || columns == 0 {
-        return find_without_pairs(alloc, rows, columns, masses);
+        return Ok(Some(find_without_pairs(alloc, rows, columns)?));
     }
     planning::find(alloc, view_of(matrix), masses)
 }

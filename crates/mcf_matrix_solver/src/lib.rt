@@ -11,5 +11,5 @@ mod planning;
 
 pub use assigning::{Assigned, assign};
 pub use mcf_matrix::{FORBIDDEN, Masses, Matrix, MatrixFault, Shipment};
-pub use mcf_matrix_search::{Assignment, Cover, Plan};
+pub use mcf_matrix_search::{Assignment, Cover, Cut, Plan};
 pub use planning::{Planned, plan};

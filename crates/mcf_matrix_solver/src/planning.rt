@@ -3,8 +3,8 @@ ghost use Rattle.std.specs.Prelude.{◌≤◌, ◌+◌, IfOk, OnErr};
 ghost use Rattle.mcf_matrix.specs.Tables.{whole_costs};
 ghost use Rattle.mcf_matrix_solver.specs.Answers.{IsRightPlanAnswer, IsShownPlanAnswer};
 
-use mcf_matrix::{Masses, Matrix, judge_transport};
-use mcf_matrix_search::{Plan, find_plan};
+use mcf_matrix::{Masses, Matrix, judge_transport, judge_transport_cut};
+use mcf_matrix_search::{Cut, FoundPlan, Plan, find_plan};
 use mcf_text::NoMemory;
 use std::alloc::Global;
 
@@ -13,27 +13,46 @@ use std::alloc::Global;
 pub enum Planned {
     /// A least transport plan, with prices that show it.
     Least(Plan),
-    /// The search gave up or found that there is none, or the judge refused what it found.
+    /// Rows and columns that have more to send, or to take, than they can: there is no plan.
+    Infeasible(Cut),
+    /// The search gave up, or the judge refused what it found.
     NotShown,
 }
 
-/// A least transport plan for what rows supply and columns demand.
+/// A least transport plan for what rows supply and columns demand, or a cut that shows that there
+/// is none.
 ///
-/// What it answers is proved right: a judge looks at each answer. `NotShown` says nothing: there
-/// may be no plan, as where supplies and demands differ in all or the allowed pairs don't suffice,
-/// or the search gave up.
+/// What it answers is proved right: a judge looks at each answer. That the search finds one isn't
+/// proved, and `NotShown` says that it didn't, or that the judge refused it, or that there isn't
+/// one supply for each row and one demand for each column. Amounts are never below 0, so there is
+/// no plan if a mass is: then `Least` is never answered, but a cut, or `NotShown`.
 ///
 /// # Errors
 ///
-/// Want of memory, where a growth was refused; a matrix without rows and columns wants none.
+/// `NoMemory` if an allocation is refused; a matrix without rows and columns needs none.
 pub fn plan(alloc: Global, matrix: &Matrix<'_>, masses: &Masses<'_>) -> Result<Planned, NoMemory>
     ensures shown { IfOk result (IsShownPlanAnswer (whole_costs matrix.now) masses.now.supplies.now masses.now.demands.now) }
     ensures right { IfOk result (IsRightPlanAnswer (whole_costs matrix.now) masses.now.supplies.now masses.now.demands.now) }
     ensures wants { OnErr result (1 ≤ matrix.now.rows + matrix.now.columns) }
 {
-    let Some(found) = find_plan(alloc, matrix, masses)? else {
-        return Ok(Planned::NotShown);
-    };
+    match find_plan(alloc, matrix, masses)? {
+        Some(FoundPlan::Plan(found)) => judged(alloc, matrix, masses, found),
+        Some(FoundPlan::Cut(cut)) => Ok(judged_cut(matrix, masses, cut)),
+        None => Ok(Planned::NotShown),
+    }
+}
+
+// A plan, if its prices show it least.
+fn judged(
+    alloc: Global,
+    matrix: &Matrix<'_>,
+    masses: &Masses<'_>,
+    found: Plan,
+) -> Result<Planned, NoMemory>
+    ensures shown { IfOk result (IsShownPlanAnswer (whole_costs matrix.now) masses.now.supplies.now masses.now.demands.now) }
+    ensures right { IfOk result (IsRightPlanAnswer (whole_costs matrix.now) masses.now.supplies.now masses.now.demands.now) }
+    ensures wants { OnErr result (1 ≤ matrix.now.rows + matrix.now.columns) }
+{
     let is_shown = judge_transport(
         alloc,
         matrix,
@@ -46,4 +65,16 @@ pub fn plan(alloc: Global, matrix: &Matrix<'_>, masses: &Masses<'_>) -> Result<P
         return Ok(Planned::Least(found));
     }
     Ok(Planned::NotShown)
+}
+
+// A cut, if it shows that there is no plan.
+fn judged_cut(matrix: &Matrix<'_>, masses: &Masses<'_>, cut: Cut) -> Planned
+    ensures shown { IsShownPlanAnswer (whole_costs matrix.now) masses.now.supplies.now masses.now.demands.now result }
+    ensures right { IsRightPlanAnswer (whole_costs matrix.now) masses.now.supplies.now masses.now.demands.now result }
+{
+    let (rows, columns) = (cut.rows.as_slice(), cut.columns.as_slice());
+    if judge_transport_cut(matrix, masses, rows, columns, cut.side) {
+        return Planned::Infeasible(cut);
+    }
+    Planned::NotShown
 }

@@ -56,10 +56,11 @@ fn six_rows_of_answers(rt: HostRuntime) -> Result<(), Fail> {
     Ok(())
 }
 
-// Entries, row after row, supplies, demands, and the least cost of a plan, if there is one.
+// Entries, row after row, supplies, demands, and the least cost of a plan; `None` if a cut is
+// answered.
 type WorkedPlan = (&'static [i64], &'static [i64], &'static [i64], Option<i64>);
 
-static WORKED_PLANS: [WorkedPlan; 6] = [
+static WORKED_PLANS: [WorkedPlan; 12] = [
     (
         &[8, 6, 10, 9, 9, 12, 13, 7, 14, 9, 16, 5],
         &[35, 50, 40],
@@ -70,6 +71,23 @@ static WORKED_PLANS: [WorkedPlan; 6] = [
     (&[1, NO, NO, 1], &[5, 2], &[5, 2], Some(7)),
     (&[1, NO, NO, 1], &[5, 2], &[4, 3], None),
     (&[1], &[5], &[6], None),
+    (&[1], &[6], &[5], None),
+    (&[1, 2], &[-1], &[0, -1], None),
+    (&[1, 2], &[0], &[1, -1], None),
+    (&[], &[], &[3], None),
+    (
+        &[1, NO, NO, 1, 5, NO, 9, 2, 3],
+        &[3, 3, 3],
+        &[5, 2, 2],
+        Some(18),
+    ),
+    // Rows 0 and 1 may send to columns 0 and 1 alone, which take 5 of their 6.
+    (
+        &[1, NO, NO, 1, 5, NO, NO, NO, 3],
+        &[3, 3, 3],
+        &[4, 1, 4],
+        None,
+    ),
     (&[], &[], &[], Some(0)),
 ];
 
@@ -86,7 +104,7 @@ fn cost_of(matrix: &Matrix<'_>, shipments: &[Shipment]) -> i64 {
     cost
 }
 
-// Returns whether the solver's plan has the expected cost, or there is none as expected.
+// Returns whether the solver's plan has the expected cost, or a cut is answered as expected.
 fn plans(alloc: Global, worked: &WorkedPlan) -> Result<bool, NoMemory> {
     let (costs, supplies, demands, least) = *worked;
     let masses = Masses { supplies, demands };
@@ -95,18 +113,19 @@ fn plans(alloc: Global, worked: &WorkedPlan) -> Result<bool, NoMemory> {
     };
     match plan(alloc, &matrix, &masses)? {
         Planned::Least(found) => Ok(least == Some(cost_of(&matrix, &found.shipments))),
-        Planned::NotShown => Ok(least.is_none()),
+        Planned::Infeasible(_) => Ok(least.is_none()),
+        Planned::NotShown => Ok(false),
     }
 }
 
 #[test]
-fn six_rows_of_plans(rt: HostRuntime) -> Result<(), Fail> {
+fn rows_of_plans(rt: HostRuntime) -> Result<(), Fail> {
     let mut count = 0usize;
     'worked: for worked in &WORKED_PLANS {
         if plans(rt.alloc(), worked)? {
             count = count.wrapping_add(1);
         }
     }
-    assert_eq!(rt; count, 6);
+    assert_eq!(rt; count, 12);
     Ok(())
 }
