@@ -1,11 +1,11 @@
-//! Entries as whole numbers of units.
+//! Conversion of entries to whole numbers of units.
 
 use mcf_matrix::FORBIDDEN;
 use mcf_matrix_doubles::{DoubleMatrix, INFINITY, Scaled};
 use mcf_text::{NoMemory, copies};
 use std::alloc::Global;
 
-/// An entry in units of 2^grid, rounded down; 64 bits fit it.
+// Returns an entry in units of 2^grid, rounded down, if 64 bits fit it.
 #[inline(always)]
 fn cut(bits: u64, grid: u32) -> i64 {
     if bits == INFINITY {
@@ -19,7 +19,7 @@ fn cut(bits: u64, grid: u32) -> i64 {
     }
 }
 
-/// A finite entry in units of 2^unit, exactly if 2^unit divides it and 128 bits fit it.
+/// Returns a finite entry in units of 2^unit: exactly, if 2^unit divides it and 128 bits fit it.
 #[inline(always)]
 pub(crate) fn exact(bits: u64, unit: u32) -> i128 {
     let Scaled { mantissa, shift } = Scaled::of(bits);
@@ -31,7 +31,7 @@ pub(crate) fn exact(bits: u64, unit: u32) -> i128 {
     }
 }
 
-/// The whole costs of a matrix, row after row.
+/// Returns the entries of a matrix in units of 2^grid, rounded down, row after row.
 pub(crate) fn cut_costs(
     alloc: Global,
     matrix: &DoubleMatrix<'_>,

@@ -1,16 +1,16 @@
-//! What a search of doubles found.
+//! The results of a search, which a judge has to check.
 
 use mcf_matrix_search::Cover;
 
-/// An assignment that may be least, or a cover that may show that there is none.
+/// An assignment that may be least, or a cover that may show that there is no assignment.
 #[derive(Drop)]
 pub enum DoubleFound {
     Assignment(DoubleAssignment),
     Cover(Cover),
 }
 
-/// Of each row its column, or `u32::MAX`, and prices of rows and columns that may show the
-/// assignment least, in units of 2^unit, of which each is 2^-1074.
+/// An assignment that may be least: the column of each row, or `u32::MAX` for a row without one,
+/// with prices of rows and columns that may show it, in units of 2^unit * 2^-1074.
 #[derive(Drop)]
 pub struct DoubleAssignment {
     pub column_of: Vec<u32>,

@@ -1,14 +1,15 @@
 #![tactic(auto)]
 
-//! A search for least assignments of matrices of doubles, of which nothing is proved but that it is
-//! safe and ends: a proved judge stands behind it.
+//! A search for least assignments of cost matrices of doubles.
 //!
-//! It stands on `mcf_matrix_doubles` and `mcf_matrix_search`: it searches a matrix of whole costs
-//! that are cut to multiples of a power of 2, and makes its answer exact on the pairs near 0.
+//! Nothing is proved of what it finds, since a proved judge checks it: the search is safe and ends.
+//!
+//! It builds on `mcf_matrix_doubles` and `mcf_matrix_search`. It cuts the entries to multiples of a
+//! power of 2, has a matrix of whole costs searched, and then makes the answer exact, by the pairs
+//! whose reduced cost is near 0.
 
 mod cutting;
 mod found;
-mod heap;
 mod near;
 mod refining;
 mod searching;

@@ -8,24 +8,24 @@ use mcf_matrix_search::Assignment;
 use mcf_text::{NoMemory, copies};
 use std::alloc::Global;
 
-/// A matrix with exact prices, and of each row the columns near it. The row after the last stands
-/// for the columns that stay free: its costs are 0.
+/// A matrix with exact prices, and for each row the columns near it: those of reduced cost near 0.
+/// A row of zeros, after the last, stands for the columns that stay free.
 #[derive(Drop)]
 pub(crate) struct Near<'a> {
     matrix: &'a DoubleMatrix<'a>,
     pub(crate) rows: u32,
     unit: u32,
-    // prices of rows, of which the last is that of the row of zeros
+    // the prices of rows, and then that of the row of zeros
     pub(crate) row_prices: Vec<i128>,
     pub(crate) column_prices: Vec<i128>,
-    // where the columns of each row begin, and where the last end
+    // where the near columns of each row begin in `columns`, and where the last ones end
     starts: Vec<u32>,
     columns: Vec<u32>,
-    // how far from 0 a reduced cost is near
+    // the reduced cost below which a pair is near
     reach: i128,
 }
 
-// The prices in finer units.
+// Returns prices in finer units, with so many zeros after them.
 fn finer(alloc: Global, prices: &[i64], more: usize, factor: i128) -> Result<Vec<i128>, NoMemory> {
     let mut made = copies(alloc, prices.len().saturating_add(more), 0i128)?;
     let count = prices.len().min(made.len());
@@ -35,7 +35,7 @@ fn finer(alloc: Global, prices: &[i64], more: usize, factor: i128) -> Result<Vec
     Ok(made)
 }
 
-/// The prices of a whole matrix in finer units, with one more row.
+/// Returns the prices of rows and columns in finer units, with a price for the row of zeros.
 pub(crate) fn finer_prices(
     alloc: Global,
     found: &Assignment,
@@ -48,9 +48,9 @@ pub(crate) fn finer_prices(
 }
 
 impl<'a> Near<'a> {
-    /// The matrix with the prices that were found on multiples of the grid. Rounding down kept each
-    /// exact reduced cost at least 0, and those of pairs below 2^grid; so exact prices lie within
-    /// as many times that as there are rows, and all that can come to 0 is near.
+    /// Starts from the prices of the cut matrix. Since entries are rounded down, each exact reduced
+    /// cost is at least 0, and that of a matched pair is below 2^grid. So exact prices differ by at
+    /// most as many times that as there are rows, and each pair that may be matched is near.
     pub(crate) fn start(
         alloc: Global,
         matrix: &'a DoubleMatrix<'a>,
@@ -76,7 +76,7 @@ impl<'a> Near<'a> {
         Ok(near)
     }
 
-    // The reduced cost of a pair, or none if it is forbidden.
+    // Returns the reduced cost of a pair, or `None` if it is forbidden.
     #[inline(always)]
     fn reduced_entry(&self, bits: u64, row_price: i128, column: usize) -> Option<i128> {
         if bits == INFINITY || column >= self.column_prices.len() {
@@ -89,7 +89,7 @@ impl<'a> Near<'a> {
         )
     }
 
-    /// The reduced cost of an allowed pair.
+    /// Returns the reduced cost of an allowed pair.
     pub(crate) fn reduced(&self, row: u32, column: u32) -> i128 {
         let price = at(&self.row_prices, row, 0);
         if (row as usize) < self.matrix.rows() && (column as usize) < self.matrix.columns() {
@@ -102,8 +102,7 @@ impl<'a> Near<'a> {
         0i128.wrapping_sub(price).wrapping_sub(column_price)
     }
 
-    // Raises the price of each row until a pair of it has the reduced cost 0, and lists the columns
-    // near it.
+    // Raises the price of each row until its least reduced cost is 0, and lists its near columns.
     fn list_rows(&mut self) -> Result<(), NoMemory> {
         let matrix = self.matrix;
         for row in 0..matrix.rows() {
@@ -118,7 +117,7 @@ impl<'a> Near<'a> {
         Ok(())
     }
 
-    // The least reduced cost of a row, or 0 if all its pairs are forbidden.
+    // Returns the least reduced cost of a row, or 0 if all its pairs are forbidden.
     fn least_of(&self, entries: &[u64], price: i128) -> i128 {
         let mut least = i128::MAX;
         'columns: for column in 0..entries.len() {
@@ -129,7 +128,7 @@ impl<'a> Near<'a> {
         if least == i128::MAX { 0 } else { least }
     }
 
-    // Lists the columns near a row.
+    // Lists the near columns of a row.
     fn list_row(&mut self, entries: &[u64], price: i128) -> Result<(), NoMemory> {
         for column in 0..entries.len() {
             if let Some(reduced) = self.reduced_entry(entries[column], price, column) {
@@ -141,7 +140,7 @@ impl<'a> Near<'a> {
         Ok(())
     }
 
-    // Lists the columns near the row of zeros, if there are more columns than rows.
+    // Lists the near columns of the row of zeros, if there are more columns than rows.
     fn list_zeros(&mut self) -> Result<(), NoMemory> {
         let columns = if self.matrix.rows() < self.matrix.columns() {
             narrow(self.column_prices.len())
@@ -158,13 +157,13 @@ impl<'a> Near<'a> {
         Ok(())
     }
 
-    /// How many columns are near a row.
+    /// Returns the number of near columns of a row.
     pub(crate) fn count(&self, row: u32) -> u32 {
         let end = at(&self.starts, row.wrapping_add(1), 0);
         end.saturating_sub(at(&self.starts, row, 0))
     }
 
-    /// A column near a row, by its place.
+    /// Returns a near column of a row, by its place.
     #[inline(always)]
     pub(crate) fn column(&self, row: u32, place: u32) -> u32 {
         let start = at(&self.starts, row, 0);
@@ -183,7 +182,8 @@ impl<'a> Near<'a> {
         put(&mut self.column_prices, column, price);
     }
 
-    /// Takes the price of the row of zeros off all rows, and gives it to all columns.
+    /// Moves the price of the row of zeros to all columns, so that columns that stay free have the
+    /// price 0.
     pub(crate) fn settle_zeros(&mut self) {
         let change = at(&self.row_prices, self.rows, 0);
         'rows: for row in 0..self.rows {

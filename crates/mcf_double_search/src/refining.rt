@@ -1,8 +1,8 @@
-//! An assignment of a cut matrix made least in the exact one: shortest augmenting paths among the
-//! pairs near 0, from each row whose pair isn't exactly tight.
+//! Refines a least assignment of the cut matrix to one of the exact matrix: it searches a shortest
+//! augmenting path, among the pairs of reduced cost near 0, from each row whose pair has a reduced
+//! cost above 0.
 
 use crate::found::DoubleAssignment;
-use crate::heap::{Entry, Heap};
 use crate::near::Near;
 use crate::window::Window;
 use mcf_columns::{NOWHERE, Pile, at, narrow, put};
@@ -10,28 +10,41 @@ use mcf_matrix_doubles::DoubleMatrix;
 use mcf_matrix_search::Assignment;
 use mcf_text::{NoMemory, copies};
 use std::alloc::Global;
+use std::cmp::Reverse;
+use std::collections::BinaryHeap;
 
-// Stands for a distance that isn't known.
+// The distance of a column that isn't reached.
 const UNREACHED: i128 = i128::MAX;
 
-/// The search (Dijkstra 1959), among the near pairs.
+// A column, and how far it is from the row at which a path begins.
+#[derive(Clone, Copy)]
+struct Reached {
+    distance: i128,
+    column: u32,
+}
+
+// The searches for shortest paths (Dijkstra 1959).
 #[derive(Drop)]
 struct Refining<'a> {
     near: Near<'a>,
     column_of: Vec<u32>,
-    // the row of each column; the row of zeros for those that stay free
+    // the row of each column: the row of zeros for columns that stay free
     row_of: Vec<u32>,
     distances: Vec<i128>,
-    // by which row each column is reached
+    // the row before each reached column on its path
     sources: Vec<u32>,
     is_settled: Vec<bool>,
     reached: Pile,
-    waiting: Heap,
-    // the column by which the row of zeros was reached, and how far it was
-    zeros: Option<Entry>,
+    // the distances and columns to settle, nearest first
+    queue: BinaryHeap<Reverse<(i128, u32)>>,
+    // the column before the row of zeros on its path
+    zeros: Option<Reached>,
 }
 
-/// The assignment made exact, with prices that may show it.
+/// Refines an assignment. Returns `None` if a row can't be matched.
+///
+/// # Errors
+/// `NoMemory` if an allocation is refused.
 pub(crate) fn refine<'a>(
     alloc: Global,
     matrix: &'a DoubleMatrix<'a>,
@@ -49,7 +62,7 @@ pub(crate) fn refine<'a>(
         sources: copies(alloc, columns, NOWHERE)?,
         is_settled: copies(alloc, columns, false)?,
         reached: Pile::start(alloc, columns)?,
-        waiting: Heap::start(alloc),
+        queue: BinaryHeap::new(alloc),
         zeros: None,
     };
     refining.keep_tight();
@@ -72,7 +85,7 @@ pub(crate) fn refine<'a>(
 }
 
 impl<'a> Refining<'a> {
-    // Parts the pairs whose reduced cost isn't 0.
+    // Unmatches the pairs whose reduced cost isn't 0.
     fn keep_tight(&mut self) {
         'rows: for row in 0..self.near.rows {
             let column = at(&self.column_of, row, NOWHERE);
@@ -85,7 +98,7 @@ impl<'a> Refining<'a> {
         }
     }
 
-    // Gives each free row a column, and says whether it could.
+    // Matches each free row. Returns whether it could.
     fn run(&mut self) -> Result<bool, NoMemory> {
         for row in 0..self.near.rows {
             if at(&self.column_of, row, NOWHERE) == NOWHERE {
@@ -94,13 +107,13 @@ impl<'a> Refining<'a> {
                 };
                 self.near.raise_row(row, end.distance);
                 self.price_settled(end.distance);
-                self.turn(row, end.column);
+                self.augment(row, end.column);
             }
         }
         Ok(true)
     }
 
-    // Nothing is reached.
+    // Begins a new search.
     fn begin(&mut self) {
         'columns: for place in 0..self.reached.len() {
             let column = self.reached.get(place);
@@ -108,12 +121,12 @@ impl<'a> Refining<'a> {
             put(&mut self.is_settled, column, false);
         }
         self.reached.clear();
-        self.waiting.clear();
+        self.queue.clear();
         self.zeros = None;
     }
 
-    // The nearest column without a row, after all columns before it are settled.
-    fn find_end(&mut self, free: u32) -> Result<Option<Entry>, NoMemory> {
+    // Settles columns, nearest first, and returns the first one without a row.
+    fn find_end(&mut self, free: u32) -> Result<Option<Reached>, NoMemory> {
         self.begin();
         self.offer(free, 0)?;
         for _ in 0..self.near.column_prices.len() {
@@ -132,8 +145,8 @@ impl<'a> Refining<'a> {
         Ok(None)
     }
 
-    // Whether a row is reached for the first time: that of zeros has many columns.
-    fn is_new(&mut self, row: u32, nearest: Entry) -> bool {
+    // Returns whether a row is reached for the first time: the row of zeros has many columns.
+    fn is_new(&mut self, row: u32, nearest: Reached) -> bool {
         if row < self.near.rows {
             return true;
         }
@@ -144,51 +157,51 @@ impl<'a> Refining<'a> {
         is_new
     }
 
-    // A row at a distance offers its near columns.
+    // Reaches the near columns of a row at a distance.
     fn offer(&mut self, row: u32, distance: i128) -> Result<(), NoMemory> {
         for place in 0..self.near.count(row) {
             let column = self.near.column(row, place);
             let reduced = self.near.reduced(row, column);
-            let entry = Entry {
+            let found = Reached {
                 distance: distance.wrapping_add(reduced),
                 column,
             };
-            if entry.distance < at(&self.distances, column, 0) {
-                self.reach(row, entry)?;
+            if found.distance < at(&self.distances, column, 0) {
+                self.reach(row, found)?;
             }
         }
         Ok(())
     }
 
-    // A column is reached by a row, at a distance.
-    fn reach(&mut self, row: u32, entry: Entry) -> Result<(), NoMemory> {
-        let column = entry.column;
+    // Reaches a column from a row, unless it is settled.
+    fn reach(&mut self, row: u32, found: Reached) -> Result<(), NoMemory> {
+        let Reached { distance, column } = found;
         if at(&self.is_settled, column, true) {
             return Ok(());
         }
         if at(&self.distances, column, 0) == UNREACHED {
             self.reached.add(column);
         }
-        put(&mut self.distances, column, entry.distance);
+        put(&mut self.distances, column, distance);
         put(&mut self.sources, column, row);
-        self.waiting.add(entry)
+        self.queue.push(Reverse((distance, column)))?;
+        Ok(())
     }
 
-    // The nearest column that isn't settled, if one is reached.
-    fn nearest(&mut self) -> Option<Entry> {
+    // Returns the nearest reached column that isn't settled.
+    fn nearest(&mut self) -> Option<Reached> {
         for _ in 0..u64::MAX {
-            let entry = self.waiting.pop()?;
-            if entry.distance == at(&self.distances, entry.column, 0)
-                && !at(&self.is_settled, entry.column, true)
-            {
-                return Some(entry);
+            let Reverse((distance, column)) = self.queue.pop()?;
+            let is_current = distance == at(&self.distances, column, 0);
+            if is_current && !at(&self.is_settled, column, true) {
+                return Some(Reached { distance, column });
             }
         }
         None
     }
 
-    // Lowers the prices of settled columns, and raises those of their rows, by how much nearer they
-    // were than the end.
+    // Lowers the prices of settled columns and raises those of their rows, each by how much nearer
+    // it is than the end of the path.
     fn price_settled(&mut self, distance: i128) {
         'columns: for place in 0..self.reached.len() {
             let column = self.reached.get(place);
@@ -208,8 +221,8 @@ impl<'a> Refining<'a> {
         }
     }
 
-    // Turns the path that ends at a column.
-    fn turn(&mut self, free: u32, end: u32) {
+    // Augments along the path that ends at a column.
+    fn augment(&mut self, free: u32, end: u32) {
         let mut column = end;
         'rows: for _ in 0..self.near.column_prices.len() {
             let row = at(&self.sources, column, NOWHERE);

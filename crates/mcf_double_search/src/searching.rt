@@ -1,4 +1,4 @@
-//! The search of a matrix of doubles.
+//! The search in a matrix of doubles.
 ghost use Rattle.std.specs.Prelude.{◌≤◌, ◌+◌, IfNone, IfOk, OnErr};
 
 use crate::cutting::cut_costs;
@@ -13,17 +13,18 @@ use mcf_matrix_search::{Assignment, Found};
 use mcf_text::NoMemory;
 use std::alloc::Global;
 
-// A matrix with more rows or columns is left alone.
+// The greatest number of rows or columns that is searched.
 const MOST_LINES: usize = 1 << 30;
 
-/// An assignment that may be least, with prices that may show it, or a cover that may show that
-/// there is none.
+/// Searches for a least assignment, with prices that show it, or for a cover that shows that there
+/// is none.
 ///
-/// What is found has to be judged: this call promises nothing of it. Entries whose bits span at
-/// most 49 places become whole costs exactly. All others are rounded down to multiples of a power
-/// of 2; a least assignment of these is then made exact by shortest augmenting paths among the
-/// pairs whose exact reduced cost is near 0 (Dijkstra 1959). Nothing is found where the bits of
-/// finite entries span more than 118 places. The whole costs take 8 bytes for each entry.
+/// The caller has to check the result: this call promises nothing about it. If the bits of the
+/// finite entries span at most 49 places, it searches a matrix of exact whole costs. Otherwise it
+/// rounds entries down to multiples of a power of 2, searches a least assignment of these, and
+/// refines it by shortest augmenting paths among the pairs whose exact reduced cost is near 0
+/// (Dijkstra 1959). Returns `None` if the bits span more than 118 places, or a search gives up. The
+/// whole costs take 8 bytes for each entry.
 ///
 /// # Errors
 ///
@@ -53,7 +54,7 @@ pub fn find_assignment(
     find(alloc, matrix)
 }
 
-// What is found in a matrix with more rows than columns.
+// Searches a matrix with more rows than columns, by exchanging both.
 fn find_turned(alloc: Global, matrix: &DoubleMatrix<'_>) -> Result<Option<DoubleFound>, NoMemory> {
     let (rows, columns) = (matrix.rows(), matrix.columns());
     let bits = turned_bits(alloc, matrix)?;
@@ -64,7 +65,7 @@ fn find_turned(alloc: Global, matrix: &DoubleMatrix<'_>) -> Result<Option<Double
     turn_found(alloc, found)
 }
 
-// What is found in a matrix that has no more rows than columns.
+// Searches a matrix with at most as many rows as columns.
 fn find(alloc: Global, matrix: &DoubleMatrix<'_>) -> Result<Option<DoubleFound>, NoMemory> {
     let window = Window::of(matrix);
     match find_whole(alloc, matrix, window.grid())? {
@@ -83,7 +84,7 @@ fn find(alloc: Global, matrix: &DoubleMatrix<'_>) -> Result<Option<DoubleFound>,
     }
 }
 
-// What is found in the matrix of whole costs.
+// Searches the matrix of whole costs.
 fn find_whole(
     alloc: Global,
     matrix: &DoubleMatrix<'_>,
@@ -97,7 +98,7 @@ fn find_whole(
     mcf_matrix_search::find_assignment(alloc, &whole)
 }
 
-// An assignment of whole costs that are exact.
+// Returns an assignment of exact whole costs as one of doubles.
 fn as_found(
     alloc: Global,
     found: Assignment,

@@ -1,4 +1,4 @@
-//! Matrices with more rows than columns, which are turned over.
+//! The exchange of rows and columns, for matrices with more rows than columns.
 
 use crate::found::{DoubleAssignment, DoubleFound};
 use mcf_columns::{NOWHERE, at, narrow, put};
@@ -7,7 +7,7 @@ use mcf_matrix_search::Cover;
 use mcf_text::{NoMemory, copies};
 use std::alloc::Global;
 
-/// The bits of a matrix, column after column.
+/// Returns the bits of a matrix, column after column.
 pub(crate) fn turned_bits(alloc: Global, matrix: &DoubleMatrix<'_>) -> Result<Vec<u64>, NoMemory> {
     let rows = matrix.rows();
     let mut bits = copies(alloc, rows.saturating_mul(matrix.columns()), INFINITY)?;
@@ -27,7 +27,7 @@ fn turn_row(entries: &[u64], row: usize, rows: usize, bits: &mut [u64]) {
     }
 }
 
-/// What was found, with rows and columns exchanged.
+/// Exchanges rows and columns in what a search found.
 pub(crate) fn turn_found(
     alloc: Global,
     found: Option<DoubleFound>,
@@ -44,7 +44,7 @@ pub(crate) fn turn_found(
     }
 }
 
-// The assignment with rows and columns exchanged.
+// Exchanges rows and columns of an assignment.
 fn turn_assignment(alloc: Global, turned: DoubleAssignment) -> Result<DoubleAssignment, NoMemory> {
     let mut column_of = copies(alloc, turned.column_prices.len(), NOWHERE)?;
     'columns: for column in 0..narrow(turned.column_of.len()) {

@@ -1,14 +1,14 @@
-//! Which bits the entries of a matrix have.
+//! The range of the bits that the entries of a matrix have.
 
 use mcf_matrix_doubles::{DoubleMatrix, INFINITY, Scaled};
 
-// So many bits fit the costs of a whole matrix: 2^49 is below 10^15.
+// The bits of whole costs: 2^49 is below 10^15, the limit of a cost.
 const WHOLE_BITS: u32 = 49;
 
-// So many bits fit the refinement, with room for sums of prices.
+// The greatest span of bits for which the refinement's sums of prices fit 128 bits.
 const EXACT_BITS: u32 = 118;
 
-/// From the lowest set bit of the finite entries to above the highest, in powers of 2.
+/// The exponents of 2 from the lowest set bit of the finite entries to above the highest.
 #[derive(Clone, Copy)]
 pub(crate) struct Window {
     pub(crate) low: u32,
@@ -16,7 +16,7 @@ pub(crate) struct Window {
 }
 
 impl Window {
-    /// The window of a matrix.
+    /// Returns the window of a matrix.
     pub(crate) fn of(matrix: &DoubleMatrix<'_>) -> Window {
         let mut window = Window {
             low: u32::MAX,
@@ -29,14 +29,14 @@ impl Window {
         window
     }
 
-    // Takes in the entries of a row.
+    // Widens the window to the entries of a row.
     fn widen(&mut self, row: &[u64]) {
         'columns: for column in 0..row.len() {
             self.take(row[column]);
         }
     }
 
-    // Takes in an entry.
+    // Widens the window to an entry.
     #[inline(always)]
     fn take(&mut self, bits: u64) {
         if bits == INFINITY {
@@ -53,17 +53,17 @@ impl Window {
             .max(shift.wrapping_add(64).wrapping_sub(size.leading_zeros()));
     }
 
-    /// The power of which the whole costs are multiples.
+    /// Returns the exponent of the power of 2 to whose multiples entries are rounded down.
     pub(crate) fn grid(self) -> u32 {
         self.low.max(self.top.saturating_sub(WHOLE_BITS))
     }
 
-    /// Whether the whole costs are exact.
+    /// Returns whether that rounding changes no entry.
     pub(crate) fn is_whole(self) -> bool {
         self.grid() <= self.low
     }
 
-    /// Whether the entries fit 128 bits with sums of their prices.
+    /// Returns whether the refinement's sums of prices fit 128 bits.
     pub(crate) fn is_narrow(self) -> bool {
         self.top.wrapping_sub(self.low) <= EXACT_BITS
     }

@@ -1,4 +1,4 @@
-//! Assignments of doubles that are searched for and judged.
+//! Least assignments of doubles: a search finds them, and a judge checks them.
 ghost use Rattle.std.specs.Prelude.{◌≤◌, ◌+◌, IfOk, OnErr};
 ghost use Rattle.mcf_matrix_doubles.specs.DoubleTables.{double_costs};
 ghost use Rattle.mcf_double_solver.specs.DoubleAnswers.{IsRightAnswer, IsShownAnswer};
@@ -8,24 +8,25 @@ use mcf_matrix_doubles::{DoubleMatrix, DoublePrices, judge_assignment, judge_cov
 use mcf_text::NoMemory;
 use std::alloc::Global;
 
-/// What is answered for a matrix of doubles.
+/// The answer for a cost matrix of doubles.
 #[derive(Drop)]
 pub enum DoubleAssigned {
     /// A least matching, with prices that show it.
     Least(DoubleAssignment),
-    /// Too few rows and columns that meet all allowed pairs, so that there is no matching.
+    /// A cover: rows and columns that contain all allowed pairs and are fewer than the smaller side
+    /// has. So there is no matching of that size.
     Infeasible(Cover),
     /// The search gave up, or the judge refused what it found.
     NotShown,
 }
 
-/// A least assignment of rows to columns, as many pairs as the smaller side has, or a cover that
-/// shows that there is none. Costs are exact: a finite double is the number that its bits stand
-/// for, and +infinity forbids its pair.
+/// Finds a least assignment of rows to columns with as many pairs as the smaller side has, or a
+/// cover that shows that there is none. Costs are exact: a finite double is the number that its
+/// bits stand for, and +infinity forbids its pair.
 ///
-/// What it answers is proved right: a judge looks at each answer. That the search finds one isn't
-/// proved, and `NotShown` says that it didn't, or that the judge refused it, as where the bits of
-/// finite entries span more than 118 places.
+/// The answer is proved right, since a judge checks it. No proof says that the search finds one:
+/// `NotShown` means that it gave up, for example because the bits of finite entries span more than
+/// 118 places, or that the judge refused its result.
 ///
 /// # Errors
 ///
@@ -42,7 +43,7 @@ pub fn assign(alloc: Global, matrix: &DoubleMatrix<'_>) -> Result<DoubleAssigned
     }
 }
 
-// An assignment, if its prices show it least.
+// Returns an assignment if its prices show that it is least.
 fn judged(
     alloc: Global,
     matrix: &DoubleMatrix<'_>,
@@ -64,7 +65,7 @@ fn judged(
     Ok(DoubleAssigned::NotShown)
 }
 
-// A cover, if it shows that there is no matching.
+// Returns a cover if it shows that there is no matching.
 fn judged_cover(matrix: &DoubleMatrix<'_>, cover: Cover) -> DoubleAssigned
     ensures shown { IsShownAnswer (double_costs matrix.now) result }
     ensures right { IsRightAnswer (double_costs matrix.now) result }

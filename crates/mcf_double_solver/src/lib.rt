@@ -1,9 +1,9 @@
 #![tactic(auto)]
 
-//! Least assignments of matrices of doubles: a fast search of which nothing is proved, and a proved
-//! judge of all that it finds. What is answered is proved right; that an answer is found isn't.
+//! Least assignments of cost matrices of doubles, by a fast search and a proved judge of all that
+//! it finds. So each answer is proved right, but not that there is an answer.
 //!
-//! It stands on `mcf_matrix_doubles` and `mcf_double_search`.
+//! It builds on `mcf_matrix_doubles` and `mcf_double_search`.
 
 mod assigning;
 

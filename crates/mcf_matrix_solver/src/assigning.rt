@@ -1,4 +1,4 @@
-//! Assignments that are searched for and judged.
+//! Least assignments: a search finds them, and a judge checks them.
 ghost use Rattle.std.specs.Prelude.{◌≤◌, ◌+◌, IfOk, OnErr};
 ghost use Rattle.mcf_matrix.specs.Tables.{whole_costs};
 ghost use Rattle.mcf_matrix_solver.specs.Answers.{IsRightAnswer, IsShownAnswer};
@@ -8,28 +8,29 @@ use mcf_matrix_search::{Assignment, Cover, Found, find_assignment};
 use mcf_text::NoMemory;
 use std::alloc::Global;
 
-/// What is answered for a matrix.
+/// The answer for a cost matrix.
 #[derive(Drop)]
 pub enum Assigned {
     /// A least matching, with prices that show it.
     Least(Assignment),
-    /// Too few rows and columns that meet all allowed pairs, so that there is no matching.
+    /// A cover: rows and columns that contain all allowed pairs and are fewer than the smaller side
+    /// has. So there is no matching of that size.
     Infeasible(Cover),
     /// The search gave up, or the judge refused what it found.
     NotShown,
 }
 
-/// A least assignment of rows to columns, as many pairs as the smaller side has, or a cover that
-/// shows that there is none.
+/// Finds a least assignment of rows to columns with as many pairs as the smaller side has, or a
+/// cover that shows that there is none.
 ///
-/// What it answers is proved right: a judge looks at each answer. That the search finds one isn't
-/// proved, and `NotShown` says that it didn't, or that the judge refused it. No cost matrix is
-/// known for which it does. The caller may solve such a matrix as an assignment problem with
-/// explicit pairs, by `Sap` (`mcf_assign`).
+/// The answer is proved right, since a judge checks it. No proof says that the search finds one:
+/// `NotShown` means that it gave up, or that the judge refused its result. No matrix is known with
+/// this outcome. The caller may solve such a matrix as an assignment problem with explicit pairs,
+/// by `Sap` (`mcf_assign`).
 ///
 /// # Errors
 ///
-/// Want of memory, where a growth was refused; a matrix without rows and columns wants none.
+/// `NoMemory` if an allocation is refused; a matrix without rows and columns needs none.
 pub fn assign(alloc: Global, matrix: &Matrix<'_>) -> Result<Assigned, NoMemory>
     ensures shown { IfOk result (IsShownAnswer (whole_costs matrix.now)) }
     ensures right { IfOk result (IsRightAnswer (whole_costs matrix.now)) }
@@ -42,7 +43,7 @@ pub fn assign(alloc: Global, matrix: &Matrix<'_>) -> Result<Assigned, NoMemory>
     }
 }
 
-// An assignment, if its prices show it least.
+// Returns an assignment if its prices show that it is least.
 fn judged(alloc: Global, matrix: &Matrix<'_>, found: Assignment) -> Result<Assigned, NoMemory>
     ensures shown { IfOk result (IsShownAnswer (whole_costs matrix.now)) }
     ensures right { IfOk result (IsRightAnswer (whole_costs matrix.now)) }
@@ -61,7 +62,7 @@ fn judged(alloc: Global, matrix: &Matrix<'_>, found: Assignment) -> Result<Assig
     Ok(Assigned::NotShown)
 }
 
-// A cover, if it shows that there is no matching.
+// Returns a cover if it shows that there is no matching.
 fn judged_cover(matrix: &Matrix<'_>, cover: Cover) -> Assigned
     ensures shown { IsShownAnswer (whole_costs matrix.now) result }
     ensures right { IsRightAnswer (whole_costs matrix.now) result }

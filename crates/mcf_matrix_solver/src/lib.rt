@@ -1,10 +1,9 @@
 #![tactic(auto)]
 
-//! Least assignments and transport plans of cost matrices: a fast search of which nothing is
-//! proved, and a proved judge of all that it finds. What is answered is proved right; that an
-//! answer is found isn't.
+//! Least assignments and transport plans of cost matrices, by a fast search and a proved judge of
+//! all that it finds. So each answer is proved right, but not that there is an answer.
 //!
-//! It stands on `mcf_matrix` and `mcf_matrix_search`.
+//! It builds on `mcf_matrix` and `mcf_matrix_search`.
 
 mod assigning;
 mod planning;

@@ -1,4 +1,4 @@
-//! Transport plans that are searched for and judged.
+//! Least transport plans: a search finds them, and a judge checks them.
 ghost use Rattle.std.specs.Prelude.{◌≤◌, ◌+◌, IfOk, OnErr};
 ghost use Rattle.mcf_matrix.specs.Tables.{whole_costs};
 ghost use Rattle.mcf_matrix_solver.specs.Answers.{IsRightPlanAnswer, IsShownPlanAnswer};
@@ -8,24 +8,24 @@ use mcf_matrix_search::{Cut, FoundPlan, Plan, find_plan};
 use mcf_text::NoMemory;
 use std::alloc::Global;
 
-/// What is answered for a matrix and masses.
+/// The answer for a cost matrix with supplies and demands.
 #[derive(Drop)]
 pub enum Planned {
     /// A least transport plan, with prices that show it.
     Least(Plan),
-    /// Rows and columns that have more to send, or to take, than they can: there is no plan.
+    /// A cut: rows and columns that must send, or take, more than they can. So there is no plan.
     Infeasible(Cut),
     /// The search gave up, or the judge refused what it found.
     NotShown,
 }
 
-/// A least transport plan for what rows supply and columns demand, or a cut that shows that there
-/// is none.
+/// Finds a least transport plan for the supplies of rows and the demands of columns, or a cut that
+/// shows that there is none.
 ///
-/// What it answers is proved right: a judge looks at each answer. That the search finds one isn't
-/// proved, and `NotShown` says that it didn't, or that the judge refused it, or that there isn't
-/// one supply for each row and one demand for each column. Amounts are never below 0, so there is
-/// no plan if a mass is: then `Least` is never answered, but a cut, or `NotShown`.
+/// The answer is proved right, since a judge checks it. No proof says that the search finds one:
+/// `NotShown` means that it gave up, that the judge refused its result, or that there isn't one
+/// supply for each row and one demand for each column. The amounts of a plan are at least 0, so no
+/// plan exists if a supply or a demand is below 0: the answer is then a cut or `NotShown`.
 ///
 /// # Errors
 ///
@@ -42,7 +42,7 @@ pub fn plan(alloc: Global, matrix: &Matrix<'_>, masses: &Masses<'_>) -> Result<P
     }
 }
 
-// A plan, if its prices show it least.
+// Returns a plan if its prices show that it is least.
 fn judged(
     alloc: Global,
     matrix: &Matrix<'_>,
@@ -67,7 +67,7 @@ fn judged(
     Ok(Planned::NotShown)
 }
 
-// A cut, if it shows that there is no plan.
+// Returns a cut if it shows that there is no plan.
 fn judged_cut(matrix: &Matrix<'_>, masses: &Masses<'_>, cut: Cut) -> Planned
     ensures shown { IsShownPlanAnswer (whole_costs matrix.now) masses.now.supplies.now masses.now.demands.now result }
     ensures right { IsRightPlanAnswer (whole_costs matrix.now) masses.now.supplies.now masses.now.demands.now result }

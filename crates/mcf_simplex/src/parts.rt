@@ -105,7 +105,7 @@ impl<'n> Run<'n> {
         )
     }
 
-    /// What it has done so far.
+    /// Returns the run's counts up to now.
     pub fn counts(&self) -> RunCounts {
         RunCounts {
             scanned: self.rule.scanned(),
