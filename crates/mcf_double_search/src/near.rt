@@ -3,7 +3,8 @@
 use crate::cutting::exact;
 use crate::window::Window;
 use mcf_columns::{at, narrow, put};
-use mcf_matrix_doubles::{DoubleMatrix, INFINITY};
+use mcf_matrix::FORBIDDEN;
+use mcf_matrix_doubles::DoubleMatrix;
 use mcf_matrix_search::Assignment;
 use mcf_text::{NoMemory, copies};
 use std::alloc::Global;
@@ -48,14 +49,16 @@ pub(crate) fn finer_prices(
 }
 
 impl<'a> Near<'a> {
-    /// Starts from the prices of the cut matrix. Since entries are rounded down, each exact reduced
-    /// cost is at least 0, and that of a matched pair is below 2^grid. So exact prices differ by at
-    /// most as many times that as there are rows, and each pair that may be matched is near.
+    /// Starts from the prices of the whole costs. Since entries are rounded down, each exact
+    /// reduced cost is at least 0, and that of a matched pair is below 2^grid. So exact prices
+    /// differ by at most as many times that as there are rows, and each pair that may be matched is
+    /// near.
     pub(crate) fn start(
         alloc: Global,
         matrix: &'a DoubleMatrix<'a>,
         window: Window,
         found: &Assignment,
+        costs: &[i64],
     ) -> Result<Near<'a>, NoMemory> {
         let places = window.grid().wrapping_sub(window.low);
         let (row_prices, column_prices) = finer_prices(alloc, found, places)?;
@@ -71,73 +74,68 @@ impl<'a> Near<'a> {
             columns: Vec::new(alloc),
             reach,
         };
-        near.list_rows()?;
+        near.list_rows(costs, found)?;
         near.list_zeros()?;
         Ok(near)
     }
 
-    // Returns the reduced cost of a pair, or `None` if it is forbidden.
-    #[inline(always)]
-    fn reduced_entry(&self, bits: u64, row_price: i128, column: usize) -> Option<i128> {
-        if bits == INFINITY || column >= self.column_prices.len() {
-            return None;
-        }
-        let cost = exact(bits, self.unit);
-        Some(
-            cost.wrapping_sub(row_price)
-                .wrapping_sub(self.column_prices[column]),
-        )
-    }
-
     /// Returns the reduced cost of an allowed pair.
+    #[inline(always)]
     pub(crate) fn reduced(&self, row: u32, column: u32) -> i128 {
         let price = at(&self.row_prices, row, 0);
-        if (row as usize) < self.matrix.rows() && (column as usize) < self.matrix.columns() {
-            let bits = self.matrix.entry(row as usize, column as usize);
-            return self
-                .reduced_entry(bits, price, column as usize)
-                .unwrap_or(i128::MAX);
-        }
         let column_price = at(&self.column_prices, column, 0);
-        0i128.wrapping_sub(price).wrapping_sub(column_price)
+        self.cost(row, column)
+            .wrapping_sub(price)
+            .wrapping_sub(column_price)
     }
 
-    // Raises the price of each row until its least reduced cost is 0, and lists its near columns.
-    fn list_rows(&mut self) -> Result<(), NoMemory> {
-        let matrix = self.matrix;
-        for row in 0..matrix.rows() {
-            let entries = matrix.row(row);
-            let price = at(&self.row_prices, narrow(row), 0);
-            let raised = price.wrapping_add(self.least_of(entries, price));
-            put(&mut self.row_prices, narrow(row), raised);
-            self.list_row(entries, raised)?;
+    // Returns the cost of an allowed pair, or 0 in the row of zeros.
+    #[inline(always)]
+    fn cost(&self, row: u32, column: u32) -> i128 {
+        let (row, column) = (row as usize, column as usize);
+        if row < self.matrix.rows() && column < self.matrix.columns() {
+            return exact(self.matrix.entry(row, column), self.unit);
+        }
+        0
+    }
+
+    // Lists the near columns of each row, and raises its price until its least reduced cost is 0.
+    fn list_rows(&mut self, costs: &[i64], found: &Assignment) -> Result<(), NoMemory> {
+        let width = self.column_prices.len();
+        let prices = found.column_prices.as_slice();
+        for row in 0..self.rows {
+            let start = (row as usize).wrapping_mul(width).min(costs.len());
+            let price = at(&found.row_prices, row, 0);
+            self.list_row(&costs[start..], price, prices)?;
             let end = narrow(self.columns.len());
-            put(&mut self.starts, narrow(row).wrapping_add(1), end);
+            put(&mut self.starts, row.wrapping_add(1), end);
+            let least = self.least_of(row);
+            self.raise_row(row, least);
         }
         Ok(())
     }
 
-    // Returns the least reduced cost of a row, or 0 if all its pairs are forbidden.
-    fn least_of(&self, entries: &[u64], price: i128) -> i128 {
-        let mut least = i128::MAX;
-        'columns: for column in 0..entries.len() {
-            if let Some(reduced) = self.reduced_entry(entries[column], price, column) {
-                least = least.min(reduced);
+    // Lists the near columns of a row, by whole costs: these are less than 1 below the exact ones.
+    fn list_row(&mut self, costs: &[i64], price: i64, prices: &[i64]) -> Result<(), NoMemory> {
+        let count = prices.len().min(costs.len());
+        let reach = i64::from(self.rows).wrapping_add(3);
+        for column in 0..count {
+            let cost = costs[column];
+            let reduced = cost.wrapping_sub(price).wrapping_sub(prices[column]);
+            if reduced < reach && cost != FORBIDDEN {
+                self.columns.push(narrow(column))?;
             }
+        }
+        Ok(())
+    }
+
+    // Returns the least reduced cost of a row, or 0 if no column is near it.
+    fn least_of(&self, row: u32) -> i128 {
+        let mut least = i128::MAX;
+        'places: for place in 0..self.count(row) {
+            least = least.min(self.reduced(row, self.column(row, place)));
         }
         if least == i128::MAX { 0 } else { least }
-    }
-
-    // Lists the near columns of a row.
-    fn list_row(&mut self, entries: &[u64], price: i128) -> Result<(), NoMemory> {
-        for column in 0..entries.len() {
-            if let Some(reduced) = self.reduced_entry(entries[column], price, column) {
-                if reduced < self.reach {
-                    self.columns.push(narrow(column))?;
-                }
-            }
-        }
-        Ok(())
     }
 
     // Lists the near columns of the row of zeros, if there are more columns than rows.

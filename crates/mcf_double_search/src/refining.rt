@@ -41,7 +41,8 @@ struct Refining<'a> {
     zeros: Option<Reached>,
 }
 
-/// Refines an assignment. Returns `None` if a row can't be matched.
+/// Refines an assignment of whole costs to one of the exact costs. Returns `None` if a row can't be
+/// matched.
 ///
 /// # Errors
 /// `NoMemory` if an allocation is refused.
@@ -50,8 +51,9 @@ pub(crate) fn refine<'a>(
     matrix: &'a DoubleMatrix<'a>,
     window: Window,
     found: Assignment,
+    costs: &[i64],
 ) -> Result<Option<DoubleAssignment>, NoMemory> {
-    let near = Near::start(alloc, matrix, window, &found)?;
+    let near = Near::start(alloc, matrix, window, &found, costs)?;
     let columns = matrix.columns();
     let zeros = near.rows;
     let mut refining = Refining {

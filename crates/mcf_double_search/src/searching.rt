@@ -67,35 +67,38 @@ fn find_turned(alloc: Global, matrix: &DoubleMatrix<'_>) -> Result<Option<Double
 
 // Searches a matrix with at most as many rows as columns.
 fn find(alloc: Global, matrix: &DoubleMatrix<'_>) -> Result<Option<DoubleFound>, NoMemory> {
+    let (rows, columns) = (matrix.rows(), matrix.columns());
     let window = Window::of(matrix);
-    match find_whole(alloc, matrix, window.grid())? {
+    let costs = cut_costs(alloc, matrix, window.grid())?;
+    let Ok(whole) = Matrix::of(&costs, rows, columns, columns) else {
+        return Ok(None);
+    };
+    match mcf_matrix_search::find_assignment(alloc, &whole)? {
         Some(Found::Assignment(found)) => {
-            if window.is_whole() {
-                return Ok(Some(DoubleFound::Assignment(as_found(alloc, found, window)?)));
-            }
-            if !window.is_narrow() {
-                return Ok(None);
-            }
-            let refined = refine(alloc, matrix, window, found)?;
-            Ok(refined.map(DoubleFound::Assignment))
+            let exact = made_exact(alloc, matrix, window, found, &costs)?;
+            Ok(exact.map(DoubleFound::Assignment))
         }
         Some(Found::Cover(cover)) => Ok(Some(DoubleFound::Cover(cover))),
         None => Ok(None),
     }
 }
 
-// Searches the matrix of whole costs.
-fn find_whole(
+// Returns an assignment of whole costs as one of the exact costs: refined, if these differ. Returns
+// `None` if 128 bits don't allow that.
+fn made_exact(
     alloc: Global,
     matrix: &DoubleMatrix<'_>,
-    grid: u32,
-) -> Result<Option<Found>, NoMemory> {
-    let (rows, columns) = (matrix.rows(), matrix.columns());
-    let costs = cut_costs(alloc, matrix, grid)?;
-    let Ok(whole) = Matrix::of(&costs, rows, columns, columns) else {
+    window: Window,
+    found: Assignment,
+    costs: &[i64],
+) -> Result<Option<DoubleAssignment>, NoMemory> {
+    if window.is_whole() {
+        return Ok(Some(as_found(alloc, found, window)?));
+    }
+    if !window.is_narrow() {
         return Ok(None);
-    };
-    mcf_matrix_search::find_assignment(alloc, &whole)
+    }
+    refine(alloc, matrix, window, found, costs)
 }
 
 // Returns an assignment of exact whole costs as one of doubles.
