@@ -212,6 +212,55 @@ uint32_t mcf_check_matrix(const struct mcf_matrix *matrix, const uint32_t *colum
                           size_t row_prices_length, const int64_t *column_prices,
                           size_t column_prices_length);
 
+/* A transport problem: a cost matrix, what each row supplies and what each column demands. */
+struct mcf_transport {
+    struct mcf_matrix matrix;
+    const int64_t *supplies;
+    size_t supply_count;
+    const int64_t *demands;
+    size_t demand_count;
+};
+
+/* An entry of a transport plan: so much goes from this row to this column, both from 0. */
+struct mcf_shipment {
+    uint32_t row, column;
+    int64_t amount;
+};
+
+/* What is told of a transport problem: how many entries the plan has, and the side of a cut. */
+struct mcf_planned {
+    size_t used;
+    uint32_t side; /* MCF_SEND or MCF_TAKE */
+};
+
+/* Sends all supplies to the demands at least total cost: the sum of cost times amount. `plan` has
+   room for rows + columns - 1 entries or more, `row_prices` for a number for each row, and
+   `column_prices` for one for each column.
+
+   MCF_FLOW: `plan` begins with `told.used` entries, of which no amount is below 0. The prices show
+   that the plan has least cost: each allowed pair costs at least the sum of the prices of its row
+   and its column, and each pair that the plan uses exactly that sum. The rest of `plan` is
+   unchanged. MCF_BLOCKED: no plan exists. The prices mark with 1 rows and columns, and with 0 all
+   others: by MCF_SEND (`told.side`), the marked rows may send to the marked columns alone, and
+   supply more than these demand; by MCF_TAKE, the marked columns may receive from the marked rows
+   alone, and demand more than these supply. MCF_INVALID_INPUT: as for mcf_assign_matrix.
+   MCF_BUFFER_TOO_SMALL: `plan` has less room, or another array, the supplies and demands among
+   them, has a wrong length. MCF_NOT_SHOWN decides nothing: call mcf_solve_arcs then. MCF_NO_MEMORY
+   is possible, too. Masses may be any numbers; a negative one leaves no plan. `plan` is unchanged
+   from status 1 on, and the prices and `told` are from 2 on. */
+uint32_t mcf_transport_matrix(const struct mcf_transport *problem, struct mcf_shipment *plan,
+                              size_t plan_length, int64_t *row_prices, size_t row_prices_length,
+                              int64_t *column_prices, size_t column_prices_length,
+                              struct mcf_planned *told);
+
+/* Judges a transport plan with prices, whoever made them. A pair may have several entries. Returns
+   0 if the prices show that the plan has least cost, 1 if they don't or an array has a wrong
+   length, MCF_INVALID_INPUT or MCF_NO_MEMORY. */
+uint32_t mcf_check_transport(const struct mcf_transport *problem, const struct mcf_shipment *plan,
+                             size_t plan_length, const int64_t *row_prices,
+                             size_t row_prices_length, const int64_t *column_prices,
+                             size_t column_prices_length);
+
 #ifdef __cplusplus
 }
 #endif

@@ -146,6 +146,41 @@ static int check_matrix(void) {
     return 0;
 }
 
+/* The plan is worked by hand: it costs 3 + 6 + 2. */
+static int check_transport(void) {
+    static const int64_t costs[4] = {1, 2, 3, 1}, one_way[4] = {1, INT64_MAX, 1, INT64_MAX};
+    static const int64_t supplies[2] = {3, 4}, demands[2] = {5, 2}, more[2] = {5, 3};
+    static const struct mcf_transport problem = {{costs, 4, 2, 2, 2}, supplies, 2, demands, 2},
+                                      without = {{one_way, 4, 2, 2, 2}, supplies, 2, demands, 2},
+                                      uneven = {{costs, 4, 2, 2, 2}, supplies, 2, more, 2},
+                                      faulty = {{costs, 3, 2, 2, 2}, supplies, 2, demands, 2},
+                                      narrow = {{costs, 4, 2, 2, 2}, supplies, 2, demands, 1};
+    struct mcf_shipment plan[3];
+    struct mcf_planned told = {9, 9};
+    int64_t rows[2], columns[2];
+    size_t place, cost = 0;
+    CHECK(71, mcf_transport_matrix(&problem, plan, 3, rows, 2, columns, 2, &told) == MCF_FLOW);
+    for (place = 0; place < told.used; place++)
+        cost += (size_t)(costs[plan[place].row * 2 + plan[place].column] * plan[place].amount);
+    CHECK(72, told.used == 3 && told.side == 0 && cost == 11);
+    CHECK(73, mcf_check_transport(&problem, plan, 3, rows, 2, columns, 2) == 0);
+    CHECK(74, mcf_check_transport(&problem, plan, 2, rows, 2, columns, 2) == 1);
+    CHECK(75, mcf_check_transport(&narrow, plan, 3, rows, 2, columns, 2) == 1);
+    CHECK(76, mcf_check_transport(&faulty, plan, 3, rows, 2, columns, 2) == MCF_INVALID_INPUT);
+    CHECK(77, mcf_transport_matrix(&without, plan, 3, rows, 2, columns, 2, &told) == MCF_BLOCKED);
+    CHECK(78, told.side == MCF_SEND && rows[0] == 1 && rows[1] == 1 && columns[0] == 1 &&
+                  columns[1] == 0);
+    CHECK(79, mcf_transport_matrix(&uneven, plan, 3, rows, 2, columns, 2, &told) == MCF_BLOCKED);
+    CHECK(80, told.side == MCF_TAKE && rows[0] == 1 && columns[1] == 1);
+    CHECK(81,
+          mcf_transport_matrix(&faulty, plan, 3, rows, 2, columns, 2, &told) == MCF_INVALID_INPUT);
+    CHECK(82, mcf_transport_matrix(&problem, plan, 2, rows, 2, columns, 2, &told) ==
+                  MCF_BUFFER_TOO_SMALL);
+    CHECK(83, mcf_transport_matrix(&narrow, plan, 3, rows, 2, columns, 2, &told) ==
+                  MCF_BUFFER_TOO_SMALL);
+    return 0;
+}
+
 /* A chain of more than 9223 arcs that cost 10^15 each and carry 1: the last price is too low for 64
  * bits. */
 static int check_wide(void) {
@@ -197,6 +232,7 @@ int main(int count, char **words) {
     if (status == 0) status = check_wide();
     if (status == 0) status = check_pairs();
     if (status == 0) status = check_matrix();
+    if (status == 0) status = check_transport();
     for (place = 1; status == 0 && place + 1 < count; place += 2)
         status = check_text(words[place + 1], (uint32_t)atoi(words[place]));
     return status;

@@ -48,6 +48,9 @@ static struct mcf_arc arcs[MANY];
 static struct mcf_pair pairs[MANY];
 static int64_t costs[400];
 static uint32_t column_of[20];
+static int64_t masses[20];
+static struct mcf_shipment plan[40];
+static struct mcf_planned told;
 static size_t length, used, nodes, arc_count;
 static struct mcf_choice choice;
 static struct mcf_verdict verdict, before;
@@ -57,6 +60,8 @@ static uint32_t call(int number) {
     static struct mcf_flow_problem problem = {supplies, 0, arcs, 0};
     static const struct mcf_assignment assignment = {20, 20, pairs, 400};
     static const struct mcf_matrix matrix = {costs, 400, 20, 20, 20};
+    static const struct mcf_transport transport = {
+        {costs, 400, 20, 20, 20}, masses, 20, masses, 20};
     problem.nodes = nodes;
     problem.arc_count = arc_count;
     switch (number) {
@@ -74,8 +79,12 @@ static uint32_t call(int number) {
         return mcf_check_pairs(&assignment, flow, 400, prices, 40, &verdict);
     case 6:
         return mcf_assign_matrix(&matrix, column_of, 20, flow, 20, prices, 20);
-    default:
+    case 7:
         return mcf_check_matrix(&matrix, column_of, 20, flow, 20, prices, 20);
+    case 8:
+        return mcf_transport_matrix(&transport, plan, 40, flow, 20, prices, 20, &told);
+    default:
+        return mcf_check_transport(&transport, plan, told.used, flow, 20, prices, 20);
     }
 }
 
@@ -84,10 +93,11 @@ static int refuse_each(int number) {
     long step;
     for (step = 0;; step++) {
         uint32_t status;
-        int solves = number == 2 || number == 4 || number == 6;
+        int solves = number == 2 || number == 4 || number == 6 || number == 8;
         memset(&verdict, 9, sizeof verdict);
         if (number == 0) memset(buffer, 7, sizeof buffer);
         if (solves) memset(flow, 7, sizeof flow), memset(prices, 7, sizeof prices);
+        if (number == 8) memset(plan, 7, sizeof plan), memset(&told, 7, sizeof told);
         before = verdict;
         left = step;
         live = 0;
@@ -106,6 +116,8 @@ static int refuse_each(int number) {
         if (solves &&
             (memcmp(flow, sevens, sizeof flow) != 0 || memcmp(prices, sevens, sizeof prices) != 0))
             return printf("refuse: call %d: a buffer is written\n", number);
+        if (number == 8 && (memcmp(plan, sevens, sizeof plan) != 0 || told.side != plan[0].row))
+            return printf("refuse: the plan is written\n");
     }
 }
 
@@ -130,6 +142,7 @@ static void make_arrays(void) {
         pairs[place].column = 1 + place % 20;
         pairs[place].cost = costs[place] = (int64_t)((state >> 4) % 100);
     }
+    for (place = 0; place < 20; place++) masses[place] = 1 + (int64_t)place % 4;
 }
 
 int main(int count, char **words) {
@@ -146,10 +159,13 @@ int main(int count, char **words) {
             supplies[0] -= 1000, supplies[29] += 1000;
         }
     /* Call it with the same matrix, and with one that allows only one column. */
-    if (refuse_each(6) || refuse_each(7)) return 1;
+    if (refuse_each(6) || refuse_each(7) || refuse_each(8) || refuse_each(9)) return 1;
     for (place = 0; place < 400; place++)
         if (place % 20 > 0) costs[place] = INT64_MAX;
-    if (refuse_each(6)) return 1;
+    if (refuse_each(6) || refuse_each(8)) return 1;
+    /* The masses differ in total. */
+    masses[0] = -1;
+    if (refuse_each(8)) return 1;
     choice.pricing = 0;
     for (place = 1; place < count; place++) {
         FILE *file = fopen(words[place], "rb");

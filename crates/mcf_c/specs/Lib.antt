@@ -5,8 +5,10 @@ pub use Rattle.mcf_flows.specs.Blocking
 pub use Rattle.mcf_instance.specs.Memory
 pub use Rattle.mcf_matrix.specs.Costs
 pub use Rattle.mcf_matrix.specs.Covers
+pub use Rattle.mcf_matrix.specs.Cuts
 pub use Rattle.mcf_matrix.specs.Matchings
 pub use Rattle.mcf_matrix.specs.MatrixPrices
+pub use Rattle.mcf_matrix.specs.Plans
 pub use Rattle.mcf_matrix.specs.Tables
 pub use Rattle.mcf_solver.specs.Answering
 pub use Rattle.mcf_solver.specs.Making
@@ -16,4 +18,5 @@ pub mod Handing
 pub mod Judged
 pub mod Matrices
 pub mod Problems
+pub mod Transports
 pub mod Verdicts

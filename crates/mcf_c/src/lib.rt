@@ -7,7 +7,7 @@
 //! `specs/`: `Choices` says what the numbers of a call choose, `Calls` what a call for a text
 //! returns, `Problems` which networks arrays stand for, `Verdicts` which numbers a verdict has,
 //! `Handing` what a call for arrays returns, `Judged` what is judged of arrays, `Matrices` what a
-//! call for a cost matrix returns.
+//! call for a cost matrix returns, `Transports` what a call for a transport problem returns.
 
 mod arrays;
 mod choosing;
@@ -17,4 +17,5 @@ mod matrices;
 mod problems;
 mod statuses;
 mod texts;
+mod transports;
 mod verdicts;

@@ -158,8 +158,8 @@ pub(crate) fn fault_numbers(fault: &ArrayFault) -> McfVerdict
     }
 }
 
-// The number of a side.
-fn side_number(side: Side) -> u32
+/// The number of a side.
+pub(crate) fn side_number(side: Side) -> u32
     ensures { result ≡ side_number side }
 {
     match side {

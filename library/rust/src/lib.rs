@@ -3,7 +3,7 @@
 
 mod raw;
 
-pub use raw::{Arc, Choice, Pair};
+pub use raw::{Arc, Choice, Pair, Shipment};
 
 /// The kind of an answer.
 #[derive(Clone, Copy, Debug, PartialEq, Eq)]
@@ -51,6 +51,19 @@ pub enum Assigned {
     Least { column_of: Vec<Option<usize>>, row_prices: Vec<i64>, column_prices: Vec<i64> },
     /// Rows and columns that cover all allowed pairs and are fewer than the smaller side has.
     Infeasible { rows: Vec<usize>, columns: Vec<usize> },
+    /// The number of costs isn't rows times columns, or a cost is beyond the limit.
+    Refused,
+}
+
+/// The answer to a transport problem.
+#[derive(Clone, Debug, PartialEq, Eq)]
+pub enum Planned {
+    /// What goes from which row to which column, and prices of rows and columns which show that the
+    /// plan has least cost.
+    Least { plan: Vec<Shipment>, row_prices: Vec<i64>, column_prices: Vec<i64> },
+    /// Rows that supply more than the columns demand that they may send to; or, by `Take`, columns
+    /// that demand more than the rows supply that may send to them.
+    Infeasible { side: Side, rows: Vec<usize>, columns: Vec<usize> },
     /// The number of costs isn't rows times columns, or a cost is beyond the limit.
     Refused,
 }
@@ -106,7 +119,6 @@ pub fn solve_pairs(rows: u32, columns: u32, pairs: &[Pair], choice: Choice) -> R
 /// from 0, and `i64::MAX` forbids a pair.
 pub fn assign_matrix(costs: &[i64], rows: usize, columns: usize) -> Result<Assigned, Error> {
     let (mut column_of, mut row_prices, mut column_prices) = (vec![0; rows], vec![0; rows], vec![0; columns]);
-    let marked = |marks: &[i64]| (0..marks.len()).filter(|i| marks[*i] == 1).collect();
     match raw::assign_matrix(costs, (rows, columns), &mut column_of, &mut row_prices, &mut column_prices) {
         0 => {
             let column_of = column_of.iter().map(|j| Some(*j as usize).filter(|j| *j < columns)).collect();
@@ -114,6 +126,25 @@ pub fn assign_matrix(costs: &[i64], rows: usize, columns: usize) -> Result<Assig
         }
         1 => Ok(Assigned::Infeasible { rows: marked(&row_prices), columns: marked(&column_prices) }),
         raw::INVALID_INPUT => Ok(Assigned::Refused),
+        raw::NOT_SHOWN => Err(Error::NotShown),
+        _ => Err(Error::NoMemory),
+    }
+}
+
+/// The least-cost transport plan from rows with these supplies to columns with these demands. The
+/// cost matrix is stored row by row. Rows and columns count from 0, and `i64::MAX` forbids a pair.
+pub fn transport(costs: &[i64], supplies: &[i64], demands: &[i64]) -> Result<Planned, Error> {
+    let (rows, columns) = (supplies.len(), demands.len());
+    let (mut row_prices, mut column_prices) = (vec![0; rows], vec![0; columns]);
+    let mut plan = vec![Shipment { row: 0, column: 0, amount: 0 }; rows + columns];
+    let (status, told) = raw::transport(costs, (supplies, demands), &mut plan, &mut row_prices, &mut column_prices);
+    match status {
+        0 => {
+            plan.truncate(told.used);
+            Ok(Planned::Least { plan, row_prices, column_prices })
+        }
+        1 => Ok(Planned::Infeasible { side: side_of(told.side), rows: marked(&row_prices), columns: marked(&column_prices) }),
+        raw::INVALID_INPUT => Ok(Planned::Refused),
         raw::NOT_SHOWN => Err(Error::NotShown),
         _ => Err(Error::NoMemory),
     }
@@ -127,6 +158,14 @@ pub fn check_arcs(supplies: &[i64], arcs: &[Arc], flow: &[i64], prices: &[i64], 
         raw::INVALID_INPUT | raw::BUFFER_TOO_SMALL => Ok(None),
         status => verdict_of(status, told).map(Some),
     }
+}
+
+fn side_of(side: u32) -> Side {
+    if side == 0 { Side::Send } else { Side::Take }
+}
+
+fn marked(marks: &[i64]) -> Vec<usize> {
+    (0..marks.len()).filter(|i| marks[*i] == 1).collect()
 }
 
 fn kind_of(status: u32) -> Result<Kind, Error> {
@@ -151,7 +190,7 @@ fn answer_of(status: u32, flow: Vec<i64>, prices: Vec<i64>, told: raw::Told) -> 
     Ok(match kind_of(status)? {
         Kind::Flow => Answer::Flow { cost: told.number(), flow, prices },
         Kind::Blocked => Answer::Blocked {
-            side: if told.code == 0 { Side::Send } else { Side::Take },
+            side: side_of(told.code),
             nodes: (1..=prices.len()).filter(|v| prices[v - 1] == 1).collect(),
         },
         Kind::Refused => Answer::Refused { code: told.code, place: told.low },

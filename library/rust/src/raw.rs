@@ -97,8 +97,34 @@ struct Matrix {
     stride: usize,
 }
 
+/// A transport problem, as `mcf.h` has it.
+#[repr(C)]
+struct Transport {
+    matrix: Matrix,
+    supplies: *const i64,
+    supply_count: usize,
+    demands: *const i64,
+    demand_count: usize,
+}
+
+/// An entry of a transport plan: so much goes from this row to this column, both from 0.
+#[repr(C)]
+#[derive(Clone, Copy, Debug, PartialEq, Eq)]
+pub struct Shipment {
+    pub row: u32,
+    pub column: u32,
+    pub amount: i64,
+}
+
+#[repr(C)]
+#[derive(Clone, Copy, Debug, Default)]
+pub struct Planned {
+    pub used: usize,
+    pub side: u32,
+}
+
 mod exports {
-    use super::{Assignment, Choice, FlowProblem, Matrix, Told};
+    use super::{Assignment, Choice, FlowProblem, Matrix, Planned, Shipment, Told, Transport};
 
     #[rustfmt::skip]
     unsafe extern "C" {
@@ -112,6 +138,8 @@ mod exports {
             flow: *mut i64, flow_length: usize, prices: *mut i64, prices_length: usize, told: *mut Told) -> u32;
         pub fn mcf_assign_matrix(matrix: *const Matrix, column_of: *mut u32, column_of_length: usize,
             row_prices: *mut i64, row_prices_length: usize, column_prices: *mut i64, column_prices_length: usize) -> u32;
+        pub fn mcf_transport_matrix(problem: *const Transport, plan: *mut Shipment, plan_length: usize,
+            row_prices: *mut i64, row_prices_length: usize, column_prices: *mut i64, column_prices_length: usize, told: *mut Planned) -> u32;
     }
 }
 
@@ -150,4 +178,18 @@ pub fn assign_matrix(costs: &[i64], sides: (usize, usize), column_of: &mut [u32]
         exports::mcf_assign_matrix(&matrix, column_of.as_mut_ptr(), column_of.len(),
             row_prices.as_mut_ptr(), row_prices.len(), column_prices.as_mut_ptr(), column_prices.len())
     }
+}
+
+pub fn transport(costs: &[i64], masses: (&[i64], &[i64]), plan: &mut [Shipment], row_prices: &mut [i64], column_prices: &mut [i64]) -> (u32, Planned) {
+    let (supplies, demands) = masses;
+    let matrix = Matrix { costs: costs.as_ptr(), length: costs.len(), rows: supplies.len(), columns: demands.len(), stride: demands.len() };
+    let problem = Transport {
+        matrix, supplies: supplies.as_ptr(), supply_count: supplies.len(), demands: demands.as_ptr(), demand_count: demands.len(),
+    };
+    let mut told = Planned::default();
+    let status = unsafe {
+        exports::mcf_transport_matrix(&problem, plan.as_mut_ptr(), plan.len(),
+            row_prices.as_mut_ptr(), row_prices.len(), column_prices.as_mut_ptr(), column_prices.len(), &mut told)
+    };
+    (status, told)
 }

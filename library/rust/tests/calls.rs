@@ -1,4 +1,5 @@
-use mcf::{assign_matrix, check, check_arcs, solve, solve_arcs, solve_pairs, Answer, Arc, Assigned, Choice, Error, Kind, Pair, Side};
+use mcf::{assign_matrix, check, check_arcs, solve, solve_arcs, solve_pairs, transport};
+use mcf::{Answer, Arc, Assigned, Choice, Error, Kind, Pair, Planned, Shipment, Side};
 
 const TEXT: &[u8] = b"p min 3 3\nn 1 4\nn 3 -4\na 1 2 0 3 1\na 2 3 0 3 -1\na 1 3 0 9 5\n";
 
@@ -55,6 +56,20 @@ fn matrices() {
     let none = assign_matrix(&[i64::MAX, 1, i64::MAX, 1], 2, 2);
     assert_eq!(none, Ok(Assigned::Infeasible { rows: vec![], columns: vec![1] }));
     assert_eq!(assign_matrix(&[1], 1, 2), Ok(Assigned::Refused));
+}
+
+#[test]
+fn plans() {
+    let Ok(Planned::Least { mut plan, .. }) = transport(&[1, 2, 3, 1], &[3, 4], &[5, 2]) else { panic!() };
+    plan.sort_by_key(|entry| (entry.row, entry.column));
+    let triples: Vec<_> = plan.iter().map(|entry| (entry.row, entry.column, entry.amount)).collect();
+    assert_eq!(triples, [(0, 0, 3), (1, 0, 2), (1, 1, 2)]);
+    let none = transport(&[1, i64::MAX, 1, i64::MAX], &[3, 4], &[5, 2]);
+    assert_eq!(none, Ok(Planned::Infeasible { side: Side::Send, rows: vec![0, 1], columns: vec![0] }));
+    let few = transport(&[1], &[5], &[6]);
+    assert_eq!(few, Ok(Planned::Infeasible { side: Side::Take, rows: vec![0], columns: vec![0] }));
+    assert_eq!(transport(&[1], &[1], &[1, 0]), Ok(Planned::Refused));
+    assert_eq!(transport(&[7], &[2], &[2]).map(|planned| matches!(planned, Planned::Least { plan, .. } if plan == [Shipment { row: 0, column: 0, amount: 2 }])), Ok(true));
 }
 
 #[test]

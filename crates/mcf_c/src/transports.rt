@@ -1,0 +1,214 @@
+//! Least transport plans of cost matrices in arrays, and their judge.
+ghost use Rattle.std.specs.Prelude.{◌≡◌, ◌≤◌, ◌+◌, ◌⊎◌, ◌↔◌, IsTrue, List, drop, length, map, take};
+ghost use Rattle.mcf_matrix.specs.declared.shipment.Shipment.{Shipment};
+ghost use Rattle.mcf_matrix.specs.Plans.{IsLeastPlan, IsPlan, IsShownPlan};
+ghost use Rattle.mcf_matrix.specs.Tables.{IsMatrix};
+ghost use Rattle.mcf_c.specs.Matrices.{costs_of, table_of};
+ghost use Rattle.mcf_c.specs.Handing.{mark_of};
+ghost use Rattle.mcf_c.specs.Transports.{HandsPlan, HasRooms, MarksCut};
+ghost use Rattle.mcf_c.specs.Verdicts.{side_number};
+
+use crate::handing::put_marks;
+use crate::matrices::McfMatrix;
+use crate::statuses::{
+    ACCEPTED, BLOCKED, BUFFER_TOO_SMALL, FLOW, INVALID_INPUT, NO_MEMORY, NOT_SHOWN, REJECTED,
+};
+use crate::verdicts::side_number;
+use mcf_matrix::{Masses, Matrix, Shipment, judge_transport};
+use mcf_matrix_solver::{Cut, Plan, Planned, plan};
+use std::alloc::Global;
+
+/// A transport problem in arrays: a cost matrix, what each row supplies, and what each column
+/// demands.
+#[repr(C)]
+#[derive(Clone, Copy)]
+pub struct McfTransport<'a> {
+    pub matrix: McfMatrix<'a>,
+    pub supplies: &'a [i64],
+    pub demands: &'a [i64],
+}
+
+/// How many entries a plan has, and the side of a cut.
+#[repr(C)]
+#[derive(Clone, Copy)]
+pub struct McfPlanned {
+    pub used: usize,
+    pub side: u32,
+}
+
+// Whether there are one supply and one price for each row, one demand and one price for each
+// column, and room for one entry less than rows and columns.
+fn has_rooms(
+    problem: &McfTransport<'_>,
+    plan: &[Shipment],
+    row_prices: usize,
+    column_prices: usize,
+) -> bool
+    ensures { IsTrue result ↔ HasRooms problem.now (length plan.now) row_prices column_prices }
+{
+    if problem.supplies.len() != problem.matrix.rows {
+        return false;
+    }
+    if problem.demands.len() != problem.matrix.columns {
+        return false;
+    }
+    if row_prices != problem.matrix.rows {
+        return false;
+    }
+    if column_prices != problem.matrix.columns {
+        return false;
+    }
+    problem.supplies.len() + problem.demands.len() <= plan.len() + 1
+}
+
+/// Finds a least transport plan, and writes its entries to the beginning of a buffer, and prices of
+/// rows and columns that show it.
+///
+/// The status is 0 for a plan; 1 if there is none: the prices then mark by 1 rows and columns that
+/// have more to send, or to take, than they can, and all others by 0; 2 if rows overlap or don't
+/// end within the costs, or a cost is more than 10^15 from 0; 3 if memory runs out; 4 if a buffer
+/// or the masses don't have the length of the rows or columns, or the plan has no room for one
+/// entry less than rows and columns; and 7 if nothing was shown. `told` becomes the number of
+/// entries, or the side of the cut. From 2 on all buffers and `told` are unchanged, and at 1 the
+/// plan is.
+#[unsafe(no_mangle)]
+pub extern "C" fn mcf_transport_matrix(
+    alloc: Global,
+    problem: &McfTransport<'_>,
+    room: &mut [Shipment],
+    row_prices: &mut [i64],
+    column_prices: &mut [i64],
+    told: &mut McfPlanned,
+) -> u32
+    ensures statuses { (result ≤ 4) ⊎ (result ≡ 7) }
+    ensures plan { result ≡ 0 → HandsPlan problem.now room.old room.new told.new row_prices.new column_prices.new }
+    ensures least { result ≡ 0 → IsLeastPlan (costs_of problem.now.matrix) problem.now.supplies.now problem.now.demands.now (take told.new.used room.new) }
+    ensures cut { result ≡ 1 → MarksCut problem.now row_prices.new column_prices.new told.new }
+    ensures none { result ≡ 1 → (plan : List Shipment) → ¬ IsPlan (costs_of problem.now.matrix) problem.now.supplies.now problem.now.demands.now plan }
+    ensures within { result ≤ 1 → IsMatrix (table_of problem.now.matrix) }
+    ensures fault { result ≡ 2 → ¬ IsMatrix (table_of problem.now.matrix) }
+    ensures memory { result ≡ 3 → 1 ≤ problem.now.matrix.rows + problem.now.matrix.columns }
+    ensures room { result ≡ 4 → ¬ HasRooms problem.now (length room.old) (length row_prices.old) (length column_prices.old) }
+    ensures rooms { (result ≤ 3) ⊎ (result ≡ 7) → HasRooms problem.now (length room.old) (length row_prices.old) (length column_prices.old) }
+    ensures plan_stays { 1 ≤ result → room.new ≡ room.old }
+    ensures row_prices_stay { 2 ≤ result → row_prices.new ≡ row_prices.old }
+    ensures column_prices_stay { 2 ≤ result → column_prices.new ≡ column_prices.old }
+    ensures told_stays { 2 ≤ result → told.new ≡ told.old }
+{
+    if !has_rooms(problem, room, row_prices.len(), column_prices.len()) {
+        return BUFFER_TOO_SMALL;
+    }
+    let McfMatrix {
+        costs,
+        rows,
+        columns,
+        stride,
+    } = problem.matrix;
+    let Ok(matrix) = Matrix::of(costs, rows, columns, stride) else {
+        return INVALID_INPUT;
+    };
+    let masses = Masses {
+        supplies: problem.supplies,
+        demands: problem.demands,
+    };
+    match plan(alloc, &matrix, &masses) {
+        Ok(Planned::Least(found)) => put_plan(&found, room, row_prices, column_prices, told),
+        Ok(Planned::Infeasible(cut)) => put_cut(&cut, row_prices, column_prices, told),
+        Ok(Planned::NotShown) => NOT_SHOWN,
+        Err(_) => NO_MEMORY,
+    }
+}
+
+// Writes a plan with its prices, if it has room.
+fn put_plan(
+    found: &Plan,
+    room: &mut [Shipment],
+    row_prices: &mut [i64],
+    column_prices: &mut [i64],
+    told: &mut McfPlanned,
+) -> u32
+    requires row_prices { length row_prices.old ≡ length found.now.row_prices.items }
+    requires column_prices { length column_prices.old ≡ length found.now.column_prices.items }
+    ensures statuses { (result ≡ 0) ⊎ (result ≡ 7) }
+    ensures fits { result ≡ 0 → told.new.used ≤ length room.new }
+    ensures plan { result ≡ 0 → take told.new.used room.new ≡ found.now.shipments.items }
+    ensures rest { result ≡ 0 → drop told.new.used room.new ≡ drop told.new.used room.old }
+    ensures row_prices { result ≡ 0 → row_prices.new ≡ found.now.row_prices.items }
+    ensures column_prices { result ≡ 0 → column_prices.new ≡ found.now.column_prices.items }
+    ensures side { result ≡ 0 → told.new.side ≡ 0 }
+    ensures plan_stays { result ≡ 7 → room.new ≡ room.old }
+    ensures row_prices_stay { result ≡ 7 → row_prices.new ≡ row_prices.old }
+    ensures column_prices_stay { result ≡ 7 → column_prices.new ≡ column_prices.old }
+    ensures told_stays { result ≡ 7 → told.new ≡ told.old }
+{
+    let shipments = found.shipments.as_slice();
+    if room.len() < shipments.len() {
+        return NOT_SHOWN;
+    }
+    *told = McfPlanned {
+        used: shipments.len(),
+        side: 0,
+    };
+    room[..shipments.len()].copy_from_slice(shipments);
+    row_prices.copy_from_slice(found.row_prices.as_slice());
+    column_prices.copy_from_slice(found.column_prices.as_slice());
+    FLOW
+}
+
+// Writes the marks of a cut and its side.
+fn put_cut(cut: &Cut, row_marks: &mut [i64], column_marks: &mut [i64], told: &mut McfPlanned) -> u32
+    requires rows { length row_marks.old ≡ length cut.now.rows.items }
+    requires columns { length column_marks.old ≡ length cut.now.columns.items }
+    ensures status { result ≡ 1 }
+    ensures rows { row_marks.new ≡ map mark_of cut.now.rows.items }
+    ensures columns { column_marks.new ≡ map mark_of cut.now.columns.items }
+    ensures side { told.new.side ≡ side_number cut.now.side }
+    ensures used { told.new.used ≡ 0 }
+{
+    put_marks(cut.rows.as_slice(), row_marks);
+    put_marks(cut.columns.as_slice(), column_marks);
+    *told = McfPlanned {
+        used: 0,
+        side: side_number(cut.side),
+    };
+    BLOCKED
+}
+
+/// Judges a transport plan with prices, whoever made them.
+///
+/// The status is 0 if the prices show the plan least, 1 if they don't or an array doesn't have the
+/// length of the rows or columns, 2 if the matrix has a fault, and 3 if memory runs out.
+#[unsafe(no_mangle)]
+pub extern "C" fn mcf_check_transport(
+    alloc: Global,
+    problem: &McfTransport<'_>,
+    plan: &[Shipment],
+    row_prices: &[i64],
+    column_prices: &[i64],
+) -> u32
+    ensures statuses { result ≤ 3 }
+    ensures exact { result ≤ 1 → (result ≡ 0) ↔ IsShownPlan (costs_of problem.now.matrix) problem.now.supplies.now problem.now.demands.now plan.now row_prices.now column_prices.now }
+    ensures least { result ≡ 0 → IsLeastPlan (costs_of problem.now.matrix) problem.now.supplies.now problem.now.demands.now plan.now }
+    ensures within { result ≤ 1 → IsMatrix (table_of problem.now.matrix) }
+    ensures fault { result ≡ 2 → ¬ IsMatrix (table_of problem.now.matrix) }
+    ensures memory { result ≡ 3 → 1 ≤ problem.now.matrix.rows + problem.now.matrix.columns }
+{
+    let McfMatrix {
+        costs,
+        rows,
+        columns,
+        stride,
+    } = problem.matrix;
+    let Ok(matrix) = Matrix::of(costs, rows, columns, stride) else {
+        return INVALID_INPUT;
+    };
+    let masses = Masses {
+        supplies: problem.supplies,
+        demands: problem.demands,
+    };
+    match judge_transport(alloc, &matrix, &masses, plan, row_prices, column_prices) {
+        Ok(true) => ACCEPTED,
+        Ok(false) => REJECTED,
+        Err(_) => NO_MEMORY,
+    }
+}
