@@ -1,8 +1,9 @@
-/* Tests hostile texts and arrays. All arguments lie at the edge of accessible memory, and inputs
-   are read-only. Texts are noise, or examples that are cut off or changed; arrays have numbers at
-   the limits and beyond them. The test compares the answers with the definitions, which it
-   implements again. The first word is the number of rounds, and the others are instance texts. Ends
-   with 0, or names the line of the first check that fails. */
+/* Tests hostile texts, arrays and cost matrices. All arguments lie at the edge of accessible
+   memory, and inputs are read-only. Texts are noise, or examples that are cut off or changed;
+   arrays have numbers at the limits and beyond them; matrices have up to four lines, with shapes
+   that don't fit, too. The test compares the answers with the definitions, which it implements
+   again. The first word is the number of rounds, and the others are instance texts. Ends with 0, or
+   names the line of the first check that fails. */
 #define _DEFAULT_SOURCE
 #include "mcf.h"
 
@@ -25,7 +26,7 @@ enum { MANY = 6, SIZE = 1 << 20, ROOM = 1 << 26, PAGE = 1 << 16 };
 
 static const int64_t BOUND = INT64_C(1000000000000000000), COST = INT64_C(1000000000000000);
 static const struct mcf_choice standard = {0, 0, 0, 0};
-static long round_now, outcomes[8];
+static long round_now, outcomes[12];
 
 static uint64_t chance(uint64_t below) {
     static uint64_t state = 88172645463325252u;
@@ -514,6 +515,396 @@ static void try_overlap(void) {
           verdict.kind == MCF_ACCEPTED_FLOW);
 }
 
+/* ---- cost matrices */
+
+enum { LINES = 4, ENTRIES = 64, ROOMS = 2 * LINES };
+
+static struct {
+    size_t rows, columns, stride, length;
+    int64_t costs[ENTRIES], supplies[LINES], demands[LINES];
+} table;
+
+static const wide FAR = (wide)1 << 100;
+
+static int64_t entry(void) {
+    return chance(5) == 0 ? INT64_MAX : chance(4) ? (int64_t)chance(9) - 4 : cost();
+}
+
+/* A shape, which in few rounds doesn't fit the costs, or whose last place is too far for a size. */
+static void make_matrix(void) {
+    size_t k;
+    table.rows = chance(LINES + 1);
+    table.columns = chance(LINES + 1);
+    table.stride = table.columns + chance(3);
+    table.length = table.rows ? (table.rows - 1) * table.stride + table.columns : 0;
+    if (chance(2)) table.length += chance(3);
+    if (chance(20) == 0 && table.length > 0) table.length--;
+    if (chance(20) == 0 && table.columns > 0) table.stride = table.columns - 1;
+    if (chance(20) == 0) table.stride = SIZE_MAX / (1 + chance(3)) + chance(2);
+    for (k = 0; k < ENTRIES; k++) table.costs[k] = entry();
+}
+
+/* Masses, which in most rounds are small and have equal sums. */
+static void make_masses(void) {
+    int is_small = chance(8) > 0;
+    size_t k;
+    for (k = 0; k < LINES; k++) table.supplies[k] = table.demands[k] = 0;
+    for (k = 0; k < LINES * 2 && is_small && table.rows && table.columns; k++) {
+        int64_t amount = (int64_t)chance(2);
+        table.supplies[chance(table.rows)] += amount;
+        table.demands[chance(table.columns)] += amount;
+    }
+    for (k = 0; k < LINES && !is_small; k++)
+        table.supplies[k] = bound(), table.demands[k] = chance(3) ? table.supplies[k] : bound();
+    if (chance(12) == 0) table.supplies[chance(LINES)] += (int64_t)chance(3) - 1;
+}
+
+static int64_t cost_at(size_t row, size_t column) {
+    return table.costs[row * table.stride + column];
+}
+
+static int is_matrix(void) {
+    size_t i, j;
+    if (table.columns > table.stride) return 0;
+    for (i = 0; i < table.rows; i++)
+        if ((wide)i * (wide)table.stride + (wide)table.columns > (wide)table.length) return 0;
+    for (i = 0; i < table.rows; i++)
+        for (j = 0; j < table.columns; j++)
+            if (cost_at(i, j) != INT64_MAX && !is_up_to(COST, cost_at(i, j))) return 0;
+    return 1;
+}
+
+/* Whether no allowed pair costs less than the sum of its prices. */
+static int are_none_below(const int64_t *u, const int64_t *v) {
+    size_t i, j;
+    for (i = 0; i < table.rows; i++)
+        for (j = 0; j < table.columns; j++)
+            if (cost_at(i, j) != INT64_MAX && (wide)cost_at(i, j) - u[i] - v[j] < 0) return 0;
+    return 1;
+}
+
+/* Whether the prices show that the columns of the rows are an assignment of least cost, which
+ * `spent` gets. */
+static int is_assignment(const uint32_t *column_of, const int64_t *u, const int64_t *v,
+                         wide *spent) {
+    size_t i, j, pairs = 0, smaller = table.rows < table.columns ? table.rows : table.columns;
+    int taken[LINES] = {0};
+    *spent = 0;
+    for (i = 0; i < table.rows; i++) {
+        j = column_of[i];
+        if (j >= table.columns) continue;
+        if (cost_at(i, j) == INT64_MAX || taken[j] || (wide)cost_at(i, j) - u[i] - v[j] != 0)
+            return 0;
+        taken[j] = 1;
+        pairs++;
+        *spent += cost_at(i, j);
+    }
+    for (j = 0; j < table.columns && table.rows < table.columns; j++)
+        if (v[j] > 0 || (!taken[j] && v[j] != 0)) return 0;
+    for (i = 0; i < table.rows && table.columns < table.rows; i++)
+        if (u[i] > 0 || (column_of[i] >= table.columns && u[i] != 0)) return 0;
+    return pairs == smaller && are_none_below(u, v);
+}
+
+/* The least cost of so many more pairs, in rows from this one on; FAR if there are none. */
+static wide least_pairs(size_t row, unsigned taken, size_t pairs) {
+    wide least, rest;
+    size_t j;
+    if (pairs == 0) return 0;
+    if (row == table.rows) return FAR;
+    least = least_pairs(row + 1, taken, pairs);
+    for (j = 0; j < table.columns; j++) {
+        if (taken >> j & 1 || cost_at(row, j) == INT64_MAX) continue;
+        rest = least_pairs(row + 1, taken | 1u << j, pairs - 1);
+        if (rest < FAR && rest + cost_at(row, j) < least) least = rest + cost_at(row, j);
+    }
+    return least;
+}
+
+/* Whether fewer marked rows and columns than the smaller side has meet all allowed pairs. */
+static int is_cover(const int64_t *rows, const int64_t *columns) {
+    size_t i, j, marks = 0;
+    for (i = 0; i < table.rows; i++) marks += rows[i] == 1;
+    for (j = 0; j < table.columns; j++) marks += columns[j] == 1;
+    for (i = 0; i < table.rows; i++)
+        for (j = 0; j < table.columns; j++)
+            if (cost_at(i, j) != INT64_MAX && rows[i] != 1 && columns[j] != 1) return 0;
+    return marks < table.rows && marks < table.columns;
+}
+
+/* Whether the prices show that the entries are a plan of least cost, which `spent` gets. */
+static int is_plan(const struct mcf_shipment *plan, size_t used, const int64_t *u, const int64_t *v,
+                   wide *spent) {
+    wide supplies[LINES], demands[LINES];
+    size_t i, j, k;
+    *spent = 0;
+    for (i = 0; i < table.rows; i++) supplies[i] = table.supplies[i];
+    for (j = 0; j < table.columns; j++) demands[j] = table.demands[j];
+    for (k = 0; k < used; k++) {
+        i = plan[k].row, j = plan[k].column;
+        if (i >= table.rows || j >= table.columns || cost_at(i, j) == INT64_MAX) return 0;
+        if (plan[k].amount < 0) return 0;
+        if (plan[k].amount > 0 && (wide)cost_at(i, j) - u[i] - v[j] != 0) return 0;
+        supplies[i] -= plan[k].amount;
+        demands[j] -= plan[k].amount;
+        *spent += (wide)cost_at(i, j) * plan[k].amount;
+    }
+    for (i = 0; i < table.rows; i++)
+        if (supplies[i] != 0) return 0;
+    for (j = 0; j < table.columns; j++)
+        if (demands[j] != 0) return 0;
+    return are_none_below(u, v);
+}
+
+/* The least cost of a plan for what is left, in pairs from this place on; FAR if there is none. */
+static wide least_plan(size_t place, int64_t *supplies, int64_t *demands) {
+    size_t i = place / table.columns, j = place % table.columns, k;
+    int64_t amount, most;
+    wide least = FAR, rest;
+    for (k = 0; k < i && k < table.rows; k++)
+        if (supplies[k] != 0) return FAR;
+    if (i == table.rows) {
+        for (k = 0; k < table.columns; k++)
+            if (demands[k] != 0) return FAR;
+        return 0;
+    }
+    most = cost_at(i, j) == INT64_MAX ? 0 : supplies[i] < demands[j] ? supplies[i] : demands[j];
+    for (amount = 0; amount <= most; amount++) {
+        supplies[i] -= amount, demands[j] -= amount;
+        rest = least_plan(place + 1, supplies, demands);
+        supplies[i] += amount, demands[j] += amount;
+        if (rest < FAR && rest + (wide)cost_at(i, j) * amount < least)
+            least = rest + (wide)cost_at(i, j) * amount;
+    }
+    return least;
+}
+
+/* Whether the marks exclude every plan by a side. */
+static int is_cut(const int64_t *rows, const int64_t *columns, uint32_t side) {
+    wide supply = 0, demand = 0;
+    size_t i, j;
+    for (i = 0; i < table.rows; i++) supply += rows[i] == 1 ? table.supplies[i] : 0;
+    for (j = 0; j < table.columns; j++) demand += columns[j] == 1 ? table.demands[j] : 0;
+    for (i = 0; i < table.rows; i++)
+        for (j = 0; j < table.columns; j++) {
+            if (cost_at(i, j) == INT64_MAX) continue;
+            if (side == MCF_SEND ? rows[i] == 1 && columns[j] != 1
+                                 : rows[i] != 1 && columns[j] == 1)
+                return 0;
+        }
+    return side == MCF_SEND ? supply > demand : supply < demand;
+}
+
+static int are_marks(const int64_t *marks, size_t count) {
+    size_t k;
+    for (k = 0; k < count; k++)
+        if (marks[k] != 0 && marks[k] != 1) return 0;
+    return 1;
+}
+
+static int64_t sevens_of[ROOMS * 2];
+
+/* Room for so many values at the edge of memory, all bytes 7. */
+static void *room_at(uint8_t *end, size_t size) { return at_edge(end, sevens_of, size); }
+
+static int is_seven(const void *room, size_t size) { return memcmp(room, sevens_of, size) == 0; }
+
+/* The matrix of the table, whose costs end at the edge of memory. */
+static struct mcf_matrix matrix_at_edge(void) {
+    struct mcf_matrix matrix;
+    matrix.costs = at_edge(arc_end, table.costs, table.length * sizeof(int64_t));
+    matrix.length = table.length;
+    matrix.rows = table.rows;
+    matrix.columns = table.columns;
+    matrix.stride = table.stride;
+    return matrix;
+}
+
+/* Makes what is judged read-only, or writable again. */
+static void protect_judged(int how) {
+    protect(flow_end, PAGE, how), protect(other_flow_end, PAGE, how);
+    protect(price_end, PAGE, how), protect(other_price_end, PAGE, how);
+}
+
+static uint32_t judge_matrix(const struct mcf_matrix *matrix, const uint32_t *column_of,
+                             size_t column_count, const int64_t *u, size_t rows, const int64_t *v,
+                             size_t columns) {
+    uint32_t status;
+    protect_judged(PROT_READ);
+    status = mcf_check_matrix(matrix, column_of, column_count, u, rows, v, columns);
+    protect_judged(PROT_READ | PROT_WRITE);
+    return status;
+}
+
+static uint32_t judge_transport(const struct mcf_transport *problem,
+                                const struct mcf_shipment *plan, size_t used, const int64_t *u,
+                                size_t rows, const int64_t *v, size_t columns) {
+    uint32_t status;
+    protect_judged(PROT_READ);
+    status = mcf_check_transport(problem, plan, used, u, rows, v, columns);
+    protect_judged(PROT_READ | PROT_WRITE);
+    return status;
+}
+
+/* The judge agrees with the definition on an assignment and on changed ones. */
+static void try_matrix_judge(const struct mcf_matrix *matrix, uint32_t *column_of, int64_t *u,
+                             int64_t *v) {
+    size_t rows = table.rows, columns = table.columns;
+    int change, right;
+    wide spent;
+    for (change = 0; change < 6; change++) {
+        if (change > 0 && rows) column_of[chance(rows)] = (uint32_t)chance(columns + 1);
+        if (change > 3 && rows) u[chance(rows)] += (int64_t)chance(3) - 1;
+        if (change > 4 && columns) v[chance(columns)] = entry();
+        right = is_assignment(column_of, u, v, &spent);
+        CHECK(judge_matrix(matrix, column_of, rows, u, rows, v, columns) == (right ? 0u : 1u));
+    }
+    CHECK(judge_matrix(matrix, column_of - 1, rows + 1, u, rows, v, columns) == 1);
+    CHECK(judge_matrix(matrix, column_of, rows, u - 1, rows + 1, v, columns) == 1);
+    CHECK(judge_matrix(matrix, column_of, rows, u, rows, v - 1, columns + 1) == 1);
+}
+
+static void try_assign(void) {
+    struct mcf_matrix matrix = matrix_at_edge();
+    size_t rows = table.rows, columns = table.columns, smaller = rows < columns ? rows : columns;
+    uint32_t *column_of = room_at(flow_end, rows * sizeof *column_of), status;
+    int64_t *u = room_at(price_end, rows * sizeof *u),
+            *v = room_at(other_price_end, columns * sizeof *v);
+    int right = is_matrix();
+    wide spent;
+    protect(arc_end, PAGE, PROT_READ);
+    status = mcf_assign_matrix(&matrix, column_of, rows, u, rows, v, columns);
+    outcomes[6 + (status < 3 ? status : 3)]++;
+    CHECK(status <= MCF_INVALID_INPUT && (status == MCF_INVALID_INPUT) == !right);
+    if (status != MCF_FLOW) CHECK(is_seven(column_of, rows * sizeof *column_of));
+    if (status == MCF_FLOW) {
+        CHECK(is_assignment(column_of, u, v, &spent) && spent == least_pairs(0, 0, smaller));
+        try_matrix_judge(&matrix, column_of, u, v);
+    } else if (status == MCF_BLOCKED) {
+        CHECK(are_marks(u, rows) && are_marks(v, columns) && is_cover(u, v));
+        CHECK(least_pairs(0, 0, smaller) == FAR);
+    } else {
+        CHECK(is_seven(u, rows * sizeof *u) && is_seven(v, columns * sizeof *v));
+        CHECK(judge_matrix(&matrix, column_of, rows, u, rows, v, columns) == MCF_INVALID_INPUT);
+    }
+    CHECK(mcf_assign_matrix(&matrix, column_of - 1, rows + 1, u, rows, v, columns) ==
+          MCF_BUFFER_TOO_SMALL);
+    CHECK(mcf_assign_matrix(&matrix, column_of, rows, u - 1, rows + 1, v, columns) ==
+          MCF_BUFFER_TOO_SMALL);
+    CHECK(mcf_assign_matrix(&matrix, column_of, rows, u, rows, v - 1, columns + 1) ==
+          MCF_BUFFER_TOO_SMALL);
+    protect(arc_end, PAGE, PROT_READ | PROT_WRITE);
+}
+
+/* The judge agrees with the definition on a plan and on changed ones. */
+static void try_plan_judge(const struct mcf_transport *problem, struct mcf_shipment *plan,
+                           size_t used, int64_t *u, int64_t *v) {
+    size_t rows = table.rows, columns = table.columns;
+    int change, right;
+    wide spent;
+    for (change = 0; change < 6; change++) {
+        if (change > 1 && used) plan[chance(used)].column = (uint32_t)chance(columns + 1);
+        if (change > 2 && used) plan[chance(used)].amount += (int64_t)chance(3) - 1;
+        if (change > 3 && rows) u[chance(rows)] += (int64_t)chance(3) - 1;
+        if (change > 4 && used) plan[chance(used)].amount = bound();
+        right = is_plan(plan, used, u, v, &spent);
+        CHECK(judge_transport(problem, plan, used, u, rows, v, columns) == (right ? 0u : 1u));
+    }
+    CHECK(judge_transport(problem, plan, used, u - 1, rows + 1, v, columns) == 1);
+    CHECK(judge_transport(problem, plan, used, u, rows, v - 1, columns + 1) == 1);
+}
+
+/* Whether the masses are small enough to try all plans. */
+static int are_few(void) {
+    size_t k;
+    for (k = 0; k < LINES; k++)
+        if (table.supplies[k] < 0 || table.supplies[k] > 4 || table.demands[k] < 0 ||
+            table.demands[k] > 4)
+            return 0;
+    return table.rows > 0 && table.columns > 0 && table.rows + table.columns <= 6;
+}
+
+static void try_found_plan(const struct mcf_transport *problem, struct mcf_shipment *room,
+                           size_t length, const struct mcf_planned *told, int64_t *u, int64_t *v) {
+    struct mcf_shipment plan[ROOMS];
+    wide spent;
+    CHECK(told->used <= length && told->side == 0 && is_plan(room, told->used, u, v, &spent));
+    CHECK(is_seven(room + told->used, (length - told->used) * sizeof *room));
+    if (are_few()) CHECK(spent == least_plan(0, table.supplies, table.demands));
+    memcpy(plan, room, told->used * sizeof *plan);
+    try_plan_judge(problem, at_edge(other_flow_end, plan, told->used * sizeof *plan), told->used, u,
+                   v);
+}
+
+static void try_transport(void) {
+    size_t rows = table.rows, columns = table.columns, all = rows + columns;
+    size_t length = all > 0 && chance(2) ? all - 1 : all;
+    struct mcf_transport problem;
+    struct mcf_planned told = {77, 77};
+    struct mcf_shipment *plan = room_at(other_flow_end, length * sizeof *plan);
+    int64_t *u = room_at(price_end, rows * sizeof *u),
+            *v = room_at(other_price_end, columns * sizeof *v);
+    int right = is_matrix();
+    uint32_t status;
+    problem.matrix = matrix_at_edge();
+    problem.supplies = at_edge(supply_end, table.supplies, rows * sizeof *u);
+    problem.supply_count = rows;
+    problem.demands = at_edge(answer_end, table.demands, columns * sizeof *v);
+    problem.demand_count = columns;
+    protect(arc_end, PAGE, PROT_READ), protect(supply_end, PAGE, PROT_READ);
+    protect(answer_end, PAGE, PROT_READ);
+    if (length > 0 && length < all)
+        CHECK(mcf_transport_matrix(&problem, plan + 1, length - 1, u, rows, v, columns, &told) ==
+              MCF_BUFFER_TOO_SMALL);
+    status = mcf_transport_matrix(&problem, plan, length, u, rows, v, columns, &told);
+    outcomes[6 + (status < 3 ? status : 3)]++;
+    CHECK(status <= MCF_INVALID_INPUT && (status == MCF_INVALID_INPUT) == !right);
+    if (status != MCF_FLOW) CHECK(is_seven(plan, length * sizeof *plan));
+    if (status == MCF_FLOW) {
+        try_found_plan(&problem, plan, length, &told, u, v);
+    } else if (status == MCF_BLOCKED) {
+        CHECK(are_marks(u, rows) && are_marks(v, columns) && is_cut(u, v, told.side));
+        CHECK(told.used == 0 && told.side <= MCF_TAKE);
+        if (are_few()) CHECK(least_plan(0, table.supplies, table.demands) == FAR);
+    } else {
+        CHECK(is_seven(u, rows * sizeof *u) && is_seven(v, columns * sizeof *v));
+        CHECK(told.used == 77 && told.side == 77);
+        CHECK(judge_transport(&problem, plan, length, u, rows, v, columns) == MCF_INVALID_INPUT);
+    }
+    problem.supplies--, problem.supply_count++;
+    CHECK(mcf_transport_matrix(&problem, plan, length, u, rows, v, columns, &told) ==
+          MCF_BUFFER_TOO_SMALL);
+    CHECK(judge_transport(&problem, plan, length, u, rows, v, columns) ==
+          (right ? 1u : (uint32_t)MCF_INVALID_INPUT));
+    protect(answer_end, PAGE, PROT_READ | PROT_WRITE);
+    protect(arc_end, PAGE, PROT_READ | PROT_WRITE),
+        protect(supply_end, PAGE, PROT_READ | PROT_WRITE);
+}
+
+/* Tries shapes that no memory has. */
+static void try_shapes(void) {
+    struct mcf_matrix matrix = {NULL, 0, SIZE_MAX, 0, 0};
+    struct mcf_transport problem;
+    struct mcf_planned told;
+    uint32_t *none = room_at(flow_end, 0);
+    int64_t *zero = room_at(price_end, 0), cost_of_one = 1;
+    matrix.costs = zero;
+    CHECK(mcf_check_matrix(&matrix, none, 0, zero, 0, zero, 0) == 1);
+    CHECK(mcf_assign_matrix(&matrix, none, 0, zero, 0, zero, 0) == MCF_BUFFER_TOO_SMALL);
+    problem.matrix = matrix;
+    problem.supplies = problem.demands = zero;
+    problem.supply_count = problem.demand_count = 0;
+    CHECK(mcf_check_transport(&problem, room_at(other_flow_end, 0), 0, zero, 0, zero, 0) == 1);
+    CHECK(mcf_transport_matrix(&problem, room_at(other_flow_end, 0), 0, zero, 0, zero, 0, &told) ==
+          MCF_BUFFER_TOO_SMALL);
+    matrix.costs = &cost_of_one, matrix.length = 1, matrix.columns = 1, matrix.stride = 1;
+    CHECK(mcf_check_matrix(&matrix, none, 0, zero, 0, zero, 0) == MCF_INVALID_INPUT);
+    matrix.rows = 0, matrix.columns = matrix.stride = SIZE_MAX;
+    CHECK(mcf_check_matrix(&matrix, none, 0, zero, 0, zero, 0) == 1);
+    matrix.stride--;
+    CHECK(mcf_check_matrix(&matrix, none, 0, zero, 0, zero, 0) == MCF_INVALID_INPUT);
+}
+
 int main(int count, char **words) {
     long rounds = count > 1 ? atol(words[1]) : 0;
     input_end = edge(SIZE);
@@ -524,6 +915,8 @@ int main(int count, char **words) {
     try_text(0);
     try_sizes();
     try_overlap();
+    memset(sevens_of, 7, sizeof sevens_of);
+    try_shapes();
     try_noise("", "");
     try_noise("", "\n");
     try_noise("", "0123456789");
@@ -536,9 +929,15 @@ int main(int count, char **words) {
         try_arrays();
         make_assignment();
         try_arrays();
+        make_matrix();
+        make_masses();
+        try_assign();
+        try_transport();
         if (count > 2) try_changed(words[2 + chance((uint64_t)count - 2)]);
     }
-    printf("texts: %ld flows, %ld sets, %ld refusals; arrays: %ld flows, %ld sets, %ld faults\n",
-           outcomes[0], outcomes[1], outcomes[2], outcomes[3], outcomes[4], outcomes[5]);
+    printf("texts: %ld flows, %ld sets, %ld refusals; arrays: %ld flows, %ld sets, %ld faults; "
+           "matrices: %ld least, %ld without, %ld faults\n",
+           outcomes[0], outcomes[1], outcomes[2], outcomes[3], outcomes[4], outcomes[5],
+           outcomes[6], outcomes[7], outcomes[8]);
     return 0;
 }
