@@ -1,9 +1,10 @@
 """Minimum-cost flow with proved answers.
 
-`solve` takes supplies and arcs. `linear_sum_assignment` takes a cost matrix. `SimpleMinCostFlow`
-has the methods of OR-tools' class, and `mcf.nx` takes networkx graphs. The checker judges each
-answer before the package returns it, unless `check=False`. `solve_text` and `check_text` take
-texts in the DIMACS formats.
+`solve` takes supplies and arcs. `linear_sum_assignment` takes a cost matrix, `transport` one with
+supplies and demands, and `emd` and `emd2` histograms, as POT's functions of these names do.
+`SimpleMinCostFlow` has the methods of OR-tools' class, and `mcf.nx` takes networkx graphs. The
+checker judges each answer before the package returns it, unless `check=False`. `solve_text` and
+`check_text` take texts in the DIMACS formats.
 """
 from typing import Optional, Tuple, Union
 
@@ -12,21 +13,27 @@ from ._errors import Infeasible, MCFError, NotAccepted, Refused, Unbounded
 from ._library import Verdict
 from ._solving import Flow, solve
 from .assignment import linear_sum_assignment
+from .earth_mover import emd, emd2
 from .simple import SimpleMinCostFlow
+from .transportation import Plan, transport
 
 __all__ = [
     "Flow",
     "Infeasible",
     "MCFError",
     "NotAccepted",
+    "Plan",
     "Refused",
     "SimpleMinCostFlow",
     "Unbounded",
     "Verdict",
     "check_text",
+    "emd",
+    "emd2",
     "linear_sum_assignment",
     "solve",
     "solve_text",
+    "transport",
 ]
 __version__ = "1.0.0"
 

@@ -124,6 +124,20 @@ class CostMatrix(ctypes.Structure):
     ]
 
 
+class TransportProblem(ctypes.Structure):
+    _fields_ = [
+        ("matrix", CostMatrix),
+        ("supplies", ctypes.c_void_p),
+        ("supply_count", ctypes.c_size_t),
+        ("demands", ctypes.c_void_p),
+        ("demand_count", ctypes.c_size_t),
+    ]
+
+
+class Planned(ctypes.Structure):
+    _fields_ = [("used", ctypes.c_size_t), ("side", ctypes.c_uint32)]
+
+
 class Verdict(NamedTuple):
     """The checker's verdict on an answer.
 
@@ -187,6 +201,9 @@ def _load() -> ctypes.CDLL:
     lines: List[Any] = [ctypes.POINTER(CostMatrix), at, size, *rooms]
     library.mcf_assign_matrix.argtypes = lines
     library.mcf_check_matrix.argtypes = lines
+    plans: List[Any] = [ctypes.POINTER(TransportProblem), at, size, *rooms]
+    library.mcf_transport_matrix.argtypes = plans + [ctypes.POINTER(Planned)]
+    library.mcf_check_transport.argtypes = plans
     for function in (
         library.mcf_solve,
         library.mcf_check,
@@ -196,6 +213,8 @@ def _load() -> ctypes.CDLL:
         library.mcf_check_pairs,
         library.mcf_assign_matrix,
         library.mcf_check_matrix,
+        library.mcf_transport_matrix,
+        library.mcf_check_transport,
     ):
         function.restype = word
     return library
@@ -398,6 +417,58 @@ class MatrixArrays:
     def _call(self, function: Any) -> int:
         words = (self.matrix, *self._rooms)
         lasts = self.matrix.length > LASTING_ARCS
+        status = _called(function, words, self) if lasts else function(*words)
+        if status in (NO_MEMORY, BUFFER_TOO_SMALL):
+            raise failed(status)
+        return int(status)
+
+
+class Costs(NamedTuple):
+    """A cost matrix in memory: any buffer of 8-byte numbers that `at` takes, how many of them there
+    are, and how far apart its rows begin."""
+
+    buffer: Any
+    length: int
+    rows: int
+    columns: int
+    stride: int
+
+
+class TransportArrays:
+    """A cost matrix with supplies and demands, and buffers for a plan and for prices."""
+
+    __slots__ = ("problem", "told", "plan", "row_prices", "column_prices", "_prices", "_kept")
+
+    def __init__(self, costs: Costs, supplies: Any, demands: Any):
+        _, length, rows, columns, stride = costs
+        self._kept = (costs, supplies, demands)
+        matrix = CostMatrix(at(costs.buffer), length, rows, columns, stride)
+        self.problem = TransportProblem(matrix, at(supplies), rows, at(demands), columns)
+        self.told = Planned()
+        # An entry is 16 bytes: its row, its column, and its amount.
+        self.plan = array("q", bytes(16 * (rows + columns)))
+        self.row_prices = array("q", bytes(8 * rows))
+        self.column_prices = array("q", bytes(8 * columns))
+        self._prices = (at(self.row_prices), rows, at(self.column_prices), columns)
+
+    def solve(self) -> int:
+        """Solves the problem and returns the status: FLOW, BLOCKED, INVALID_INPUT or NOT_SHOWN."""
+        words = (self.problem, at(self.plan), len(self.plan) // 2, *self._prices, self.told)
+        return self._call(_lib.mcf_transport_matrix, words)
+
+    def check(self) -> bool:
+        """Whether the checker accepts the plan with its prices."""
+        words = (self.problem, at(self.plan), self.told.used, *self._prices)
+        return self._call(_lib.mcf_check_transport, words) == 0
+
+    def entries(self) -> List[Tuple[int, int, int]]:
+        """The row, the column and the amount of each entry of the plan, in order."""
+        rows = memoryview(self.plan).cast("B").cast("I")[: 4 * self.told.used]
+        amounts = self.plan[1 : 2 * self.told.used : 2]
+        return sorted(zip(rows[::4].tolist(), rows[1::4].tolist(), amounts))
+
+    def _call(self, function: Any, words: Tuple[Any, ...]) -> int:
+        lasts = self.problem.matrix.length > LASTING_ARCS
         status = _called(function, words, self) if lasts else function(*words)
         if status in (NO_MEMORY, BUFFER_TOO_SMALL):
             raise failed(status)

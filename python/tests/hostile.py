@@ -271,6 +271,11 @@ class Numbers(unittest.TestCase):
         for wrong in ([1, 2], [[1, 2], [3]], [[1], 2], 5, None, [[[1]]], "ab", {1: 2}):
             with self.assertRaises((ValueError, TypeError), msg=repr(wrong)):
                 mcf.linear_sum_assignment(wrong)
+            with self.assertRaises((ValueError, TypeError), msg=repr(wrong)):
+                mcf.transport(wrong, [1, 1], [1, 1])
+        for wrong in (5, None, "ab", [[1], [1]], [1], [1, None], ["1", 1], [1.5, 0.5]):
+            with self.assertRaises((ValueError, TypeError), msg=repr(wrong)):
+                mcf.transport([[1, 2], [3, 4]], wrong, [1, 1])
         for empty in ([], [[]], [[], []], ()):
             self.assertEqual(mcf.linear_sum_assignment(empty), ([], []))
         self.assertEqual(
@@ -310,6 +315,9 @@ class Numbers(unittest.TestCase):
                 lambda it: mcf.solve([0, 0], [(0, it, 1, 1)]),
                 lambda it: mcf.solve([0, 0], [(0, 1, it, 1)]),
                 lambda it: mcf.linear_sum_assignment([[it]]),
+                lambda it: mcf.transport([[it]], [1], [1]),
+                lambda it: mcf.transport([[1]], [it], [1]),
+                lambda it: mcf.transport([[1]], [1], [it]),
                 lambda it: mcf.SimpleMinCostFlow().set_node_supply(0, it),
             ):
                 self.assertRaises(

@@ -28,11 +28,13 @@ import mcf._numbers
 import mcf._solving
 import mcf.assignment
 import mcf.simple
+import mcf.transportation
 
 
 def load_tests(loader, tests, pattern):
-    """Adds the examples of the docstrings as tests."""
-    for module in (mcf, mcf._solving, mcf.assignment, mcf.simple):
+    """Adds the examples of the docstrings, and the tests of transport problems."""
+    tests.addTests(loader.loadTestsFromName("transports"))
+    for module in (mcf, mcf._solving, mcf.assignment, mcf.simple, mcf.transportation):
         tests.addTests(
             doctest.DocTestSuite(
                 module, optionflags=doctest.ELLIPSIS | doctest.IGNORE_EXCEPTION_DETAIL
@@ -40,6 +42,8 @@ def load_tests(loader, tests, pattern):
         )
     if _installed("networkx"):
         tests.addTests(doctest.DocTestSuite("mcf.nx"))
+    if _installed("numpy"):
+        tests.addTests(doctest.DocTestSuite("mcf.earth_mover"))
     return tests
 
 

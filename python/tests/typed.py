@@ -56,6 +56,14 @@ def arrays() -> None:
     assert (cost, r.flow) == (5, [3, 3, 1])
     rows, columns = mcf.linear_sum_assignment(np.array([[4, 1, 3], [2, 0, 5], [3, 2, 2]]))
     assert (rows.tolist(), columns.tolist()) == ([0, 1, 2], [1, 0, 2])
+    plan: mcf.Plan = mcf.transport(np.array([[1, 2], [3, 1]]), np.array([3, 4]), [5, 2])
+    shipments: List[Tuple[int, int, int]] = plan.shipments
+    total: int = plan.cost
+    assert (total, shipments) == (11, [(0, 0, 3), (1, 0, 2), (1, 1, 2)])
+    costs = [[8, 6, 10, 9], [9, 12, 13, 7], [14, 9, 16, 5]]
+    plan = mcf.transport(costs, [35, 50, 40], [45, 20, 30, 30])
+    assert (plan.cost, len(plan.shipments)) == (1020, 6)
+    assert mcf.emd2([0.5, 0.5], [0.25, 0.75], np.array([[0, 1], [1, 0]])) == 0.25
     smcf = mcf.SimpleMinCostFlow()
     arcs: List[int] = smcf.add_arcs_with_capacity_and_unit_cost(
         np.array([0, 0, 1]), np.array([1, 2, 2]), np.array([4, 3, 4]), np.array([1, 5, 1])
