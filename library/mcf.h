@@ -261,6 +261,39 @@ uint32_t mcf_check_transport(const struct mcf_transport *problem, const struct m
                              size_t row_prices_length, const int64_t *column_prices,
                              size_t column_prices_length);
 
+/* A matrix of doubles: costs[i * stride + j] is the cost of row i and column j, both from 0, or
+   +infinity if the pair is forbidden. A finite double is the number that its bits stand for. */
+struct mcf_doubles {
+    const double *costs;
+    size_t length;
+    size_t rows, columns, stride;
+};
+
+/* A whole number in two words: low + 2^64 high. */
+struct mcf_wide {
+    uint64_t low;
+    int64_t high;
+};
+
+/* Assigns rows and columns as mcf_assign_matrix does, with doubles for costs, which it reads
+   exactly: no other assignment has a smaller exact sum. The prices are whole numbers of units of
+   2^(unit - 1074). MCF_INVALID_INPUT: rows overlap or don't end within `length`, or an entry is a
+   NaN or -infinity. MCF_NOT_SHOWN decides nothing; it comes if bits of finite entries lie more than
+   118 places apart. `column_of` and `unit` are unchanged from status 1 on, and the prices are from
+   2 on. */
+uint32_t mcf_assign_doubles(const struct mcf_doubles *matrix, uint32_t *column_of,
+                            size_t column_of_length, struct mcf_wide *row_prices,
+                            size_t row_prices_length, struct mcf_wide *column_prices,
+                            size_t column_prices_length, uint32_t *unit);
+
+/* Judges an assignment with prices for a matrix of doubles, whoever made them, exactly. Returns 0
+   if the prices show that the assignment has least cost, 1 if they don't, a price isn't less than
+   2^125 from 0 or an array has a wrong length, MCF_INVALID_INPUT or MCF_NO_MEMORY. */
+uint32_t mcf_check_doubles(const struct mcf_doubles *matrix, const uint32_t *column_of,
+                           size_t column_of_length, const struct mcf_wide *row_prices,
+                           size_t row_prices_length, const struct mcf_wide *column_prices,
+                           size_t column_prices_length, uint32_t unit);
+
 #ifdef __cplusplus
 }
 #endif

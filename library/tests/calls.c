@@ -181,6 +181,38 @@ static int check_transport(void) {
     return 0;
 }
 
+/* Solves matrices of doubles: one that is least by a unit in the last place, one without an
+   assignment, and two with a fault. */
+static int check_doubles(void) {
+    static const double one = 1.0, last = 2.220446049250313e-16, zero = 0.0;
+    double costs[4], none[4], faulty[4];
+    const struct mcf_doubles matrix = {costs, 4, 2, 2, 2}, without = {none, 4, 2, 2, 2},
+                             wrong = {faulty, 4, 2, 2, 2};
+    uint32_t column_of[2], unit = 0;
+    struct mcf_wide rows[2], columns[2];
+    costs[0] = costs[2] = one, costs[1] = one + 2 * last, costs[3] = one + last;
+    none[0] = none[2] = one / zero, none[1] = none[3] = one;
+    CHECK(90, mcf_assign_doubles(&matrix, column_of, 2, rows, 2, columns, 2, &unit) == MCF_FLOW);
+    CHECK(91, column_of[0] == 0 && column_of[1] == 1);
+    CHECK(92, mcf_check_doubles(&matrix, column_of, 2, rows, 2, columns, 2, unit) == 0);
+    rows[0].low++;
+    CHECK(93, mcf_check_doubles(&matrix, column_of, 2, rows, 2, columns, 2, unit) == 1);
+    CHECK(94, mcf_check_doubles(&matrix, column_of, 2, rows, 1, columns, 2, unit) == 1);
+    CHECK(95,
+          mcf_assign_doubles(&without, column_of, 2, rows, 2, columns, 2, &unit) == MCF_BLOCKED);
+    CHECK(96, rows[0].low == 0 && rows[1].low == 0 && columns[0].low == 0 && columns[1].low == 1);
+    memcpy(faulty, costs, sizeof costs);
+    faulty[3] = -one / zero;
+    CHECK(97, mcf_assign_doubles(&wrong, column_of, 2, rows, 2, columns, 2, &unit) ==
+                  MCF_INVALID_INPUT);
+    faulty[3] = zero / zero;
+    CHECK(98,
+          mcf_check_doubles(&wrong, column_of, 2, rows, 2, columns, 2, unit) == MCF_INVALID_INPUT);
+    CHECK(99, mcf_assign_doubles(&matrix, column_of, 2, rows, 2, columns, 1, &unit) ==
+                  MCF_BUFFER_TOO_SMALL);
+    return 0;
+}
+
 /* A chain of more than 9223 arcs that cost 10^15 each and carry 1: the last price is too low for 64
  * bits. */
 static int check_wide(void) {
@@ -233,6 +265,7 @@ int main(int count, char **words) {
     if (status == 0) status = check_pairs();
     if (status == 0) status = check_matrix();
     if (status == 0) status = check_transport();
+    if (status == 0) status = check_doubles();
     for (place = 1; status == 0 && place + 1 < count; place += 2)
         status = check_text(words[place + 1], (uint32_t)atoi(words[place]));
     return status;

@@ -204,6 +204,8 @@ def _load() -> ctypes.CDLL:
     plans: List[Any] = [ctypes.POINTER(TransportProblem), at, size, *rooms]
     library.mcf_transport_matrix.argtypes = plans + [ctypes.POINTER(Planned)]
     library.mcf_check_transport.argtypes = plans
+    library.mcf_assign_doubles.argtypes = [*lines, ctypes.POINTER(word)]
+    library.mcf_check_doubles.argtypes = [*lines, word]
     for function in (
         library.mcf_solve,
         library.mcf_check,
@@ -215,6 +217,8 @@ def _load() -> ctypes.CDLL:
         library.mcf_check_matrix,
         library.mcf_transport_matrix,
         library.mcf_check_transport,
+        library.mcf_assign_doubles,
+        library.mcf_check_doubles,
     ):
         function.restype = word
     return library
@@ -469,6 +473,39 @@ class TransportArrays:
 
     def _call(self, function: Any, words: Tuple[Any, ...]) -> int:
         lasts = self.problem.matrix.length > LASTING_ARCS
+        status = _called(function, words, self) if lasts else function(*words)
+        if status in (NO_MEMORY, BUFFER_TOO_SMALL):
+            raise failed(status)
+        return int(status)
+
+
+class DoubleArrays:
+    """A matrix of doubles at an address, with buffers for the column of each row and for prices of
+    two words each."""
+
+    __slots__ = ("matrix", "column_of", "unit", "_rooms", "_kept")
+
+    def __init__(self, address: int, rows: int, columns: int, stride: int, kept: Any):
+        length = (rows - 1) * stride + columns if rows else 0
+        self.matrix = CostMatrix(address or 8, length, rows, columns, stride)
+        self.column_of = array("I", bytes(4 * rows))
+        self.unit = ctypes.c_uint32()
+        row_prices, column_prices = array("q", bytes(16 * rows)), array("q", bytes(16 * columns))
+        self._kept = (kept, row_prices, column_prices)
+        rooms = ((self.column_of, rows), (row_prices, rows), (column_prices, columns))
+        self._rooms = tuple(word for room, size in rooms for word in (at(room), size))
+
+    def assign(self) -> int:
+        """Solves the matrix and returns the status: FLOW, BLOCKED, INVALID_INPUT or NOT_SHOWN."""
+        return self._call(_lib.mcf_assign_doubles, ctypes.byref(self.unit))
+
+    def check(self) -> bool:
+        """Whether the checker accepts the assignment with its prices."""
+        return self._call(_lib.mcf_check_doubles, self.unit.value) == 0
+
+    def _call(self, function: Any, last: Any) -> int:
+        words = (self.matrix, *self._rooms, last)
+        lasts = self.matrix.length > LASTING_ARCS
         status = _called(function, words, self) if lasts else function(*words)
         if status in (NO_MEMORY, BUFFER_TOO_SMALL):
             raise failed(status)

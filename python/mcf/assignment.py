@@ -8,7 +8,17 @@ from itertools import chain
 from typing import Any, List, Optional, Sequence, Tuple, Union, overload
 
 from ._errors import Cell, Infeasible, NotAccepted, Refused
-from ._library import BLOCKED, CODES, FLOW, FORBIDDEN, MatrixArrays, PairArrays, choice_of
+from ._library import (
+    BLOCKED,
+    CODES,
+    FLOW,
+    FORBIDDEN,
+    INVALID_INPUT,
+    DoubleArrays,
+    MatrixArrays,
+    PairArrays,
+    choice_of,
+)
 from ._limits import COST
 from ._numbers import exact, is_float, limited, listed, scale_of
 from ._solving import flow_choice, solve_whole
@@ -47,8 +57,9 @@ def linear_sum_assignment(
 ) -> Tuple[Any, Any]:
     """Matches rows with columns at least cost, or at greatest cost.
 
-    The function scales entries that aren't whole to whole numbers, exactly. A float counts as the
-    decimal that it prints as.
+    In an array of floats, each is the number that its bits stand for, and the sum is least exactly.
+    Of other entries, the function scales those that aren't whole to whole numbers, exactly; a float
+    then counts as the decimal that it prints as.
 
     Parameters
     ----------
@@ -74,7 +85,9 @@ def linear_sum_assignment(
         No matching covers all rows or all columns without an infinite entry; or `cost_matrix` isn't
         a matrix.
     Refused
-        A scaled entry is beyond 10^15. Floats of 16 digits are.
+        A scaled entry is beyond 10^15. Floats of 16 digits are, unless they come in an array.
+    NotAccepted
+        The floats of an array have bits that lie more than 118 places apart.
     TypeError
         An entry isn't a number.
 
@@ -83,6 +96,9 @@ def linear_sum_assignment(
     >>> linear_sum_assignment([[4, 1, 3], [2, 0, 5], [3, 2, 2]])
     ([0, 1, 2], [1, 0, 2])
     """
+    table = _floats(cost_matrix) if engine == "auto" else None
+    if table is not None:
+        return _by_doubles(table, maximize, check)
     cells, height, width, numpy = _cells(cost_matrix, maximize)
     try:
         pairs = _matched(cells, height, width, engine, check)
@@ -91,6 +107,46 @@ def linear_sum_assignment(
     first, second = [i for i, _ in pairs], [j for _, j in pairs]
     if numpy is not None:
         return numpy.array(first, dtype=numpy.intp), numpy.array(second, dtype=numpy.intp)
+    return first, second
+
+
+def _floats(matrix: Any) -> Any:
+    """The matrix as an array of doubles, if it is an array of floats that doubles can hold."""
+    numpy = sys.modules.get("numpy") if hasattr(matrix, "__array__") else None
+    if numpy is None:
+        return None
+    table = numpy.asarray(matrix)
+    if table.ndim != 2 or table.dtype.kind != "f" or table.dtype.itemsize > 8:
+        return None
+    return table.astype(numpy.float64, copy=False)
+
+
+def _by_doubles(table: Any, maximize: bool, check: bool) -> Tuple[Any, Any]:
+    """Searches an array of doubles, in place where its layout allows it, by rows or by columns."""
+    numpy = sys.modules["numpy"]
+    costs = numpy.negative(table) if maximize else table
+    is_turned = costs.flags.f_contiguous and not costs.flags.c_contiguous
+    lines = costs.T if is_turned else costs
+    rows, columns = lines.shape
+    step, along = lines.strides
+    if along != 8 or step % 8 or step < 8 * columns or not lines.flags.aligned:
+        lines = numpy.ascontiguousarray(lines)
+        step = 8 * columns
+    problem = DoubleArrays(lines.ctypes.data, rows, columns, step // 8, lines)
+    status = problem.assign()
+    if status == INVALID_INPUT:
+        place = tuple(numpy.argwhere(~(costs > -math.inf))[0])
+        raise ValueError("matrix contains invalid numeric entries: row %d, column %d" % place)
+    if status == BLOCKED:
+        raise ValueError("cost matrix is infeasible")
+    if status != FLOW or check and not problem.check():
+        raise NotAccepted("an assignment isn't shown to be least")
+    found = numpy.frombuffer(problem.column_of, dtype=numpy.uint32).astype(numpy.intp)
+    first = numpy.flatnonzero(found < columns)
+    second = found[first]
+    if is_turned:
+        order = numpy.argsort(second, kind="stable")
+        return second[order], first[order]
     return first, second
 
 

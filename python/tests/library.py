@@ -3,6 +3,7 @@ they are installed. MCF_LIBRARY names the library."""
 import copy
 import doctest
 import importlib
+import itertools
 import multiprocessing
 import os
 import pickle
@@ -52,6 +53,49 @@ def _installed(name):
         return importlib.import_module(name)
     except ImportError:
         return None
+
+
+INF = float("inf")
+
+# Hostile doubles: random, ulps, signs, subnormals, wide spans, 1e16 as forbidden, infinities.
+HOSTILE = (
+    lambda chance: chance.random(),
+    lambda chance: 1.0 + chance.randrange(4) * 2.0**-52,
+    lambda chance: chance.choice((-1.0, 1.0)) * chance.randrange(3) * 0.1,
+    lambda chance: chance.randrange(9) * 5e-324,
+    lambda chance: chance.random() * 2.0 ** chance.randrange(-25, 25),
+    lambda chance: chance.choice((1e16, chance.random(), chance.random())),
+    lambda chance: chance.choice((1e15, -1e15, 0.0)) + chance.random(),
+    lambda chance: chance.choice((INF, INF, chance.random())),
+    lambda chance: chance.choice((-1, 1)) * 1e307 * (1 + chance.randrange(3) * 2.0**-52),
+)
+
+
+def _least(C):
+    """The exact least sum, or None if each matching has an infinite entry."""
+    n, m = C.shape
+    table = [[None if c == INF else Fraction(float(c)) for c in row] for row in C.tolist()]
+    if n > m:
+        table, n, m = list(zip(*table)), m, n
+    sums = []
+    for order in itertools.permutations(range(m), n):
+        entries = [table[i][j] for i, j in enumerate(order)]
+        if None not in entries:
+            sums.append(sum(entries))
+    return min(sums, default=None)
+
+
+def _taken(C, maximize):
+    """The exact sum of the matching that the module finds, or None if it finds that there is none;
+    for the greatest sum, with its sign changed."""
+    try:
+        rows, columns = mcf.linear_sum_assignment(C, maximize)
+    except ValueError:
+        return None
+    assert len(rows) == min(C.shape) and len(set(columns.tolist())) == len(columns)
+    assert rows.tolist() == sorted(set(rows.tolist()))
+    total = sum(Fraction(float(c)) for c in C[rows, columns])
+    return -total if maximize else total
 
 
 def solve_by_place(supply):
@@ -233,6 +277,41 @@ class Solving(unittest.TestCase):
         with self.assertRaises(mcf.Refused) as c:
             mcf.linear_sum_assignment([[1, 2], [10**20, 3]])
         self.assertEqual((c.exception.arc, c.exception.reason), (2, "cost"))
+
+    @unittest.skipUnless(_installed("numpy"), "numpy isn't installed")
+    def test_doubles(self):
+        numpy = _installed("numpy")
+        inf = float("inf")
+        # scipy 1.10 takes the diagonal, and so 1.0 where 0.75 is left.
+        C = numpy.array([[1e16, 1e16, 1e16], [0.75, 1.0, 0.75], [1e16, 5.0, 3.0]])
+        rows, columns = mcf.linear_sum_assignment(C)
+        self.assertEqual((rows.tolist(), columns.tolist()), ([0, 1, 2], [1, 0, 2]))
+        for entry, row, column in ((float("nan"), 1, 2), (-inf, 0, 1)):
+            wrong = numpy.ones((2, 3))
+            wrong[row, column] = entry
+            place = "row %d, column %d" % (row, column)
+            with self.assertRaisesRegex(ValueError, place):
+                mcf.linear_sum_assignment(wrong)
+        with self.assertRaisesRegex(ValueError, "infeasible"):
+            mcf.linear_sum_assignment(numpy.array([[inf, 1.0], [inf, 2.0]]))
+        with self.assertRaises(mcf.NotAccepted):
+            mcf.linear_sum_assignment(numpy.array([[5e-324, 1.0], [1.0, 5e-324]]))
+
+    @unittest.skipUnless(_installed("numpy"), "numpy isn't installed")
+    def test_hostile_doubles(self):
+        numpy = _installed("numpy")
+        chance = random.Random(7)
+        for kind in HOSTILE:
+            for _ in range(40):
+                n, m = chance.randrange(1, 6), chance.randrange(1, 6)
+                C = numpy.array([[kind(chance) for _ in range(m)] for _ in range(n)])
+                for layout in (C, numpy.asfortranarray(C), numpy.repeat(C, 2, 1)[:, ::2], C[::-1]):
+                    self.assertEqual(_taken(layout, False), _least(layout))
+                self.assertEqual(_taken(-C, True), _least(C))
+                with numpy.errstate(over="ignore"):
+                    D = C.astype(numpy.float32)
+                if numpy.isfinite(D).all():
+                    self.assertEqual(_taken(D, False), _least(D))
 
     def test_what_is_kept_of_great_matrices(self):
         mcf.linear_sum_assignment([[0] * 3] * 3)

@@ -10,10 +10,13 @@ pub use Rattle.mcf_matrix.specs.Matchings
 pub use Rattle.mcf_matrix.specs.MatrixPrices
 pub use Rattle.mcf_matrix.specs.Plans
 pub use Rattle.mcf_matrix.specs.Tables
+pub use Rattle.mcf_matrix_doubles.specs.DoublePrices
+pub use Rattle.mcf_matrix_doubles.specs.DoubleTables
 pub use Rattle.mcf_solver.specs.Answering
 pub use Rattle.mcf_solver.specs.Making
 pub mod Calls
 pub mod Choices
+pub mod DoubleMatrices
 pub mod Handing
 pub mod Judged
 pub mod Matrices

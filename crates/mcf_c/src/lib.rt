@@ -2,15 +2,17 @@
 
 //! The solver and the checker for C: the header `mcf.h` declares the exports.
 //!
-//! It builds on `mcf_solver`, `mcf_checker` and `mcf_matrix_solver`, and adds nothing but numbers
-//! instead of enums, and arrays instead of texts. No export has a `requires`. The definitions in
-//! `specs/`: `Choices` says what the numbers of a call choose, `Calls` what a call for a text
-//! returns, `Problems` which networks arrays stand for, `Verdicts` which numbers a verdict has,
-//! `Handing` what a call for arrays returns, `Judged` what is judged of arrays, `Matrices` what a
-//! call for a cost matrix returns, `Transports` what a call for a transport problem returns.
+//! It builds on `mcf_solver`, `mcf_checker`, `mcf_matrix_solver` and `mcf_double_solver`, and adds
+//! nothing but numbers instead of enums, and arrays instead of texts. No export has a `requires`.
+//! The definitions in `specs/`: `Choices` says what the numbers of a call choose, `Calls` what a
+//! call for a text returns, `Problems` which networks arrays stand for, `Verdicts` which numbers a
+//! verdict has, `Handing` what a call for arrays returns, `Judged` what is judged of arrays,
+//! `Matrices` what a call for a cost matrix returns, `DoubleMatrices` the same for doubles,
+//! `Transports` what a call for a transport problem returns.
 
 mod arrays;
 mod choosing;
+mod double_matrices;
 mod handing;
 mod judging;
 mod matrices;
@@ -19,3 +21,4 @@ mod statuses;
 mod texts;
 mod transports;
 mod verdicts;
+mod wide;

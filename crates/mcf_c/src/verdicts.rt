@@ -100,8 +100,8 @@ fn verdict_sign(verdict: &Verdict) -> u32
     }
 }
 
-// A number below 2^128 in two words.
-fn words(n: u128) -> (u64, u64)
+/// A number below 2^128 in two words.
+pub(crate) fn words(n: u128) -> (u64, u64)
     ensures { result.0 + 2 ^ 64 * result.1 ≡ n }
 {
     let high = n / 0x1_0000_0000_0000_0000;

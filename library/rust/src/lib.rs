@@ -68,6 +68,18 @@ pub enum Planned {
     Refused,
 }
 
+/// The answer to a matrix of doubles.
+#[derive(Clone, Debug, PartialEq, Eq)]
+pub enum AssignedDoubles {
+    /// The column of each row that has one, and prices of rows and columns, in units of
+    /// 2^(unit - 1074), which show that the exact sum is least.
+    Least { column_of: Vec<Option<usize>>, row_prices: Vec<i128>, column_prices: Vec<i128>, unit: u32 },
+    /// Rows and columns that cover all allowed pairs and are fewer than the smaller side has.
+    Infeasible { rows: Vec<usize>, columns: Vec<usize> },
+    /// The number of costs isn't rows times columns, or a cost is a NaN or -infinity.
+    Refused,
+}
+
 /// A verdict in the numbers of `mcf.h`.
 #[derive(Clone, Copy, Debug, PartialEq, Eq)]
 pub struct Verdict {
@@ -145,6 +157,27 @@ pub fn transport(costs: &[i64], supplies: &[i64], demands: &[i64]) -> Result<Pla
         }
         1 => Ok(Planned::Infeasible { side: side_of(told.side), rows: marked(&row_prices), columns: marked(&column_prices) }),
         raw::INVALID_INPUT => Ok(Planned::Refused),
+        raw::NOT_SHOWN => Err(Error::NotShown),
+        _ => Err(Error::NoMemory),
+    }
+}
+
+/// The least-cost assignment of a matrix of doubles that is stored row by row, exactly. Rows and
+/// columns count from 0, and `f64::INFINITY` forbids a pair.
+pub fn assign_doubles(costs: &[f64], rows: usize, columns: usize) -> Result<AssignedDoubles, Error> {
+    let (mut column_of, mut unit) = (vec![0; rows], 0);
+    let (mut row_prices, mut column_prices) = (vec![raw::Wide::default(); rows], vec![raw::Wide::default(); columns]);
+    let status = raw::assign_doubles(costs, (rows, columns), &mut column_of, &mut row_prices, &mut column_prices, &mut unit);
+    let numbers = |prices: &[raw::Wide]| prices.iter().map(|price| price.number()).collect::<Vec<i128>>();
+    let marked = |marks: &[raw::Wide]| (0..marks.len()).filter(|i| marks[*i].number() == 1).collect();
+    match status {
+        0 => {
+            let column_of = column_of.iter().map(|j| Some(*j as usize).filter(|j| *j < columns)).collect();
+            let (row_prices, column_prices) = (numbers(&row_prices), numbers(&column_prices));
+            Ok(AssignedDoubles::Least { column_of, row_prices, column_prices, unit })
+        }
+        1 => Ok(AssignedDoubles::Infeasible { rows: marked(&row_prices), columns: marked(&column_prices) }),
+        raw::INVALID_INPUT => Ok(AssignedDoubles::Refused),
         raw::NOT_SHOWN => Err(Error::NotShown),
         _ => Err(Error::NoMemory),
     }

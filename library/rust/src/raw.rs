@@ -123,8 +123,32 @@ pub struct Planned {
     pub side: u32,
 }
 
+/// A matrix of doubles, as `mcf.h` has it.
+#[repr(C)]
+struct Doubles {
+    costs: *const f64,
+    length: usize,
+    rows: usize,
+    columns: usize,
+    stride: usize,
+}
+
+/// A whole number in two words.
+#[repr(C)]
+#[derive(Clone, Copy, Default)]
+pub struct Wide {
+    low: u64,
+    high: i64,
+}
+
+impl Wide {
+    pub fn number(self) -> i128 {
+        (i128::from(self.high) << 64) + i128::from(self.low)
+    }
+}
+
 mod exports {
-    use super::{Assignment, Choice, FlowProblem, Matrix, Planned, Shipment, Told, Transport};
+    use super::{Assignment, Choice, Doubles, FlowProblem, Matrix, Planned, Shipment, Told, Transport, Wide};
 
     #[rustfmt::skip]
     unsafe extern "C" {
@@ -140,6 +164,8 @@ mod exports {
             row_prices: *mut i64, row_prices_length: usize, column_prices: *mut i64, column_prices_length: usize) -> u32;
         pub fn mcf_transport_matrix(problem: *const Transport, plan: *mut Shipment, plan_length: usize,
             row_prices: *mut i64, row_prices_length: usize, column_prices: *mut i64, column_prices_length: usize, told: *mut Planned) -> u32;
+        pub fn mcf_assign_doubles(matrix: *const Doubles, column_of: *mut u32, column_of_length: usize,
+            row_prices: *mut Wide, row_prices_length: usize, column_prices: *mut Wide, column_prices_length: usize, unit: *mut u32) -> u32;
     }
 }
 
@@ -192,4 +218,14 @@ pub fn transport(costs: &[i64], masses: (&[i64], &[i64]), plan: &mut [Shipment],
             row_prices.as_mut_ptr(), row_prices.len(), column_prices.as_mut_ptr(), column_prices.len(), &mut told)
     };
     (status, told)
+}
+
+pub fn assign_doubles(
+    costs: &[f64], sides: (usize, usize), column_of: &mut [u32], row_prices: &mut [Wide], column_prices: &mut [Wide], unit: &mut u32,
+) -> u32 {
+    let matrix = Doubles { costs: costs.as_ptr(), length: costs.len(), rows: sides.0, columns: sides.1, stride: sides.1 };
+    unsafe {
+        exports::mcf_assign_doubles(&matrix, column_of.as_mut_ptr(), column_of.len(),
+            row_prices.as_mut_ptr(), row_prices.len(), column_prices.as_mut_ptr(), column_prices.len(), unit)
+    }
 }

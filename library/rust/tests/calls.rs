@@ -1,5 +1,5 @@
-use mcf::{assign_matrix, check, check_arcs, solve, solve_arcs, solve_pairs, transport};
-use mcf::{Answer, Arc, Assigned, Choice, Error, Kind, Pair, Planned, Shipment, Side};
+use mcf::{assign_doubles, assign_matrix, check, check_arcs, solve, solve_arcs, solve_pairs, transport};
+use mcf::{Answer, Arc, Assigned, AssignedDoubles, Choice, Error, Kind, Pair, Planned, Shipment, Side};
 
 const TEXT: &[u8] = b"p min 3 3\nn 1 4\nn 3 -4\na 1 2 0 3 1\na 2 3 0 3 -1\na 1 3 0 9 5\n";
 
@@ -47,6 +47,16 @@ fn assignments() {
     let pairs = [(1, 1, 4), (1, 2, 1), (2, 1, 2), (2, 2, -3)].map(|(row, column, cost)| Pair { row, column, cost });
     let Ok(Answer::Flow { cost, flow, .. }) = solve_pairs(2, 2, &pairs, Choice::default()) else { panic!() };
     assert_eq!((cost, &flow[..]), (1, &[1, 0, 0, 1][..]));
+}
+
+#[test]
+fn doubles() {
+    let last = f64::EPSILON;
+    let Ok(AssignedDoubles::Least { column_of, .. }) = assign_doubles(&[1.0, 1.0 + 2.0 * last, 1.0, 1.0 + last], 2, 2) else { panic!() };
+    assert_eq!(column_of, [Some(0), Some(1)]);
+    let none = assign_doubles(&[f64::INFINITY, 1.0, f64::INFINITY, 1.0], 2, 2);
+    assert_eq!(none, Ok(AssignedDoubles::Infeasible { rows: vec![], columns: vec![1] }));
+    assert_eq!(assign_doubles(&[f64::NAN], 1, 1), Ok(AssignedDoubles::Refused));
 }
 
 #[test]

@@ -1,0 +1,211 @@
+//! Least assignments of matrices of doubles in arrays, and their judge.
+ghost use Rattle.std.specs.Prelude.{◌≡◌, ◌≢◌, ◌≤◌, ◌⊎◌, ◌↔◌, ◌+◌, ℕ, List, length, true, false};
+ghost use Rattle.mcf_c.specs.DoubleMatrices.{HandsWideCover, double_costs_of, doubles_of, wide_values};
+ghost use Rattle.mcf_matrix.specs.Covers.{IsShortCover};
+ghost use Rattle.mcf_matrix.specs.Matchings.{IsLeastMatching, IsMatching};
+ghost use Rattle.mcf_matrix.specs.MatrixPrices.{IsShownMatching};
+ghost use Rattle.mcf_matrix_doubles.specs.DoublePrices.{AreSmallPrices, in_units};
+ghost use Rattle.mcf_matrix_doubles.specs.DoubleTables.{IsDoubleMatrix, double_costs};
+
+use crate::statuses::{
+    ACCEPTED, BLOCKED, BUFFER_TOO_SMALL, FLOW, INVALID_INPUT, NO_MEMORY, NOT_SHOWN, REJECTED,
+};
+use crate::wide::{McfWide, numbers_of, put_wide, put_wide_marks};
+use mcf_double_solver::{Cover, DoubleAssigned, DoubleAssignment, DoubleMatrix, assign};
+use mcf_matrix_doubles::{DoublePrices, judge_assignment};
+use std::alloc::Global;
+
+/// A matrix of doubles in an array, by their bits: those of row i and column j stand at
+/// i * stride + j, both from 0; +infinity forbids the pair.
+#[repr(C)]
+#[derive(Clone, Copy)]
+pub struct McfDoubles<'a> {
+    pub costs: &'a [u64],
+    pub rows: usize,
+    pub columns: usize,
+    pub stride: usize,
+}
+
+// Whether arrays for the rows and for the columns have these lengths.
+fn are_lines(matrix: &McfDoubles<'_>, columns_of: usize, rows: usize, columns: usize) -> bool
+    ensures yes { result ≡ true → (columns_of ≡ matrix.now.rows) × (rows ≡ matrix.now.rows) × (columns ≡ matrix.now.columns) }
+    ensures no { result ≡ false → (columns_of ≢ matrix.now.rows) ⊎ (rows ≢ matrix.now.rows) ⊎ (columns ≢ matrix.now.columns) }
+{
+    columns_of == matrix.rows && rows == matrix.rows && columns == matrix.columns
+}
+
+/// Finds a least assignment of a matrix of doubles, and writes the column of each row, or a number
+/// that is no column's, and prices of rows and columns that show it, in units of 2^unit, of which
+/// each is 2^-1074. It reads doubles exactly.
+///
+/// The status is 0 for an assignment, 1 where there is none, and rows and columns, fewer than
+/// either side has, meet all allowed pairs: the prices then mark these by 1 and all others by 0; 2
+/// where rows overlap or don't end within the costs, or an entry is a NaN or -infinity; 3 where
+/// an allocation is refused, 4 where a room hasn't the length of the rows or columns, and 7 where
+/// nothing was shown. From 2 on all rooms stay, and at 1 the columns and the unit do.
+#[unsafe(no_mangle)]
+pub extern "C" fn mcf_assign_doubles(
+    alloc: Global,
+    matrix: &McfDoubles<'_>,
+    column_of: &mut [u32],
+    row_prices: &mut [McfWide],
+    column_prices: &mut [McfWide],
+    unit: &mut u32,
+) -> u32
+    ensures statuses { (result ≤ 4) ⊎ (result ≡ 7) }
+    ensures shown { result ≡ 0 → IsShownMatching (double_costs_of matrix.now) column_of.new (in_units unit.new (wide_values row_prices.new)) (in_units unit.new (wide_values column_prices.new)) }
+    ensures least { result ≡ 0 → IsLeastMatching (double_costs_of matrix.now) column_of.new }
+    ensures cover { result ≡ 1 → HandsWideCover (double_costs_of matrix.now) row_prices.new column_prices.new }
+    ensures none { result ≡ 1 → (x : List ℕ) → ¬ IsMatching (double_costs_of matrix.now) x }
+    ensures within { result ≤ 1 → IsDoubleMatrix (doubles_of matrix.now) }
+    ensures fault { result ≡ 2 → ¬ IsDoubleMatrix (doubles_of matrix.now) }
+    ensures memory { result ≡ 3 → 1 ≤ matrix.now.rows + matrix.now.columns }
+    ensures room { result ≡ 4 → (length column_of.old ≢ matrix.now.rows) ⊎ (length row_prices.old ≢ matrix.now.rows) ⊎ (length column_prices.old ≢ matrix.now.columns) }
+    ensures columns_stay { 1 ≤ result → column_of.new ≡ column_of.old }
+    ensures unit_stays { 1 ≤ result → unit.new ≡ unit.old }
+    ensures row_prices_stay { 2 ≤ result → row_prices.new ≡ row_prices.old }
+    ensures column_prices_stay { 2 ≤ result → column_prices.new ≡ column_prices.old }
+{
+    if !are_lines(
+        matrix,
+        column_of.len(),
+        row_prices.len(),
+        column_prices.len(),
+    ) {
+        return BUFFER_TOO_SMALL;
+    }
+    let McfDoubles {
+        costs,
+        rows,
+        columns,
+        stride,
+    } = *matrix;
+    let Ok(matrix) = DoubleMatrix::of(costs, rows, columns, stride) else {
+        return INVALID_INPUT;
+    };
+    assign_lines(alloc, &matrix, column_of, row_prices, column_prices, unit)
+}
+
+// Finds a least assignment, where the rooms have their lengths.
+fn assign_lines(
+    alloc: Global,
+    matrix: &DoubleMatrix<'_>,
+    column_of: &mut [u32],
+    row_prices: &mut [McfWide],
+    column_prices: &mut [McfWide],
+    unit: &mut u32,
+) -> u32
+    requires columns { length column_of.old ≡ matrix.now.rows }
+    requires row_prices { length row_prices.old ≡ matrix.now.rows }
+    requires column_prices { length column_prices.old ≡ matrix.now.columns }
+    ensures statuses { (result ≤ 1) ⊎ (result ≡ 3) ⊎ (result ≡ 7) }
+    ensures shown { result ≡ 0 → IsShownMatching (double_costs matrix.now) column_of.new (in_units unit.new (wide_values row_prices.new)) (in_units unit.new (wide_values column_prices.new)) }
+    ensures least { result ≡ 0 → IsLeastMatching (double_costs matrix.now) column_of.new }
+    ensures cover { result ≡ 1 → HandsWideCover (double_costs matrix.now) row_prices.new column_prices.new }
+    ensures none { result ≡ 1 → (x : List ℕ) → ¬ IsMatching (double_costs matrix.now) x }
+    ensures memory { result ≡ 3 → 1 ≤ matrix.now.rows + matrix.now.columns }
+    ensures columns_stay { 1 ≤ result → column_of.new ≡ column_of.old }
+    ensures unit_stays { 1 ≤ result → unit.new ≡ unit.old }
+    ensures row_prices_stay { 2 ≤ result → row_prices.new ≡ row_prices.old }
+    ensures column_prices_stay { 2 ≤ result → column_prices.new ≡ column_prices.old }
+{
+    match assign(alloc, matrix) {
+        Ok(DoubleAssigned::Least(found)) => {
+            put_found(matrix, &found, column_of, row_prices, column_prices);
+            *unit = found.unit;
+            FLOW
+        }
+        Ok(DoubleAssigned::Infeasible(cover)) => {
+            put_cover(matrix, &cover, row_prices, column_prices);
+            BLOCKED
+        }
+        Ok(DoubleAssigned::NotShown) => NOT_SHOWN,
+        Err(_) => NO_MEMORY,
+    }
+}
+
+// Writes an assignment with its prices.
+fn put_found(
+    matrix: &DoubleMatrix<'_>,
+    found: &DoubleAssignment,
+    column_of: &mut [u32],
+    row_prices: &mut [McfWide],
+    column_prices: &mut [McfWide],
+)
+    requires shown { IsShownMatching (double_costs matrix.now) found.now.column_of.items (in_units found.now.unit found.now.row_prices.items) (in_units found.now.unit found.now.column_prices.items) }
+    requires columns { length column_of.old ≡ matrix.now.rows }
+    requires row_prices { length row_prices.old ≡ matrix.now.rows }
+    requires column_prices { length column_prices.old ≡ matrix.now.columns }
+    ensures columns { column_of.new ≡ found.now.column_of.items }
+    ensures row_prices { wide_values row_prices.new ≡ found.now.row_prices.items }
+    ensures column_prices { wide_values column_prices.new ≡ found.now.column_prices.items }
+{
+    column_of.copy_from_slice(found.column_of.as_slice());
+    put_wide(found.row_prices.as_slice(), row_prices);
+    put_wide(found.column_prices.as_slice(), column_prices);
+}
+
+// Writes the marks of a cover.
+fn put_cover(
+    matrix: &DoubleMatrix<'_>,
+    cover: &Cover,
+    row_marks: &mut [McfWide],
+    column_marks: &mut [McfWide],
+)
+    requires cover { IsShortCover (double_costs matrix.now) cover.now.rows.items cover.now.columns.items }
+    requires rows { length row_marks.old ≡ matrix.now.rows }
+    requires columns { length column_marks.old ≡ matrix.now.columns }
+    ensures { HandsWideCover (double_costs matrix.now) row_marks.new column_marks.new }
+{
+    put_wide_marks(cover.rows.as_slice(), row_marks);
+    put_wide_marks(cover.columns.as_slice(), column_marks);
+}
+
+/// Judges an assignment with prices for a matrix of doubles, whoever made them, exactly.
+///
+/// The status is 0 where the prices show the assignment least, 1 where they don't, a price isn't
+/// less than 2^125 from 0, or an array hasn't the length of the rows or columns, 2 where the matrix
+/// has a fault, and 3 where an allocation is refused.
+#[unsafe(no_mangle)]
+pub extern "C" fn mcf_check_doubles(
+    alloc: Global,
+    matrix: &McfDoubles<'_>,
+    column_of: &[u32],
+    row_prices: &[McfWide],
+    column_prices: &[McfWide],
+    unit: u32,
+) -> u32
+    ensures statuses { result ≤ 3 }
+    ensures exact { result ≤ 1 → (result ≡ 0) ↔ (AreSmallPrices (wide_values row_prices.now) × AreSmallPrices (wide_values column_prices.now)
+        × IsShownMatching (double_costs_of matrix.now) column_of.now (in_units unit (wide_values row_prices.now)) (in_units unit (wide_values column_prices.now))) }
+    ensures least { result ≡ 0 → IsLeastMatching (double_costs_of matrix.now) column_of.now }
+    ensures within { result ≤ 1 → IsDoubleMatrix (doubles_of matrix.now) }
+    ensures fault { result ≡ 2 → ¬ IsDoubleMatrix (doubles_of matrix.now) }
+    ensures memory { result ≡ 3 → 1 ≤ length row_prices.now + length column_prices.now + matrix.now.columns }
+{
+    let McfDoubles {
+        costs,
+        rows,
+        columns,
+        stride,
+    } = *matrix;
+    let Ok(matrix) = DoubleMatrix::of(costs, rows, columns, stride) else {
+        return INVALID_INPUT;
+    };
+    let Ok(rows) = numbers_of(alloc, row_prices) else {
+        return NO_MEMORY;
+    };
+    let Ok(columns) = numbers_of(alloc, column_prices) else {
+        return NO_MEMORY;
+    };
+    let prices = DoublePrices {
+        rows: rows.as_slice(),
+        columns: columns.as_slice(),
+        unit,
+    };
+    match judge_assignment(alloc, &matrix, column_of, &prices) {
+        Ok(true) => ACCEPTED,
+        Ok(false) => REJECTED,
+        Err(_) => NO_MEMORY,
+    }
+}
