@@ -4,11 +4,12 @@
 All programs read the same file, solve it and write a flow with its prices to a file. The script
 prints the least processor seconds of several runs, and their ratios. The simplex runs with both
 rules for large nets, `wide` and `block`, and the limit applies to `wide`. The engine `fast` runs
-beside our simplex and cost scaling, and LEMON's network simplex and cost scaling. One limit applies
-to its ratio to the better of LEMON's two, and one to its peak memory beside that of LEMON's network
-simplex, if both peaks are above that of this script.
+beside LEMON's network simplex and cost scaling. One limit applies to its ratio to the better of
+these, and one to its peak memory beside that of LEMON's network simplex, if both peaks are above
+that of this script.
 """
 import resource
+import statistics
 
 import programs
 import table
@@ -21,7 +22,11 @@ SIZES, JUDGED = (14, 16, 17), 16
 LIMITS = {"netgen": 0.9, "gridgen": 1.1, "road": 1.0, "goto": 0.7}
 # for the engine `fast`: the families, the sizes, and the greatest ratios by size and family
 FAST_FAMILIES = ("netgen", "gridgen", "goto", "road", "plan", "star", "geo", "long")
-FAST_SIZES = (10, 12, 13, 14, 15, 16)
+FAST_SIZES = (10, 11, 12, 13, 14, 15, 16, 17)
+# the ranges of sizes over which means are printed, and the seconds after which no further run of a
+# case starts
+FAST_MEANS = ((10, 15), (16, 18))
+FAST_SECONDS = 8
 MOST_SECONDS = {16: {"netgen": 0.6, "gridgen": 0.75, "goto": 0.35, "road": 0.9}}
 # the greatest ratio of peak memory to LEMON's network simplex
 MOST_MEMORY = 1.0
@@ -70,55 +75,77 @@ def measure(words, peer, instance_of):
 
 
 def measure_fast(words, peer, instance_of):
-    """Whether the ratios and the memory of the engine `fast` are within their limits."""
+    """Prints a table for each seed: by family and size, the ratio of `fast` to the better of
+    LEMON's network simplex and cost scaling. Returns whether the ratios and the memory are within
+    their limits."""
     build(words)
-    most = max(5, words.runs)
-    print(f"fast: up to {most} runs of each, whole processes")
-    within = True
-    for family in FAST_FAMILIES:
-        before = {}
-        for exponent in FAST_SIZES:
-            path = str(instance_of(family, 2**exponent))
-            commands = {
-                "fast": [*solve("fast"), path],
-                "simplex": [*solve("simplex"), path],
-                "scaling": [*solve("scaling"), path],
-                "LEMON ns": by_lemon(peer, "ns", path),
-                "LEMON cs": by_lemon(peer, "cs", path),
-            }
-            commands = {
-                name: command for name, command in commands.items() if before.get(name, 0) <= MOST
-            }
-            runs = table.measured(commands, most, 1, SECONDS)
-            within = shown(family, exponent, runs) and within
-            before = {
-                name: runs[name].seconds if name in runs else MOST + 1
-                for name in ("fast", "simplex", "scaling", "LEMON ns", "LEMON cs")
-            }
+    within, found = True, []
+    for seed in words.seeds:
+        print(f"fast, seed {seed}: whole processes, the ratio to the better of LEMON's")
+        print("| Family | " + " | ".join(f"2^{exponent}" for exponent in FAST_SIZES) + " |")
+        print("|---|" + "---|" * len(FAST_SIZES))
+        for family in FAST_FAMILIES:
+            cases = fast_cases(words, peer, instance_of, family, seed)
+            print(f"| {family} |", end="", flush=True)
+            for exponent, case in cases:
+                print(f" {case.text()} |", end="", flush=True)
+                within = within and case.is_within(family, exponent)
+                found.append((exponent, case.ratio))
+            print()
+    for low, high in FAST_MEANS:
+        ratios = [ratio for exponent, ratio in found if low <= exponent <= high and ratio]
+        if ratios:
+            print(
+                f"2^{low} to 2^{high}: geometric mean {statistics.geometric_mean(ratios):.2f},"
+                f" greatest {max(ratios):.2f}, above 0.9: {sum(r > 0.9 for r in ratios)} of"
+                f" {len(ratios)}"
+            )
     return within
 
 
-def shown(family, exponent, runs):
-    """Prints the measurements of a case. Returns whether they are within their limits."""
-    seconds = {name: run.seconds for name, run in runs.items()}
-    print(
-        f"fast {family} 2^{exponent}, whole: "
-        + ", ".join(f"{name} {taken:.3f} s" for name, taken in seconds.items()),
-        end="",
-    )
-    within = True
-    theirs = [taken for name, taken in seconds.items() if name.startswith("LEMON")]
-    if "fast" in seconds and theirs:
-        ratio = seconds["fast"] / min(theirs)
-        print(f", ratio {ratio:.2f}", end="")
-        within = ratio <= MOST_SECONDS.get(exponent, {}).get(family, ratio)
-    ours = [seconds[name] for name in ("simplex", "scaling") if name in seconds]
-    if "fast" in seconds and ours:
-        print(f", of our better {seconds['fast'] / min(ours):.2f}", end="")
-    own = resource.getrusage(resource.RUSAGE_SELF).ru_maxrss / 1024 + 1
-    if all(name in runs and runs[name].peak > own for name in ("fast", "LEMON ns")):
-        memory = runs["fast"].peak / runs["LEMON ns"].peak
-        print(f", peak {runs['fast'].peak:.0f} MB, ratio {memory:.2f}", end="")
-        within = within and memory <= MOST_MEMORY
-    print(flush=True)
-    return within
+def fast_cases(words, peer, instance_of, family, seed):
+    """The cases of a family, by size."""
+    before = {}
+    for exponent in FAST_SIZES:
+        path = str(instance_of(family, 2**exponent, seed))
+        commands = {
+            "fast": [*solve("fast"), path],
+            "LEMON ns": by_lemon(peer, "ns", path),
+            "LEMON cs": by_lemon(peer, "cs", path),
+        }
+        runs = table.measured(
+            {name: command for name, command in commands.items() if before.get(name, 0) <= MOST},
+            max(5, words.runs),
+            1,
+            FAST_SECONDS,
+        )
+        before = {name: runs[name].seconds if name in runs else MOST + 1 for name in commands}
+        if "fast" in runs:
+            yield exponent, Case(runs)
+
+
+class Case:
+    """A measured case of `fast`: its seconds and peak memory, beside LEMON's."""
+
+    def __init__(self, runs):
+        theirs = [runs[name].seconds for name in ("LEMON ns", "LEMON cs") if name in runs]
+        self.seconds = runs["fast"].seconds
+        self.ratio = self.seconds / min(theirs) if theirs else None
+        own = resource.getrusage(resource.RUSAGE_SELF).ru_maxrss / 1024 + 1
+        self.memory = (
+            runs["fast"].peak / runs["LEMON ns"].peak
+            if all(name in runs and runs[name].peak > own for name in ("fast", "LEMON ns"))
+            else None
+        )
+
+    def text(self):
+        """The cell: the ratio, or the seconds if LEMON is left out; then the ratio of memory if it
+        is above its limit."""
+        text = f"{self.ratio:.2f}" if self.ratio else f"{self.seconds:.1f} s"
+        return text + (f" (memory {self.memory:.2f})" if (self.memory or 0) > MOST_MEMORY else "")
+
+    def is_within(self, family, exponent):
+        """Whether the case is within its limits."""
+        most = MOST_SECONDS.get(exponent, {}).get(family)
+        is_fast = most is None or self.ratio is None or self.ratio <= most
+        return is_fast and (self.memory or 0) <= MOST_MEMORY

@@ -1,13 +1,13 @@
 #!/usr/bin/env python3
 """Compares parts of the suite, or all of them, with peers that do the same work.
 
-    python3 bench/run.py [PART ...] [--runs N] [--nodes N] [--built]
+    python3 bench/run.py [PART ...] [--runs N] [--nodes N] [--seeds N ..] [--built]
 
 PART
   answer    parses an answer of a million arcs and writes it again
-  fast      solves nets of eight families and of rising size by the engine `fast`, beside our
-            simplex and cost scaling and the better of LEMON's, as whole processes, with their peak
-            memory (skipped without LEMON)
+  fast      solves nets of eight families and of rising size by the engine `fast`, beside the
+            better of LEMON's network simplex and cost scaling, as whole processes with their peak
+            memory; prints a table for each of `--seeds` (skipped without LEMON)
   assign    solves assignments by the engine `sap`, beside dlib and LEMON, as whole processes; the
             script skips a missing library and says so
   check     judges such an answer for its instance
@@ -140,9 +140,9 @@ def family_answers(_words):
         yield f"{family} {nodes}", [instance, answer], times
 
 
-def family_file(family, nodes):
-    path = OUT / f"{family}-{nodes}.min"
-    return make("gen.py", path, family, nodes, "--output", path)
+def family_file(family, nodes, seed=1):
+    path = OUT / (f"{family}-{nodes}.min" if seed == 1 else f"{family}-{nodes}-{seed}.min")
+    return make("gen.py", path, family, nodes, "--seed", seed, "--output", path)
 
 
 def solved_instances(sizes):
@@ -360,6 +360,7 @@ def main():
     parser.add_argument("parts", nargs="*", choices=[[], *sorted([*PARTS, *WHOLE])], metavar="PART")
     parser.add_argument("--runs", type=int, default=9)
     parser.add_argument("--nodes", type=int)
+    parser.add_argument("--seeds", type=int, nargs="+", default=[1], help="of the part `fast`")
     parser.add_argument("--built", action="store_true")
     words = parser.parse_args()
     OUT.mkdir(exist_ok=True)
