@@ -13,6 +13,8 @@ PART
   check     judges such an answer for its instance
   feasible  finds a feasible flow, in nets of five families and of rising size, beside the time to
             read the same text
+  matrices  assigns cost matrices, matches a tracker's frames and transports, called from Python,
+            beside scipy and POT (bench/matrices.py); prints tables, without a limit
   net       builds the net of a million arcs, and visits the residual arcs of each node
   pieces    reads a text of 100 MB in pieces, beside reading it at once, as whole processes, with
             their peak memory
@@ -184,7 +186,7 @@ REPEATED = {"feasible", "net", "raise", "recover"}
 # ratio
 LEMON = {"scaling": ("cs", 9), "simplex": ("ns", 2.5)}
 # the parts with their own modules
-WHOLE = ("assign", "fast", "pieces", "table")
+WHOLE = ("assign", "fast", "matrices", "pieces", "table")
 # the parts with LEMON as their only peer
 LEMON_ALONE = {"simplex"}
 # the seconds to leave out beside a peer of our own
@@ -289,6 +291,8 @@ def measure(part, words):
         return assignments.measure(words)
     if part == "fast":
         return measure_fast(words)
+    if part == "matrices":
+        return measure_matrices()
     if part == "pieces":
         return pieces.measure(words)
     if part == "table":
@@ -343,6 +347,16 @@ def measure_fast(words):
         print("fast: left out, as LEMON isn't there (liblemon-dev)")
         return True
     return processes.measure_fast(words, lemon_program(), family_file)
+
+
+def measure_matrices():
+    """The part `matrices`, by a Python that has numpy and scipy, or none."""
+    for python in (sys.executable, "/usr/bin/python3"):
+        asked = [python, "-c", "import numpy, scipy.optimize"]
+        if subprocess.run(asked, capture_output=True).returncode == 0:
+            return subprocess.run([python, str(BENCH / "matrices.py")]).returncode == 0
+    print("matrices: left out, as no Python here has numpy and scipy")
+    return True
 
 
 def net_bytes(name, program, paths):
