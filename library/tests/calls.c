@@ -185,7 +185,7 @@ static int check_transport(void) {
    assignment, and two with a fault. */
 static int check_doubles(void) {
     static const double one = 1.0, last = 2.220446049250313e-16, zero = 0.0;
-    double costs[4], none[4], faulty[4];
+    static double costs[4], none[4], faulty[4];
     const struct mcf_doubles matrix = {costs, 4, 2, 2, 2}, without = {none, 4, 2, 2, 2},
                              wrong = {faulty, 4, 2, 2, 2};
     uint32_t column_of[2], unit = 0;

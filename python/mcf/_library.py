@@ -200,12 +200,9 @@ def _load() -> ctypes.CDLL:
     library.mcf_check_pairs.argtypes = [assignment] + rooms + [told]
     lines: List[Any] = [ctypes.POINTER(CostMatrix), at, size, *rooms]
     library.mcf_assign_matrix.argtypes = lines
-    library.mcf_check_matrix.argtypes = lines
     plans: List[Any] = [ctypes.POINTER(TransportProblem), at, size, *rooms]
     library.mcf_transport_matrix.argtypes = plans + [ctypes.POINTER(Planned)]
-    library.mcf_check_transport.argtypes = plans
     library.mcf_assign_doubles.argtypes = [*lines, ctypes.POINTER(word)]
-    library.mcf_check_doubles.argtypes = [*lines, word]
     for function in (
         library.mcf_solve,
         library.mcf_check,
@@ -214,11 +211,8 @@ def _load() -> ctypes.CDLL:
         library.mcf_solve_pairs,
         library.mcf_check_pairs,
         library.mcf_assign_matrix,
-        library.mcf_check_matrix,
         library.mcf_transport_matrix,
-        library.mcf_check_transport,
         library.mcf_assign_doubles,
-        library.mcf_check_doubles,
     ):
         function.restype = word
     return library
@@ -397,34 +391,45 @@ class PairArrays(Arrays):
 
 
 class MatrixArrays:
-    """A cost matrix, row by row, with buffers for the column of each row and for prices."""
+    """A matrix of 64-bit integers at an address, with buffers for the column of each row and for
+    prices."""
 
-    __slots__ = ("matrix", "column_of", "row_prices", "column_prices", "_rooms", "_kept")
+    __slots__ = ("matrix", "column_of", "_prices", "_rooms", "_kept")
+    # How many words a price has.
+    words = 1
 
-    def __init__(self, costs: Any, rows: int, columns: int):
-        self._kept = costs
-        self.matrix = CostMatrix(at(costs), rows * columns, rows, columns, columns)
+    def __init__(self, address: int, rows: int, columns: int, stride: int, kept: Any):
+        length = (rows - 1) * stride + columns if rows else 0
+        self.matrix = CostMatrix(address or 8, length, rows, columns, stride)
         self.column_of = array("I", bytes(4 * rows))
-        self.row_prices = array("q", bytes(8 * rows))
-        self.column_prices = array("q", bytes(8 * columns))
-        rooms = ((self.column_of, rows), (self.row_prices, rows), (self.column_prices, columns))
+        self._prices = [array("q", bytes(self.words * 8 * size)) for size in (rows, columns)]
+        self._kept = kept
+        rooms = zip((self.column_of, *self._prices), (rows, rows, columns))
         self._rooms = tuple(word for room, size in rooms for word in (at(room), size))
 
     def assign(self) -> int:
-        """Solves the matrix and returns the status: FLOW, BLOCKED, INVALID_INPUT or NOT_SHOWN."""
-        return self._call(_lib.mcf_assign_matrix)
+        """Solves the matrix and returns the status: FLOW, BLOCKED, INVALID_INPUT or NOT_SHOWN. The
+        library judges what it finds."""
+        return self._call(_lib.mcf_assign_matrix, *self._rooms)
 
-    def check(self) -> bool:
-        """Whether the checker accepts the assignment with its prices."""
-        return self._call(_lib.mcf_check_matrix) == 0
-
-    def _call(self, function: Any) -> int:
-        words = (self.matrix, *self._rooms)
+    def _call(self, function: Any, *words: Any) -> int:
         lasts = self.matrix.length > LASTING_ARCS
+        words = (self.matrix, *words)
         status = _called(function, words, self) if lasts else function(*words)
         if status in (NO_MEMORY, BUFFER_TOO_SMALL):
             raise failed(status)
         return int(status)
+
+
+class DoubleArrays(MatrixArrays):
+    """The same for a matrix of doubles."""
+
+    __slots__ = ()
+    words = 2
+
+    def assign(self) -> int:
+        unit = ctypes.byref(ctypes.c_uint32())
+        return self._call(_lib.mcf_assign_doubles, *self._rooms, unit)
 
 
 class Costs(NamedTuple):
@@ -456,14 +461,10 @@ class TransportArrays:
         self._prices = (at(self.row_prices), rows, at(self.column_prices), columns)
 
     def solve(self) -> int:
-        """Solves the problem and returns the status: FLOW, BLOCKED, INVALID_INPUT or NOT_SHOWN."""
+        """Solves the problem and returns the status: FLOW, BLOCKED, INVALID_INPUT or NOT_SHOWN. The
+        library judges what it finds."""
         words = (self.problem, at(self.plan), len(self.plan) // 2, *self._prices, self.told)
         return self._call(_lib.mcf_transport_matrix, words)
-
-    def check(self) -> bool:
-        """Whether the checker accepts the plan with its prices."""
-        words = (self.problem, at(self.plan), self.told.used, *self._prices)
-        return self._call(_lib.mcf_check_transport, words) == 0
 
     def entries(self) -> List[Tuple[int, int, int]]:
         """The row, the column and the amount of each entry of the plan, in order."""
@@ -473,39 +474,6 @@ class TransportArrays:
 
     def _call(self, function: Any, words: Tuple[Any, ...]) -> int:
         lasts = self.problem.matrix.length > LASTING_ARCS
-        status = _called(function, words, self) if lasts else function(*words)
-        if status in (NO_MEMORY, BUFFER_TOO_SMALL):
-            raise failed(status)
-        return int(status)
-
-
-class DoubleArrays:
-    """A matrix of doubles at an address, with buffers for the column of each row and for prices of
-    two words each."""
-
-    __slots__ = ("matrix", "column_of", "unit", "_rooms", "_kept")
-
-    def __init__(self, address: int, rows: int, columns: int, stride: int, kept: Any):
-        length = (rows - 1) * stride + columns if rows else 0
-        self.matrix = CostMatrix(address or 8, length, rows, columns, stride)
-        self.column_of = array("I", bytes(4 * rows))
-        self.unit = ctypes.c_uint32()
-        row_prices, column_prices = array("q", bytes(16 * rows)), array("q", bytes(16 * columns))
-        self._kept = (kept, row_prices, column_prices)
-        rooms = ((self.column_of, rows), (row_prices, rows), (column_prices, columns))
-        self._rooms = tuple(word for room, size in rooms for word in (at(room), size))
-
-    def assign(self) -> int:
-        """Solves the matrix and returns the status: FLOW, BLOCKED, INVALID_INPUT or NOT_SHOWN."""
-        return self._call(_lib.mcf_assign_doubles, ctypes.byref(self.unit))
-
-    def check(self) -> bool:
-        """Whether the checker accepts the assignment with its prices."""
-        return self._call(_lib.mcf_check_doubles, self.unit.value) == 0
-
-    def _call(self, function: Any, last: Any) -> int:
-        words = (self.matrix, *self._rooms, last)
-        lasts = self.matrix.length > LASTING_ARCS
         status = _called(function, words, self) if lasts else function(*words)
         if status in (NO_MEMORY, BUFFER_TOO_SMALL):
             raise failed(status)

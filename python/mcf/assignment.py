@@ -57,9 +57,9 @@ def linear_sum_assignment(
 ) -> Tuple[Any, Any]:
     """Matches rows with columns at least cost, or at greatest cost.
 
-    In an array of floats, each is the number that its bits stand for, and the sum is least exactly.
-    Of other entries, the function scales those that aren't whole to whole numbers, exactly; a float
-    then counts as the decimal that it prints as.
+    Floats are the numbers that their bits stand for, and the sum is exactly the least. Beside a
+    Decimal or a Fraction, or with a named engine, a float counts as the decimal that it prints as,
+    and the function scales all entries to whole numbers, exactly.
 
     Parameters
     ----------
@@ -71,7 +71,8 @@ def linear_sum_assignment(
         The algorithm. 'auto' searches the matrix directly, and uses 'sap' if the library accepts no
         answer of that search.
     check : bool
-        Whether the checker judges the answer before the function returns it.
+        Whether the checker judges the answer before the function returns it. The search on a
+        matrix judges its answers in any case.
 
     Returns
     -------
@@ -85,9 +86,7 @@ def linear_sum_assignment(
         No matching covers all rows or all columns without an infinite entry; or `cost_matrix` isn't
         a matrix.
     Refused
-        A scaled entry is beyond 10^15. Floats of 16 digits are, unless they come in an array.
-    NotAccepted
-        The floats of an array have bits that lie more than 118 places apart.
+        A scaled entry is beyond 10^15; or floats have bits that lie more than 118 places apart.
     TypeError
         An entry isn't a number.
 
@@ -96,10 +95,16 @@ def linear_sum_assignment(
     >>> linear_sum_assignment([[4, 1, 3], [2, 0, 5], [3, 2, 2]])
     ([0, 1, 2], [1, 0, 2])
     """
-    table = _floats(cost_matrix) if engine == "auto" else None
-    if table is not None:
-        return _by_doubles(table, maximize, check)
-    cells, height, width, numpy = _cells(cost_matrix, maximize)
+    table = _table(cost_matrix) if engine == "auto" else None
+    found = _by_array(table, maximize) if table is not None else None
+    if found is not None:
+        return found
+    flat, height, width, numpy = _flat(cost_matrix)
+    if engine == "auto" and numpy is None and _are_doubles(flat):
+        found = _by_floats(flat, height, width, maximize)
+        if found is not None:
+            return found
+    cells = _cells(flat, maximize, width)
     try:
         pairs = _matched(cells, height, width, engine, check)
     except Refused as error:
@@ -110,21 +115,32 @@ def linear_sum_assignment(
     return first, second
 
 
-def _floats(matrix: Any) -> Any:
-    """The matrix as an array of doubles, if it is an array of floats that doubles can hold."""
+def _table(matrix: Any) -> Any:
+    """The matrix as an array of doubles or of 64-bit integers, if it is an array of numbers that
+    these can hold."""
     numpy = sys.modules.get("numpy") if hasattr(matrix, "__array__") else None
     if numpy is None:
         return None
     table = numpy.asarray(matrix)
-    if table.ndim != 2 or table.dtype.kind != "f" or table.dtype.itemsize > 8:
+    kind, size = table.dtype.kind, table.dtype.itemsize
+    if table.ndim != 2 or size > 8:
         return None
-    return table.astype(numpy.float64, copy=False)
+    if kind == "f":
+        return table.astype(numpy.float64, copy=False)
+    if kind == "i" or (kind == "u" and size < 8):
+        return table.astype(numpy.int64, copy=False)
+    return None
 
 
-def _by_doubles(table: Any, maximize: bool, check: bool) -> Tuple[Any, Any]:
-    """Searches an array of doubles, in place where its layout allows it, by rows or by columns."""
+def _by_array(table: Any, maximize: bool) -> Optional[Tuple[Any, Any]]:
+    """Searches an array, in place where its layout allows it, by rows or by columns. Returns None
+    for integers of which one is beyond the limit, or if the library accepts no answer of the
+    search, as for doubles whose bits lie too far apart."""
     numpy = sys.modules["numpy"]
     costs = numpy.negative(table) if maximize else table
+    is_whole = costs.dtype.kind == "i"
+    if is_whole and costs.size and costs.max() == FORBIDDEN:
+        return None
     is_turned = costs.flags.f_contiguous and not costs.flags.c_contiguous
     lines = costs.T if is_turned else costs
     rows, columns = lines.shape
@@ -132,15 +148,14 @@ def _by_doubles(table: Any, maximize: bool, check: bool) -> Tuple[Any, Any]:
     if along != 8 or step % 8 or step < 8 * columns or not lines.flags.aligned:
         lines = numpy.ascontiguousarray(lines)
         step = 8 * columns
-    problem = DoubleArrays(lines.ctypes.data, rows, columns, step // 8, lines)
+    arrays = MatrixArrays if is_whole else DoubleArrays
+    problem = arrays(lines.ctypes.data, rows, columns, step // 8, lines)
     status = problem.assign()
-    if status == INVALID_INPUT:
-        place = tuple(numpy.argwhere(~(costs > -math.inf))[0])
-        raise ValueError("matrix contains invalid numeric entries: row %d, column %d" % place)
-    if status == BLOCKED:
-        raise ValueError("cost matrix is infeasible")
-    if status != FLOW or check and not problem.check():
-        raise NotAccepted("an assignment isn't shown to be least")
+    if status not in (FLOW, BLOCKED) and (is_whole or status != INVALID_INPUT):
+        return None
+    if status != FLOW:
+        invalid = (tuple(cell) for cell in numpy.argwhere(~(costs > -math.inf)))
+        raise _refusal(status, next(invalid, ()))
     found = numpy.frombuffer(problem.column_of, dtype=numpy.uint32).astype(numpy.intp)
     first = numpy.flatnonzero(found < columns)
     second = found[first]
@@ -150,11 +165,45 @@ def _by_doubles(table: Any, maximize: bool, check: bool) -> Tuple[Any, Any]:
     return first, second
 
 
+def _are_doubles(flat: List[Any]) -> bool:
+    """Whether the entries are floats, or floats and ints that doubles hold exactly."""
+    kinds = set(map(type, flat))
+    if float not in kinds or not kinds <= {float, int, bool}:
+        return False
+    return all(abs(c) <= 2**53 for c in flat if type(c) is not float)
+
+
+def _by_floats(
+    flat: List[float], height: int, width: int, maximize: bool
+) -> Optional[Tuple[List[int], List[int]]]:
+    """Searches entries that are doubles, row by row. Returns None if the library accepts no answer
+    of the search."""
+    costs = array("d", [-c for c in flat] if maximize else flat)
+    problem = DoubleArrays(costs.buffer_info()[0], height, width, width, costs)
+    status = problem.assign()
+    if status not in (FLOW, BLOCKED, INVALID_INPUT):
+        return None
+    if status != FLOW:
+        invalid = (divmod(k, width) for k, c in enumerate(costs) if not c > -math.inf)
+        raise _refusal(status, next(invalid, ()))
+    found = problem.column_of
+    rows = [row for row in range(height) if found[row] < width]
+    return rows, [found[row] for row in rows]
+
+
+def _refusal(status: int, invalid: Tuple[Any, ...]) -> Exception:
+    """Why doubles have no answer. `invalid` is the row and the column of the first NaN or infinity
+    that no cost may be."""
+    if status == BLOCKED:
+        return ValueError("cost matrix is infeasible")
+    return ValueError("matrix contains invalid numeric entries: row %d, column %d" % invalid)
+
+
 def _matched(
     cells: Any, height: int, width: int, engine: str, check: bool
 ) -> List[Tuple[int, int]]:
     """The matched pairs of row and column, by row."""
-    found = _by_matrix(cells, height, width, check) if engine == "auto" and cells else None
+    found = _by_matrix(cells, height, width) if engine == "auto" and cells else None
     if found is not None:
         return found
     if height == width:
@@ -171,7 +220,7 @@ def _has_forbidden(cells: "array[int]") -> bool:
     return cells.tobytes().find(FORBIDDEN_BYTES) >= 0 and FORBIDDEN in cells
 
 
-def _by_matrix(cells: Any, height: int, width: int, check: bool) -> Optional[List[Tuple[int, int]]]:
+def _by_matrix(cells: Any, height: int, width: int) -> Optional[List[Tuple[int, int]]]:
     """Searches the matrix directly for the pairs. Returns None if the library accepts no answer of
     the search, or if an entry is beyond the limit."""
     try:
@@ -182,14 +231,12 @@ def _by_matrix(cells: Any, height: int, width: int, check: bool) -> Optional[Lis
             return None
     except (TypeError, OverflowError):
         return None
-    problem = MatrixArrays(costs, height, width)
+    problem = MatrixArrays(costs.buffer_info()[0], height, width, width, costs)
     status = problem.assign()
     if status == BLOCKED:
         raise ValueError("cost matrix is infeasible")
     if status != FLOW:
         return None
-    if check and not problem.check():
-        raise NotAccepted("an assignment isn't shown to be least")
     return [(row, column) for row, column in enumerate(problem.column_of) if column < width]
 
 
@@ -202,9 +249,9 @@ def _at_cell(error: Refused, cells: Any, width: int, maximize: bool) -> Refused:
     return Refused(place, None, "cost", 1, value, Cell(*divmod(place, width)))
 
 
-def _cells(matrix: Any, maximize: bool) -> Tuple[Any, int, int, Any]:
-    """The entries in whole numbers, row by row, None for an infinite one; the numbers of rows and
-    columns; and the module numpy if the answer should be numpy arrays."""
+def _flat(matrix: Any) -> Tuple[List[Any], int, int, Any]:
+    """The entries row by row; the numbers of rows and columns; and the module numpy if the answer
+    should be numpy arrays."""
     numpy = sys.modules.get("numpy") if hasattr(matrix, "__array__") else None
     if numpy is not None:
         table = numpy.asarray(matrix)
@@ -216,27 +263,26 @@ def _cells(matrix: Any, maximize: bool) -> Tuple[Any, int, int, Any]:
                 % table.dtype
             )
         height, width = table.shape
-        if table.dtype.kind == "i" and table.dtype.itemsize <= 8 and not maximize:
-            cells = array("q")
-            cells.frombytes(numpy.ascontiguousarray(table, dtype=numpy.int64).tobytes())
-            return cells, height, width, numpy
-        flat = listed(table.ravel())
-    else:
-        rows = list(matrix)
-        if not all(hasattr(row, "__len__") and not isinstance(row, (str, bytes)) for row in rows):
-            raise ValueError("expected a matrix (2-D array), got a 1 array")
-        height, width = len(rows), len(rows[0]) if rows else 0
-        if any(len(row) != width for row in rows):
-            raise ValueError("expected a matrix: its rows have one length")
-        flat = list(chain.from_iterable(rows))
+        return listed(table.ravel()), height, width, numpy
+    rows = list(matrix)
+    if not all(hasattr(row, "__len__") and not isinstance(row, (str, bytes)) for row in rows):
+        raise ValueError("expected a matrix (2-D array), got a 1 array")
+    height, width = len(rows), len(rows[0]) if rows else 0
+    if any(len(row) != width for row in rows):
+        raise ValueError("expected a matrix: its rows have one length")
+    return list(chain.from_iterable(rows)), height, width, None
+
+
+def _cells(flat: List[Any], maximize: bool, width: int) -> Any:
+    """The entries in whole numbers, None for an infinite one."""
     try:
         # This is three times as fast as array("q", flat), which before Python 3.10 also takes a
         # Decimal and drops its decimals.
         cells = array("q", struct.pack("%dq" % len(flat), *flat))
         # Negate Python's ints here, because a numpy int may wrap around.
-        return array("q", [-c for c in cells]) if maximize else cells, height, width, numpy
+        return array("q", [-c for c in cells]) if maximize else cells
     except (TypeError, OverflowError, struct.error):
-        return _whole(flat, maximize, width), height, width, numpy
+        return _whole(flat, maximize, width)
 
 
 def _whole(flat: List[Any], maximize: bool, width: int) -> List[Optional[int]]:

@@ -5,7 +5,7 @@ from array import array
 from operator import index
 from typing import Any, List, NamedTuple, Sequence, Tuple, Union
 
-from ._errors import Cell, Infeasible, NotAccepted, Refused
+from ._errors import Cell, Infeasible, Refused
 from ._library import BLOCKED, FLOW, FORBIDDEN, INVALID_INPUT, SIDES, Costs, TransportArrays, marked
 from ._limits import ARCS, COST
 from ._numbers import exact, is_float, limited
@@ -110,7 +110,8 @@ def transport(
     demands : sequence or array
         What each column receives.
     check : bool
-        Whether the checker judges the answer before the function returns it.
+        Whether the checker judges an answer that is found by arcs. The search on the matrix judges
+        its answers in any case.
 
     Returns
     -------
@@ -155,8 +156,6 @@ def transport(
         raise _refused(matrix)
     if status != FLOW:
         return _by_arcs(matrix, given_supplies, given_demands, numpy, check)
-    if check and not problem.check():
-        raise NotAccepted("a transport plan isn't shown to be least")
     shipments = problem.entries()
     cost = sum(_cost_at(matrix, i, j) * amount for i, j, amount in shipments)
     return Plan(cost, shipments, problem.row_prices.tolist(), problem.column_prices.tolist(), numpy)

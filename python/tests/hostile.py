@@ -2,6 +2,7 @@
 arrays of all kinds, and objects that aren't numbers. Each call must return the right answer, or
 raise an exception that names the fault. MCF_LIBRARY names the library."""
 import collections
+import itertools
 import os
 import random
 import sys
@@ -366,9 +367,14 @@ class Numbers(unittest.TestCase):
 
     def test_digits(self):
         chance = random.Random(6)
-        matrix = [[chance.random() for _ in range(9)] for _ in range(9)]
+        matrix = [[chance.random() for _ in range(6)] for _ in range(6)]
+        least = min(
+            itertools.permutations(range(6)),
+            key=lambda columns: sum(Fraction(matrix[i][j]) for i, j in enumerate(columns)),
+        )
+        self.assertEqual(mcf.linear_sum_assignment(matrix), (list(range(6)), list(least)))
         with self.assertRaises(mcf.Refused) as c:
-            mcf.linear_sum_assignment(matrix)
+            mcf.linear_sum_assignment(matrix, engine="sap")
         self.assertTrue(
             c.exception.reason == "cost"
             and c.exception.scale >= 10**15
@@ -620,7 +626,7 @@ class Arrays(unittest.TestCase):
             np.full((2, 2), 2**63 - 1),
             np.full((2, 2), -(2**63)),
             np.full((2, 2), 2**64 - 1, "u8"),
-            np.full((2, 2), 1e300),
+            np.array([[1e300, 1e-300], [1, 1]]),
         ):
             for maximize in (False, True):
                 self.assertRaises(mcf.Refused, mcf.linear_sum_assignment, wrong, maximize)

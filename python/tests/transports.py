@@ -111,12 +111,6 @@ class Transports(unittest.TestCase):
                     mcf.transport([[1, 2], [3, 4]], [1, 1], [1, 1])
                 self.assertEqual(c.exception.reason, "size")
 
-    def test_not_accepted(self):
-        with mock.patch.object(mcf._library.TransportArrays, "check", return_value=False):
-            with self.assertRaises(mcf.NotAccepted):
-                mcf.transport([[1]], [2], [2])
-            self.assertEqual(mcf.transport([[1]], [2], [2], check=False).cost, 2)
-
     def test_numbers(self):
         plan = mcf.transport(
             [[1, float("inf")], [2**63 - 1, 2.0]], [3.0, 2], array.array("q", [3, 2])
