@@ -1,4 +1,4 @@
-"""Runs the tests of minimum-cost flow and of assignments that networkx and scipy contain, with the
+"""Runs the tests of flows and of assignments that networkx and scipy contain, with the
 functions of mcf in place of theirs. Prints how many passed and which did not, and what it skips
 because a package isn't installed. Needs pytest.
 
@@ -20,9 +20,20 @@ sys.path.insert(0, os.path.join(TOP, "python"))
 FLOWS = (
     "networkx.algorithms.flow.tests.test_mincost",
     "networkx.algorithms.flow.tests.test_networksimplex",
+    "networkx.algorithms.flow.tests.test_maxflow",
 )
 ASSIGNMENTS = ("scipy.optimize.tests.test_linear_assignment",)
-FUNCTIONS = ("network_simplex", "min_cost_flow", "min_cost_flow_cost", "max_flow_min_cost")
+FUNCTIONS = (
+    "network_simplex",
+    "capacity_scaling",
+    "min_cost_flow",
+    "min_cost_flow_cost",
+    "max_flow_min_cost",
+    "maximum_flow",
+    "maximum_flow_value",
+    "minimum_cut",
+    "minimum_cut_value",
+)
 # The graph of both tests has two least-cost flows, of cost 150. The tests expect one of them, and
 # the network simplex of mcf finds the other.
 ANOTHER_LEAST_FLOW = {

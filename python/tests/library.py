@@ -611,6 +611,133 @@ class WithNetworkx(unittest.TestCase):
                 (c.exception.reason, c.exception.value), ("bound", mcf._numbers.exact(great))
             )
 
+    def raised(self, call, *words, **options):
+        """The name of networkx' exception, or the answer."""
+        import networkx as nx
+
+        try:
+            return call(*words, **options)
+        except nx.NetworkXException as error:
+            return next(
+                c.__name__ for c in type(error).__mro__ if c.__module__ == nx.exception.__name__
+            )
+
+    def test_capacity_scaling(self):
+        import mcf.nx
+        import networkx as nx
+
+        chance, seen = random.Random(11), set()
+        for turn in range(600):
+            n = chance.randrange(1, 6)
+            G = chance.choice((nx.DiGraph, nx.MultiDiGraph))([(0, 0), *nx.path_graph(n).edges])
+            for u in G:
+                G.nodes[u]["demand"] = chance.randrange(-3, 4)
+            G.nodes[0]["demand"] -= sum(d for _, d in G.nodes(data="demand")) if turn % 9 else 0
+            for _ in range(chance.randrange(12)):
+                G.add_edge(chance.randrange(n), chance.randrange(n))
+            for data in [e[-1] for e in G.edges(data=True)]:
+                data["weight"] = chance.randrange(-2, 7)
+                data["capacity"] = chance.choice((-1, 0, 2, 3, 5, 8, float("inf")))
+            if not any(u != v and c > 0 for u, v, c in G.edges(data="capacity")):
+                # There networkx answers 0, whatever the demands are.
+                continue
+            found = self.raised(mcf.nx.capacity_scaling, G)
+            wanted = self.raised(nx.capacity_scaling, G)
+            if not isinstance(wanted, str):
+                found, wanted = found[0], wanted[0]
+            self.assertEqual(found, wanted, (G.nodes(data=True), G.edges(data=True)))
+            seen.add(wanted if isinstance(wanted, str) else "flow")
+        self.assertEqual(seen, {"flow", "NetworkXUnfeasible", "NetworkXUnbounded"})
+        self.assertEqual(mcf.nx.capacity_scaling(nx.DiGraph()), (0, {}))
+        undirected = self.raised(mcf.nx.capacity_scaling, nx.Graph())
+        self.assertEqual(undirected, "NetworkXNotImplemented")
+
+    def test_maximum_flows_and_minimum_cuts(self):
+        import mcf.nx
+        import networkx as nx
+
+        chance, seen = random.Random(12), set()
+        for _ in range(600):
+            n = chance.randrange(2, 7)
+            G = chance.choice((nx.DiGraph, nx.Graph))()
+            G.add_nodes_from(range(n))
+            for _ in range(chance.randrange(14)):
+                cap = chance.choice((0, 1, 2, 0.25, 1.5, 7, 9, float("inf")))
+                G.add_edge(chance.randrange(n), chance.randrange(n), capacity=cap)
+            wanted = self.raised(nx.minimum_cut, G, 0, n - 1)
+            self.assertEqual(self.raised(mcf.nx.minimum_cut, G, 0, n - 1), wanted)
+            seen.add(wanted if isinstance(wanted, str) else "flow")
+            if isinstance(wanted, str):
+                self.assertEqual(self.raised(mcf.nx.maximum_flow, G, 0, n - 1), wanted)
+                continue
+            value, flows = mcf.nx.maximum_flow(G, 0, n - 1)
+            self.assertEqual(value, wanted[0])
+            excess = dict.fromkeys(G, 0)
+            for u in G:
+                self.assertEqual(list(flows[u]), list(G[u]))
+                for v, f in flows[u].items():
+                    self.assertTrue(0 <= f <= G[u][v]["capacity"])
+                    self.assertTrue(u == v or f == 0 or not flows[v].get(u))
+                    excess[u] -= f
+                    excess[v] += f
+            self.assertEqual(excess, {**dict.fromkeys(G, 0), 0: -value, n - 1: value})
+        self.assertEqual(seen, {"flow", "NetworkXUnbounded"})
+
+    def test_arguments_of_maximum_flows(self):
+        import mcf.nx
+        import networkx as nx
+
+        G = nx.DiGraph([(0, 1, {"capacity": 2})])
+        for name in ("maximum_flow", "maximum_flow_value", "minimum_cut", "minimum_cut_value"):
+            mine, theirs = getattr(mcf.nx, name), getattr(nx, name)
+            for graph, words, options in (
+                (G, (0, 1), {}),
+                (G, (0, 1, "capacity", nx.algorithms.flow.dinitz), {}),
+                (G, (0, 9), {}),
+                (G, (9, 0), {}),
+                (G, (0, 0), {}),
+                (G, (0, 1), {"flow_func": "dinitz"}),
+                (G, (0, 1), {"cutoff": 1}),
+                (nx.MultiDiGraph(G), (0, 1), {}),
+            ):
+                self.assertEqual(
+                    self.raised(mine, graph, *words, **options),
+                    self.raised(theirs, graph, *words, **options),
+                )
+
+    def test_what_the_backend_leaves_to_networkx(self):
+        import mcf.nx_backend
+        import networkx as nx
+
+        G = nx.DiGraph([(0, 1, {"capacity": 2})])
+        backend = mcf.nx_backend.BackendInterface
+        for name, words, options, is_taken in (
+            ("network_simplex", (G,), {}, True),
+            ("capacity_scaling", (), {"G": G}, True),
+            ("maximum_flow", (G, 0, 1), {}, True),
+            ("minimum_cut", (), {"flowG": G, "_s": 0, "_t": 1, "flow_func": None}, True),
+            ("maximum_flow", (G, 0, 1, "capacity", max), {}, False),
+            ("maximum_flow_value", (G, 0, 1), {"flow_func": max, "cutoff": 1}, False),
+            ("minimum_cut_value", (G, 0, 1), {"residual": G}, False),
+        ):
+            for asked in (backend.can_run, backend.should_run):
+                said = asked(name, words, options)
+                self.assertEqual(said is True, is_taken, said)
+        self.assertEqual(
+            set(mcf.nx_backend.get_info()["functions"]) | {"NetworkXOverflow", "NetworkXRefused"},
+            set(mcf.nx.__all__),
+        )
+        self.assertEqual(backend.maximum_flow(mcf.nx_backend.MCFGraph(G), 0, 1)[0], 2)
+
+    def test_prices_beyond_64_bits(self):
+        import mcf.nx
+        import networkx as nx
+
+        G = nx.path_graph(9225, nx.DiGraph)
+        nx.set_edge_attributes(G, 10**15, "weight")
+        nx.set_node_attributes(G, {0: -1, 9224: 1}, "demand")
+        self.assertRaisesRegex(nx.NetworkXError, "64 bits", mcf.nx.network_simplex, G)
+
     def test_exceptions(self):
         import mcf.nx
         import networkx as nx
@@ -650,6 +777,11 @@ class WithNetworkx(unittest.TestCase):
             print(nx.network_simplex(G) == own, nx.min_cost_flow_cost(G) == own[0])
             G.add_edge("a", "b", weight=0.25)
             print(nx.network_simplex(G, backend="mcf")[0])
+            flow = nx.maximum_flow(G, "a", "b", flow_func=nx.algorithms.flow.dinitz)
+            print(flow[0] == sys.maxsize)
+            print(nx.minimum_cut_value(G, "a", "b") == sys.maxsize)
+            G.add_edge("a", "b", capacity=7)
+            print(nx.minimum_cut_value(G, "a", "b", backend="mcf"))
             """
         top = os.path.dirname(os.path.dirname(os.path.dirname(os.path.abspath(__file__))))
         with tempfile.TemporaryDirectory() as folder:
@@ -664,7 +796,13 @@ class WithNetworkx(unittest.TestCase):
                 check=True,
                 timeout=60,
             ).stdout.split(b"\n")
-        self.assertIn(said[:-1], ([b"no backends"], [b"refused", b"True True", b"0.75"]))
+        self.assertIn(
+            said[:-1],
+            (
+                [b"no backends"],
+                [b"refused", b"True True", b"0.75", b"True", b"True", b"7"],
+            ),
+        )
 
 
 if __name__ == "__main__":
