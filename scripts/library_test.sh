@@ -71,6 +71,7 @@ has python3 Python && { step "commands of docs/LIBRARY.md" scripts/documents.py 
 for python in $(interpreters); do
     version=$("$python" -V)
     step "$version" env MCF_LIBRARY="$top/bin/libmcf.so" "$python" python/tests/library.py
+    step "$version, arrays" env MCF_LIBRARY="$top/bin/libmcf.so" "$python" python/tests/arrays.py
     step "$version, hostile arguments" env MCF_LIBRARY="$top/bin/libmcf.so" "$python" python/tests/hostile.py
 done
 python=$(having "mypy, numpy" "types of the module") && {

@@ -1,14 +1,15 @@
 """Minimum-cost flow with proved answers.
 
-`solve` takes supplies and arcs. `linear_sum_assignment` takes a cost matrix, `transport` one with
-supplies and demands, and `emd` and `emd2` histograms, as POT's functions of these names do.
-`SimpleMinCostFlow` has the methods of OR-tools' class, and `mcf.nx` takes networkx graphs. The
-checker judges each answer before the package returns it, unless `check=False`. `solve_text` and
-`check_text` take texts in the DIMACS formats.
+`solve` takes supplies and arcs, and `solve_arrays` columns of them. `linear_sum_assignment` takes a
+cost matrix, `transport` one with supplies and demands, and `emd` and `emd2` histograms, as POT's
+functions of these names do. `SimpleMinCostFlow` has the methods of OR-tools' class, and `mcf.nx`
+takes networkx graphs. The checker judges each answer before the package returns it, unless
+`check=False`. `solve_text` and `check_text` take texts in the DIMACS formats.
 """
 from typing import Optional, Tuple, Union
 
 from . import _library
+from ._arrays import ArrayFlow, solve_arrays
 from ._errors import Infeasible, MCFError, NotAccepted, Refused, Unbounded
 from ._library import Verdict
 from ._solving import Flow, solve
@@ -18,6 +19,7 @@ from .simple import SimpleMinCostFlow
 from .transportation import Plan, transport
 
 __all__ = [
+    "ArrayFlow",
     "Flow",
     "Infeasible",
     "MCFError",
@@ -32,6 +34,7 @@ __all__ = [
     "emd2",
     "linear_sum_assignment",
     "solve",
+    "solve_arrays",
     "solve_text",
     "transport",
 ]

@@ -50,7 +50,19 @@ from ._limits import (
     residual_arcs,
 )
 from ._numbers import exact, is_float, limited, listed, scale_of, unscaled
-from ._types import Amount, Label, Number, Numbers, Prices, Real, Series, WholeArc
+from ._tables import is_frame, is_sparse, rows_of_frame, rows_of_sparse
+from ._types import (
+    Amount,
+    Frame,
+    Label,
+    Number,
+    Numbers,
+    Prices,
+    Real,
+    Series,
+    SparseMatrix,
+    WholeArc,
+)
 
 # The greatest node number, from 0, that fits an argument of the library.
 NODE = 2**32 - 2
@@ -71,6 +83,11 @@ class Flow(Generic[Amount, Prices]):
         certificate: they show that no feasible flow costs less.
     verdict : Verdict or None
         The checker's verdict; None if the checker wasn't asked.
+    success : bool
+        True, as an instance without a least-cost flow raises an exception. With `message` it serves
+        code that reads a result of scipy.optimize.
+    message : str
+        What the checker says of the flow.
     """
 
     __slots__ = ("cost", "flow", "verdict", "_prices", "_labels", "_scale")
@@ -95,6 +112,16 @@ class Flow(Generic[Amount, Prices]):
         values = [unscaled(price, self._scale) for price in self._prices]
         found = values if self._labels is None else dict(zip(self._labels, values))
         return cast(Prices, found)
+
+    @property
+    def success(self) -> bool:
+        return True
+
+    @property
+    def message(self) -> str:
+        if self.verdict is None:
+            return "least-cost flow, not judged by the checker"
+        return "least-cost flow, accepted by the checker"
 
     def __repr__(self) -> str:
         """The cost and the first amounts, which fit one screen for a flow of any size."""
@@ -166,7 +193,7 @@ def _must_and_can(
     return must, can, limiting
 
 
-def _refused(problem: ArcArrays, supplies: Sequence[int], limits: Limits) -> Refused:
+def refused_by(problem: ArcArrays, supplies: Sequence[int], limits: Limits) -> Refused:
     """The exception for the first fault in the arrays."""
     reason, place = CODES[problem.told.code], problem.told.number - 1
     if reason == "size":
@@ -190,7 +217,7 @@ def _limiting(place: int, arc: Arc) -> Refused:
     return Refused(place, None, reason, 1, arc[3], arc[:2])
 
 
-def _blocked(
+def blocked_by(
     problem: ArcArrays, supplies: Sequence[int], given: Sequence[Arc], limits: Limits, check: bool
 ) -> MCFError:
     """The exception that says why no flow is feasible, or none with at most 10^18 on each arc."""
@@ -236,7 +263,7 @@ def _reprice(problem: ArcArrays, given: Sequence[Arc], limits: Limits) -> None:
     raise _limiting(k, given[k])
 
 
-def _judged(problem: ArcArrays) -> Verdict:
+def judged(problem: ArcArrays) -> Verdict:
     """The checker's verdict. Raises NotAccepted if the checker rejects the answer."""
     verdict = problem.check()
     if not verdict:
@@ -259,16 +286,16 @@ def solve_whole(
     problem = ArcArrays(_supplied(supplies), len(supplies), _packed(limits.arcs), len(arcs))
     status = problem.solve(choice)
     if status == INVALID_INPUT:
-        raise _refused(problem, supplies, limits)
+        raise refused_by(problem, supplies, limits)
     if status == BLOCKED:
-        raise _blocked(problem, supplies, arcs, limits, check)
-    verdict = _judged(problem) if check else None
+        raise blocked_by(problem, supplies, arcs, limits, check)
+    verdict = judged(problem) if check else None
     bound = binding(limits, problem.flow, problem.prices)
     if bound and not limits.short:
         raise _unbounded(limits, arcs, problem.flow, bound)
     if bound:
         _reprice(problem, arcs, limits)
-        verdict = _judged(problem) if check else None
+        verdict = judged(problem) if check else None
     return problem, verdict
 
 
@@ -336,7 +363,21 @@ def _row(arc: Any) -> Tuple[Any, ...]:
     return arc[0], arc[1], 0, arc[2], arc[3]
 
 
-def _node(value: Any) -> int:
+def _rows(supplies: Any, arcs: Any, capacities: Any) -> List[Tuple[Any, ...]]:
+    """The arcs of any argument for them, each with its lower bound."""
+    if is_sparse(arcs):
+        nodes = supplies if isinstance(supplies, int) else len(supplies)
+        if isinstance(supplies, Mapping) or hasattr(supplies, "items"):
+            raise TypeError("the nodes of a sparse matrix have numbers, and no labels")
+        return rows_of_sparse(arcs, capacities, nodes)
+    if capacities is not None:
+        raise TypeError("capacities are for a sparse matrix of costs")
+    if is_frame(arcs):
+        return rows_of_frame(arcs)
+    return [_row(arc) for arc in listed(arcs)]
+
+
+def as_node(value: Any) -> int:
     """The number of a node as an int. An array of floats has it as a float."""
     try:
         return int(value) if is_float(value) and float(value).is_integer() else index(value)
@@ -364,8 +405,8 @@ def _scaled(
         return amounts, list(rows), 1, 1
     exacts = [
         (
-            u if type(u) is int else _node(u),
-            v if type(v) is int else _node(v),
+            u if type(u) is int else as_node(u),
+            v if type(v) is int else as_node(v),
             exact(low),
             None if cap is None or cap == INFINITE else exact(cap),
             exact(cost),
@@ -445,7 +486,7 @@ def solve(
 @overload
 def solve(
     supplies: Mapping[Label, Real],
-    arcs: Iterable[Sequence[Any]],
+    arcs: Union[Iterable[Sequence[Any]], Frame],
     *,
     engine: str = ...,
     pricing: Optional[str] = ...,
@@ -458,7 +499,7 @@ def solve(
 @overload
 def solve(
     supplies: Series,
-    arcs: Iterable[Sequence[Any]],
+    arcs: Union[Iterable[Sequence[Any]], Frame],
     *,
     engine: str = ...,
     pricing: Optional[str] = ...,
@@ -484,7 +525,21 @@ def solve(
 @overload
 def solve(
     supplies: Union[int, Numbers],
-    arcs: Iterable[Sequence[Any]],
+    arcs: SparseMatrix,
+    *,
+    engine: str = ...,
+    pricing: Optional[str] = ...,
+    block: Optional[int] = ...,
+    check: bool = ...,
+    capacities: Optional[SparseMatrix] = ...,
+) -> Flow[Number, Sequence[Number]]:
+    ...
+
+
+@overload
+def solve(
+    supplies: Union[int, Numbers],
+    arcs: Union[Iterable[Sequence[Any]], Frame],
     *,
     engine: str = ...,
     pricing: Optional[str] = ...,
@@ -496,12 +551,13 @@ def solve(
 
 def solve(
     supplies: Any,
-    arcs: Iterable[Any],
+    arcs: Any,
     *,
     engine: str = "auto",
     pricing: Optional[str] = None,
     block: Optional[int] = None,
     check: bool = True,
+    capacities: Any = None,
 ) -> Flow[Any, Any]:
     """Solves a minimum-cost flow problem.
 
@@ -514,9 +570,12 @@ def solve(
         The supply of each node, which is negative for a demand. A sequence or a numpy array has
         them by node (nodes are 0, 1, ..), a mapping by label. An int is the number of nodes, all
         without supply.
-    arcs : iterable
+    arcs : iterable, DataFrame or sparse matrix
         (from, to, cap, cost) or (from, to, low, cap, cost) for each arc, or a numpy array of such
-        rows. A cap that is None or infinite means no limit.
+        rows. A cap that is None or infinite means no limit. A frame has the columns tail, head,
+        capacity and cost, and may have the column lower; a missing capacity means no limit. A
+        sparse matrix of scipy has the cost of an arc from i to j for each entry (i, j) that it
+        stores; the arcs have no limit, unless `capacities` is given.
     engine : {'auto', 'simplex', 'scaling', 'fast', 'sap', 'cancel'}
         The algorithm. 'auto' is 'fast', unless `pricing` or `block` is given.
     pricing : {'block', 'first', 'best', 'wide'}, optional
@@ -525,6 +584,9 @@ def solve(
         The number of arcs in a block of the rule 'block'.
     check : bool
         Whether the checker judges the answer before the function returns it.
+    capacities : sparse matrix, optional
+        The capacities of the arcs in a sparse matrix of costs. Its stored entries are then the
+        arcs, in their order, and one that stores no cost costs 0.
 
     Returns
     -------
@@ -552,10 +614,12 @@ def solve(
     >>> r = solve({"mill": 4, "shop": -4}, arcs)
     >>> r.cost, r.flow, r.prices
     (14, [2, 2, 2], {'mill': 0, 'shop': -5, 'depot': -4})
+    >>> solve([2, -2], ((0, 1, 1, cost) for cost in (5, 3, 8))).flow
+    [1, 1, 0]
     >>> solve([1, -1], [(1, 0, 5, 3)])
     Traceback (most recent call last):
       ..
     mcf.Infeasible: 1 node(s) must send 1 and can send 0
     """
-    labels, given, rows = _given(supplies, [_row(arc) for arc in listed(arcs)])
+    labels, given, rows = _given(supplies, _rows(supplies, arcs, capacities))
     return solve_rows(labels, given, rows, flow_choice(engine, pricing, block), check)

@@ -56,4 +56,26 @@ class Series(Protocol):
         """Pairs of a label and its number."""
 
 
+class Frame(Protocol):
+    """A table with a column for each part of an arc, like a pandas DataFrame."""
+
+    @property
+    def columns(self) -> Any:
+        """The names of the columns."""
+
+    def __getitem__(self, name: Any) -> Any:
+        """The column of a name."""
+
+
+class SparseMatrix(Protocol):
+    """A sparse matrix of scipy, or an object like one."""
+
+    @property
+    def shape(self) -> Any:
+        """The numbers of rows and columns."""
+
+    def tocoo(self) -> Any:
+        """The stored entries, as arrays `row`, `col` and `data`."""
+
+
 Numbers = Union[Sequence[Real], Array]

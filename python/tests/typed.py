@@ -72,6 +72,15 @@ def arrays() -> None:
     assert smcf.solve() == smcf.OPTIMAL and smcf.flows(arcs) == [4, 1, 4]
 
 
+def columns() -> None:
+    """Columns of arcs."""
+    r = mcf.solve_arrays(np.array([4, -4]), [0, 0], [1, 1], np.array([3, 9]), [2, 5])
+    success: bool = r.success
+    said: str = r.message
+    assert (r.cost, r.flow.tolist(), r.prices.tolist()) == (11, [3, 1], [0, -5])
+    assert success and said and r == mcf.solve([4, -4], [(0, 1, 3, 2), (0, 1, 9, 5)])
+
+
 def assignments() -> None:
     """Lists give lists."""
     rows, columns = mcf.linear_sum_assignment([[4, 1, 3], [2, 0, 5], [3, 2, 2]])
@@ -103,5 +112,5 @@ def texts() -> None:
 
 
 if __name__ == "__main__":
-    for example in (labels, places, decimals, arrays, assignments, exceptions, texts):
+    for example in (labels, places, decimals, arrays, columns, assignments, exceptions, texts):
         example()
