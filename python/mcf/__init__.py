@@ -2,9 +2,10 @@
 
 `solve` takes supplies and arcs, and `solve_arrays` columns of them. `linear_sum_assignment` takes a
 cost matrix, `transport` one with supplies and demands, and `emd` and `emd2` histograms, as POT's
-functions of these names do. `SimpleMinCostFlow` has the methods of OR-tools' class, and `mcf.nx`
-takes networkx graphs. The checker judges each answer before the package returns it, unless
-`check=False`. `solve_text` and `check_text` take texts in the DIMACS formats.
+functions of these names do. `SimpleMinCostFlow`, `SimpleMaxFlow` and `SimpleLinearSumAssignment`
+have the methods of OR-tools' classes, and `mcf.nx` takes networkx graphs. The checker judges each
+answer before the package returns it, unless `check=False`. `solve_text` and `check_text` take texts
+in the DIMACS formats.
 """
 from typing import Optional, Tuple, Union
 
@@ -15,7 +16,7 @@ from ._library import Verdict
 from ._solving import Flow, solve
 from .assignment import linear_sum_assignment
 from .earth_mover import emd, emd2
-from .simple import SimpleMinCostFlow
+from .simple import SimpleLinearSumAssignment, SimpleMaxFlow, SimpleMinCostFlow
 from .transportation import Plan, transport
 
 __all__ = [
@@ -26,6 +27,8 @@ __all__ = [
     "NotAccepted",
     "Plan",
     "Refused",
+    "SimpleLinearSumAssignment",
+    "SimpleMaxFlow",
     "SimpleMinCostFlow",
     "Unbounded",
     "Verdict",

@@ -348,6 +348,113 @@ class Solving(unittest.TestCase):
         self.assertEqual(problem.solve(), problem.BAD_CAPACITY_RANGE)
         self.assertEqual((problem.error.arc, problem.error.value), (2, 2**63 - 1))
 
+    def test_capacities_of_simple_problems_change(self):
+        problem = mcf.SimpleMinCostFlow()
+        arcs = problem.add_arcs_with_capacity_and_unit_cost([0, 0], [1, 1], [3, 9], [2, 5])
+        problem.set_nodes_supplies([0, 1], [4, -4])
+        self.assertEqual((problem.solve(), problem.optimal_cost()), (problem.OPTIMAL, 11))
+        self.assertEqual(problem.prices(), [0, -5])
+        problem.set_arc_capacity(arcs[0], 4)
+        self.assertEqual((problem.solve(), problem.optimal_cost()), (problem.OPTIMAL, 8))
+        problem.set_arcs_capacity(arcs, [1, 2])
+        self.assertEqual((problem.capacity(0), problem.unit_cost(1)), (1, 5))
+        self.assertEqual(problem.solve(), problem.INFEASIBLE)
+        for arc in (-1, 2):
+            self.assertRaises(ValueError, problem.set_arcs_capacity, [0, arc], [7, 7])
+        self.assertEqual(problem.capacity(0), 1)
+
+    def test_max_flow_with_min_cost(self):
+        chance = random.Random(6)
+        for _ in range(200):
+            n, m = chance.randrange(1, 6), chance.randrange(9)
+            supplies = [chance.randrange(-4, 5) for _ in range(n)]
+            arcs = [
+                (*chance.choices(range(n), k=2), chance.randrange(5), chance.randrange(-2, 9))
+                for _ in range(m)
+            ]
+            problem = mcf.SimpleMinCostFlow()
+            problem.set_nodes_supplies(list(range(n)), supplies)
+            places = [problem.add_arc_with_capacity_and_unit_cost(*arc) for arc in arcs]
+            self.assertEqual(problem.solve_max_flow_with_min_cost(), problem.OPTIMAL)
+            # A unit that is sent earns more than all costs, which are at most 9 * 4 * 8.
+            ends = [(n, v, b, 0) for v, b in enumerate(supplies) if b > 0]
+            ends += [(v, n + 1, -b, 0) for v, b in enumerate(supplies) if b < 0]
+            both = mcf.solve([0] * (n + 2), arcs + ends + [(n + 1, n, 10**9, -1000)])
+            self.assertEqual(problem.maximum_flow(), both.flow[-1])
+            self.assertEqual(problem.optimal_cost(), both.cost + 1000 * both.flow[-1])
+            cost = sum(f * arc[3] for f, arc in zip(problem.flows(places), arcs))
+            self.assertEqual(problem.optimal_cost(), cost)
+            self.assertEqual(len(problem.prices()), n)
+        problem.add_arc_with_capacity_and_unit_cost(0, 0, -1, 0)
+        self.assertEqual(problem.solve_max_flow_with_min_cost(), problem.BAD_CAPACITY_RANGE)
+        self.assertRaises(RuntimeError, problem.maximum_flow)
+
+    def test_simple_maximum_flows(self):
+        chance = random.Random(7)
+        for _ in range(200):
+            n, m = chance.randrange(2, 6), chance.randrange(12)
+            problem = mcf.SimpleMaxFlow()
+            ends = [chance.choices(range(n), k=m) for _ in range(2)]
+            caps = [chance.choice((0, 1, 2, 5, 9, 2**63 - 1)) for _ in range(m)]
+            caps = [min(c, 10**17) if 0 in (u, v) else c for u, v, c in zip(*ends, caps)]
+            arcs = problem.add_arcs_with_capacity(*ends, caps)
+            self.assertEqual(problem.solve(0, n - 1), problem.OPTIMAL)
+            source, sink = problem.get_source_side_min_cut(), problem.get_sink_side_min_cut()
+            self.assertEqual((min(source), max(sink), set(source) & set(sink)), (0, n - 1, set()))
+            for side in (set(source), set(range(n)) - set(sink)):
+                cut = sum(c for u, v, c in zip(*ends, caps) if u in side and v not in side)
+                self.assertEqual(problem.optimal_flow(), cut)
+            excess = [0] * n
+            for u, v, c, f in zip(*ends, caps, problem.flows(arcs)):
+                self.assertTrue(0 <= f <= c)
+                excess[u] -= f
+                excess[v] += f
+            value = problem.optimal_flow()
+            self.assertEqual(excess, [-value] + [0] * (n - 2) + [value])
+        problem = mcf.SimpleMaxFlow()
+        self.assertEqual((problem.solve(0, 3), problem.optimal_flow()), (problem.OPTIMAL, 0))
+        arc = problem.add_arc_with_capacity(0, 1, 2**63 - 1)
+        self.assertEqual(problem.solve(0, 1), problem.POSSIBLE_OVERFLOW)
+        self.assertRaises(RuntimeError, problem.flow, arc)
+        problem.set_arc_capacity(arc, 7)
+        self.assertEqual((problem.solve(0, 1), problem.flow(arc)), (problem.OPTIMAL, 7))
+        self.assertEqual((problem.num_nodes(), problem.num_arcs()), (2, 1))
+        self.assertEqual((problem.tail(0), problem.head(0), problem.capacity(0)), (0, 1, 7))
+        for ends in ((0, 0), (-1, 0), (0, 10**6)):
+            self.assertEqual(problem.solve(*ends), problem.BAD_INPUT)
+        problem.set_arcs_capacity([arc], [-1])
+        self.assertEqual(problem.solve(0, 1), problem.BAD_INPUT)
+
+    def test_simple_assignments(self):
+        chance = random.Random(9)
+        for _ in range(100):
+            n = chance.randrange(1, 6)
+            costs = [[chance.randrange(-9, 10) for _ in range(n)] for _ in range(n)]
+            problem = mcf.SimpleLinearSumAssignment()
+            ends = [[i for i in range(n) for _ in range(n)], list(range(n)) * n]
+            problem.add_arcs_with_cost(*ends, [c for row in costs for c in row])
+            self.assertEqual(problem.solve(), problem.OPTIMAL)
+            rows, columns = mcf.linear_sum_assignment(costs)
+            least = sum(costs[i][j] for i, j in zip(rows, columns))
+            self.assertEqual(problem.optimal_cost(), least)
+            mates = [problem.right_mate(i) for i in range(n)]
+            self.assertEqual(sorted(mates), list(range(n)))
+            left, right = problem.prices()
+            for i in range(n):
+                self.assertEqual(problem.assignment_cost(i), costs[i][mates[i]])
+                self.assertEqual(left[i] + right[mates[i]], costs[i][mates[i]])
+                self.assertTrue(all(left[i] + right[j] <= costs[i][j] for j in range(n)))
+        problem = mcf.SimpleLinearSumAssignment()
+        self.assertEqual((problem.solve(), problem.optimal_cost()), (problem.OPTIMAL, 0))
+        problem.add_arc_with_cost(1, 0, 3)
+        self.assertEqual((problem.num_nodes(), problem.num_arcs()), (2, 1))
+        self.assertEqual((problem.left_node(0), problem.right_node(0), problem.cost(0)), (1, 0, 3))
+        self.assertEqual(problem.solve(), problem.INFEASIBLE)
+        self.assertRaises(RuntimeError, problem.right_mate, 0)
+        problem.add_arc_with_cost(0, 1, 10**16)
+        self.assertEqual(problem.solve(), problem.POSSIBLE_OVERFLOW)
+        self.assertEqual((problem.error.arc, problem.error.value), (1, 10**16))
+
     def test_texts(self):
         self.assertEqual(mcf.solve_text(b"p min 2 1\n"), ("refusal", b"r 2 missing\n"))
         v = mcf.check_text(b"p min 2 1\na 1 2 0 1 1\n", b"s 1\nf 1 2 0\ny 1 0\ny 2 0\n")
@@ -790,7 +897,7 @@ class WithNetworkx(unittest.TestCase):
             shutil.copy(os.path.join(top, "packaging/python/entry_points.txt"), about)
             path = os.pathsep.join((folder, os.path.join(top, "python")))
             said = subprocess.run(
-                [sys.executable, "-c", script],
+                [sys.executable, "-W", "ignore", "-c", script],
                 env=dict(os.environ, PYTHONPATH=path),
                 stdout=subprocess.PIPE,
                 check=True,
