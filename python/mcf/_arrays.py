@@ -201,7 +201,7 @@ def solve_arrays(
     Whole numbers are read without Python objects for them: by one strided copy of each column into
     the library's rows. That holds for numpy arrays of integers, or of floats that are whole and
     below 2^53, and for arrays of the module array. Other numbers, and capacities that are infinite
-    or None, are read as by `solve`.
+    or None, are read as by `solve`. A pandas Series counts by place, whatever its labels are.
 
     Parameters
     ----------

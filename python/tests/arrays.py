@@ -7,6 +7,7 @@ import os
 import pickle
 import random
 import sys
+import threading
 import unittest
 from array import array
 from decimal import Decimal
@@ -162,6 +163,29 @@ class ByColumns(unittest.TestCase):
         if numpy:
             square = numpy.zeros((2, 2), dtype="i8")
             self.assertRaises(ValueError, mcf.solve_arrays, square, [], [], [], [])
+
+    def test_columns_that_another_thread_changes(self):
+        for kind in (list, lambda values: array("q", values), numpy and numpy.array):
+            if kind is None:
+                continue
+            n, m, is_over = 50, 2000, threading.Event()
+            ends = [[k % n for k in range(m)], [(3 * k + 1) % n for k in range(m)]]
+            columns = [kind(c) for c in ([0] * n, *ends, [5] * m, [1] * m)]
+
+            def change(columns=columns, is_over=is_over):
+                chance = random.Random(2)
+                while not is_over.is_set():
+                    column = chance.choice(columns)
+                    column[chance.randrange(len(column))] = chance.choice((0, -7, 10**9, 2**62))
+
+            thread = threading.Thread(target=change)
+            thread.start()
+            try:
+                for _ in range(60):
+                    outcome(mcf.solve_arrays, *columns)
+            finally:
+                is_over.set()
+                thread.join()
 
     def test_engines(self):
         for engine in ("auto", "cancel", "simplex", "scaling", "sap", "fast"):
