@@ -12,7 +12,7 @@ With --all it proves every crate with its tests, runs the tests, and runs each p
 compilers build it; the tests go into out/ of their crates. It does so even if no source has
 changed.
 
-Usage: scripts/build.py [PROGRAM ..]      mcfcheck and mcf, if none is named
+Usage: scripts/build.py [CRATE ..]        programs or libraries; mcfcheck and mcf, if none is named
        scripts/build.py --all
 """
 import hashlib
@@ -243,8 +243,9 @@ def build(names, is_whole):
     below, progress = crates(), Progress()
     stamps = {name: stamp(closure(below, [name])) for name in closure(below, names)}
     if not is_whole and all(is_built(name, now) for name, now in stamps.items()):
-        progress.show(f"running {', '.join(names)}")
-        if renew(names):
+        programs = [name for name in names if is_program(name)]
+        progress.show(f"running {', '.join(programs)}")
+        if renew(programs):
             progress.end()
             return True
     for name in stamps:
@@ -274,9 +275,9 @@ def build(names, is_whole):
 def main():
     is_whole = sys.argv[1:] == ["--all"]
     names = [*crates()] if is_whole else sys.argv[1:] or [*WORDS]
-    lacking = [name for name in names if not is_program(name)]
-    if lacking and not is_whole:
-        sys.exit(f"build.py: {lacking[0]} is no program of crates/")
+    lacking = [name for name in names if name not in crates()]
+    if lacking:
+        sys.exit(f"build.py: {lacking[0]} is no crate of crates.txt")
     for number in (signal.SIGHUP, signal.SIGINT, signal.SIGTERM):
         if signal.getsignal(number) != signal.SIG_IGN:
             signal.signal(number, lambda number, _: sys.exit(128 + number))

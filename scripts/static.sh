@@ -7,10 +7,10 @@
 set -euo pipefail
 cd "$(dirname "$0")/.."
 kit=$(dirname "$(rt doc)") toolchain=$1 library=$2
-scripts/build.py
+read -ra crates < <(sed -n 's/^mcf_c staticlib: //p' crates.txt)
+scripts/build.py mcfcheck mcf "${crates[@]}"
 
 libraries=(-L dependency=out/rlib)
-read -ra crates < <(sed -n 's/^mcf_c staticlib: //p' crates.txt)
 for crate in "${crates[@]}"; do
     libraries+=(--extern "$crate=out/rlib/$crate.rlib")
 done
