@@ -33,10 +33,9 @@ test: kit
 	@scripts/documents.py check
 	@grep -qF "with Rattle, $$(rt version | sed 's/.* logic /logic /')\\n" crates/mcf_suite/src/version.rt || { echo "make test: crates/mcf_suite/src/version.rt names another logic than: $$(rt version)" >&2; exit 1; }
 	@scripts/build.py --all
-	@scripts/examples.sh
-	@python3 scripts/refuse_memory.py --built --only six_rows --minutes 15 $(WITH_TESTS)
-	@$(MAKE) --no-print-directory tools-test
-	@scripts/page_test.sh
+	@scripts/side_by_side.py scripts/examples.sh scripts/tools_test.sh scripts/page_test.sh \
+		'python3 scripts/refuse_memory.py --built --only six_rows --minutes 15 $(WITH_TESTS)'
+	@timeout 120 scripts/install_test.sh
 
 # Uses the libraries that make or make test built, and tries only what changed since the last time.
 edits: kit
