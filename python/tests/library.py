@@ -6,6 +6,7 @@ import importlib
 import itertools
 import multiprocessing
 import os
+import pathlib
 import pickle
 import random
 import shutil
@@ -21,7 +22,8 @@ from decimal import Decimal
 from fractions import Fraction
 from unittest import mock
 
-sys.path.insert(0, os.path.dirname(os.path.dirname(os.path.abspath(__file__))))
+TOP = pathlib.Path(__file__).resolve().parents[2]
+sys.path.insert(0, str(TOP / "python"))
 import mcf
 import mcf._library
 import mcf._limits
@@ -294,7 +296,7 @@ class Solving(unittest.TestCase):
                 mcf.linear_sum_assignment(wrong)
         with self.assertRaisesRegex(ValueError, "infeasible"):
             mcf.linear_sum_assignment(numpy.array([[inf, 1.0], [inf, 2.0]]))
-        with self.assertRaises(mcf.NotAccepted):
+        with self.assertRaises(mcf.Refused):
             mcf.linear_sum_assignment(numpy.array([[5e-324, 1.0], [1.0, 5e-324]]))
 
     @unittest.skipUnless(_installed("numpy"), "numpy isn't installed")
@@ -910,6 +912,24 @@ class WithNetworkx(unittest.TestCase):
                 [b"refused", b"True True", b"0.75", b"True", b"True", b"7"],
             ),
         )
+
+
+class Examples(unittest.TestCase):
+    """The scripts of examples/matrices/, beside the outputs that are stored there."""
+
+    def test_examples(self):
+        scripts = sorted((TOP / "examples" / "matrices").glob("*.py"))
+        self.assertTrue(scripts)
+        for script in scripts:
+            with self.subTest(script=script.name):
+                done = subprocess.run(
+                    [sys.executable, str(script)],
+                    env={**os.environ, "PYTHONPATH": str(TOP / "python")},
+                    capture_output=True,
+                    text=True,
+                )
+                self.assertEqual(done.stderr, "")
+                self.assertEqual(done.stdout, script.with_suffix(".txt").read_text())
 
 
 if __name__ == "__main__":
