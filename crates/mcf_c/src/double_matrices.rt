@@ -1,4 +1,4 @@
-//! Least assignments of matrices of doubles in arrays, and their judge.
+//! Least assignments of cost matrices of doubles in arrays, and the judge of such assignments.
 ghost use Rattle.std.specs.Prelude.{◌≡◌, ◌≢◌, ◌≤◌, ◌⊎◌, ◌↔◌, ◌+◌, ℕ, List, length, true, false};
 ghost use Rattle.mcf_c.specs.DoubleMatrices.{HandsWideCover, double_costs_of, doubles_of, wide_values};
 ghost use Rattle.mcf_matrix.specs.Covers.{IsShortCover};
@@ -15,8 +15,8 @@ use mcf_double_solver::{Cover, DoubleAssigned, DoubleAssignment, DoubleMatrix, a
 use mcf_matrix_doubles::{DoublePrices, judge_assignment};
 use std::alloc::Global;
 
-/// A matrix of doubles in an array, by their bits: those of row i and column j stand at
-/// i * stride + j, both from 0; +infinity forbids the pair.
+/// A cost matrix of doubles in an array, by their bits: those of row i and column j are at place
+/// i * stride + j, where rows and columns count from 0. +infinity forbids the pair.
 #[repr(C)]
 #[derive(Clone, Copy)]
 pub struct McfDoubles<'a> {
@@ -26,7 +26,7 @@ pub struct McfDoubles<'a> {
     pub stride: usize,
 }
 
-// Whether arrays for the rows and for the columns have these lengths.
+// Returns whether the arrays have an entry for each row, and for each column.
 fn are_lines(matrix: &McfDoubles<'_>, columns_of: usize, rows: usize, columns: usize) -> bool
     ensures yes { result ≡ true → (columns_of ≡ matrix.now.rows) × (rows ≡ matrix.now.rows) × (columns ≡ matrix.now.columns) }
     ensures no { result ≡ false → (columns_of ≢ matrix.now.rows) ⊎ (rows ≢ matrix.now.rows) ⊎ (columns ≢ matrix.now.columns) }
@@ -34,15 +34,16 @@ fn are_lines(matrix: &McfDoubles<'_>, columns_of: usize, rows: usize, columns: u
     columns_of == matrix.rows && rows == matrix.rows && columns == matrix.columns
 }
 
-/// Finds a least assignment of a matrix of doubles, and writes the column of each row, or a number
-/// that is no column's, and prices of rows and columns that show it, in units of 2^unit, of which
-/// each is 2^-1074. It reads doubles exactly.
+/// Finds a least assignment of a cost matrix of doubles, which it reads exactly. Writes the column
+/// of each row, or a number that is no column's for a row without one, and prices of rows and
+/// columns that show the assignment, in units of 2^unit * 2^-1074.
 ///
-/// The status is 0 for an assignment, 1 where there is none, and rows and columns, fewer than
-/// either side has, meet all allowed pairs: the prices then mark these by 1 and all others by 0; 2
-/// where rows overlap or don't end within the costs, or an entry is a NaN or -infinity; 3 where
-/// an allocation is refused, 4 where a room hasn't the length of the rows or columns, and 7 where
-/// nothing was shown. From 2 on all rooms stay, and at 1 the columns and the unit do.
+/// The status is 0 for an assignment. It is 1 if there is none: the prices then mark by 1 rows and
+/// columns that cover all allowed pairs and are fewer than the smaller side has, and by 0 all
+/// others. It is 2 if rows overlap or don't end within the costs, or an entry is a NaN or
+/// -infinity; 3 if an allocation is refused; 4 if a buffer doesn't have an entry for each row or
+/// column; and 7 if the search found nothing that the judge accepts. From 2 on all buffers are
+/// unchanged, and at 1 the columns and the unit are.
 #[unsafe(no_mangle)]
 pub extern "C" fn mcf_assign_doubles(
     alloc: Global,
@@ -86,7 +87,7 @@ pub extern "C" fn mcf_assign_doubles(
     assign_lines(alloc, &matrix, column_of, row_prices, column_prices, unit)
 }
 
-// Finds a least assignment, where the rooms have their lengths.
+// Finds a least assignment, for buffers of the right lengths.
 fn assign_lines(
     alloc: Global,
     matrix: &DoubleMatrix<'_>,
@@ -163,9 +164,9 @@ fn put_cover(
 
 /// Judges an assignment with prices for a matrix of doubles, whoever made them, exactly.
 ///
-/// The status is 0 where the prices show the assignment least, 1 where they don't, a price isn't
-/// less than 2^125 from 0, or an array hasn't the length of the rows or columns, 2 where the matrix
-/// has a fault, and 3 where an allocation is refused.
+/// The status is 0 if the prices show that the assignment is least; 1 if they don't, a price isn't
+/// less than 2^125 from 0, or an array doesn't have an entry for each row or column; 2 if the
+/// matrix has a fault; and 3 if an allocation is refused.
 #[unsafe(no_mangle)]
 pub extern "C" fn mcf_check_doubles(
     alloc: Global,

@@ -1,4 +1,4 @@
-//! Least assignments of cost matrices in arrays, and their judge.
+//! Least assignments of cost matrices in arrays, and the judge of such assignments.
 ghost use Rattle.std.specs.Prelude.{◌≡◌, ◌≢◌, ◌≤◌, ◌⊎◌, ◌↔◌, ◌+◌, ℕ, List, length, true, false};
 ghost use Rattle.mcf_matrix.specs.Covers.{IsShortCover};
 ghost use Rattle.mcf_matrix.specs.Matchings.{IsLeastMatching, IsMatching};
@@ -14,8 +14,8 @@ use mcf_matrix::{Matrix, judge_assignment};
 use mcf_matrix_solver::{Assigned, Assignment, Cover, assign};
 use std::alloc::Global;
 
-/// A cost matrix in an array: the cost of row i and column j stands at i * stride + j, both from 0;
-/// the greatest number of 64 bits forbids the pair.
+/// A cost matrix in an array: the cost of row i and column j is at place i * stride + j, where rows
+/// and columns count from 0. The greatest number of 64 bits forbids the pair.
 #[repr(C)]
 #[derive(Clone, Copy)]
 pub struct McfMatrix<'a> {
@@ -25,7 +25,7 @@ pub struct McfMatrix<'a> {
     pub stride: usize,
 }
 
-// Whether arrays for the rows and for the columns have these lengths.
+// Returns whether the arrays have an entry for each row, and for each column.
 fn are_lines(
     matrix: &McfMatrix<'_>,
     column_of: &[u32],
@@ -40,14 +40,15 @@ fn are_lines(
         && column_prices.len() == matrix.columns
 }
 
-/// Finds a least assignment of a cost matrix, and writes the column of each row, or a number that
-/// is no column's, and prices of rows and columns that show it.
+/// Finds a least assignment of a cost matrix. Writes the column of each row, or a number that is no
+/// column's for a row without one, and prices of rows and columns that show the assignment.
 ///
-/// The status is 0 for an assignment, 1 where there is none, and rows and columns, fewer than
-/// either side has, meet all allowed pairs: the prices then mark these by 1 and all others by 0; 2
-/// where rows overlap or don't end within the costs, or a cost is more than 10^15 from 0; 3 where
-/// memory is wanting, 4 where a room hasn't the length of the rows or columns, and 7 where nothing
-/// was shown. From 2 on all rooms stay, and at 1 the columns do.
+/// The status is 0 for an assignment. It is 1 if there is none: the prices then mark by 1 rows and
+/// columns that cover all allowed pairs and are fewer than the smaller side has, and by 0 all
+/// others. It is 2 if rows overlap or don't end within the costs, or a cost is more than 10^15 from
+/// 0; 3 if an allocation is refused; 4 if a buffer doesn't have an entry for each row or column;
+/// and 7 if the search found nothing that the judge accepts. From 2 on all buffers are unchanged,
+/// and at 1 the columns are.
 #[unsafe(no_mangle)]
 pub extern "C" fn mcf_assign_matrix(
     alloc: Global,
@@ -84,7 +85,7 @@ pub extern "C" fn mcf_assign_matrix(
     assign_lines(alloc, &matrix, column_of, row_prices, column_prices)
 }
 
-// Finds a least assignment, where the rooms have their lengths.
+// Finds a least assignment, for buffers of the right lengths.
 fn assign_lines(
     alloc: Global,
     matrix: &Matrix<'_>,
@@ -153,9 +154,9 @@ fn put_cover(matrix: &Matrix<'_>, cover: &Cover, row_marks: &mut [i64], column_m
 
 /// Judges an assignment with prices for a cost matrix, whoever made them.
 ///
-/// The status is 0 where the prices show the assignment least, 1 where they don't or an array
-/// hasn't the length of the rows or columns, 2 where the matrix has a fault, and 3 where memory is
-/// wanting.
+/// The status is 0 if the prices show that the assignment is least, 1 if they don't or an array
+/// doesn't have an entry for each row or column, 2 if the matrix has a fault, and 3 if an
+/// allocation is refused.
 #[unsafe(no_mangle)]
 pub extern "C" fn mcf_check_matrix(
     alloc: Global,

@@ -1,4 +1,4 @@
-//! Least transport plans of cost matrices in arrays, and their judge.
+//! Least transport plans of cost matrices in arrays, and the judge of such plans.
 ghost use Rattle.std.specs.Prelude.{◌≡◌, ◌≤◌, ◌+◌, ◌⊎◌, ◌↔◌, IsTrue, List, drop, length, map, take};
 ghost use Rattle.mcf_matrix.specs.declared.shipment.Shipment.{Shipment};
 ghost use Rattle.mcf_matrix.specs.Plans.{IsLeastPlan, IsPlan, IsShownPlan};
@@ -36,8 +36,8 @@ pub struct McfPlanned {
     pub side: u32,
 }
 
-// Whether there are one supply and one price for each row, one demand and one price for each
-// column, and room for one entry less than rows and columns.
+// Returns whether there are a supply and a price for each row, a demand and a price for each
+// column, and room for one entry less than there are rows and columns together.
 fn has_rooms(
     problem: &McfTransport<'_>,
     plan: &[Shipment],

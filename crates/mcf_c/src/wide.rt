@@ -15,7 +15,7 @@ pub struct McfWide {
     pub high: i64,
 }
 
-// The words of a number.
+// Returns the words of a number.
 fn wide_of(n: i128) -> McfWide
     ensures { wide_value result ≡ n }
 {
@@ -33,14 +33,14 @@ fn wide_of(n: i128) -> McfWide
     }
 }
 
-// The number of two words.
+// Returns the number of two words.
 fn number_of(wide: McfWide) -> i128
     ensures { result ≡ wide_value wide }
 {
     i128::from(wide.low) + i128::from(wide.high) * 0x1_0000_0000_0000_0000
 }
 
-// The mark of a place, by whether it is in a set.
+// Returns 1 for a place in a set, and 0 for another.
 fn wide_mark(is_in: bool) -> McfWide
     ensures { wide_value result ≡ mark_of is_in }
 {
@@ -50,7 +50,7 @@ fn wide_mark(is_in: bool) -> McfWide
     }
 }
 
-/// Writes numbers into a room for them.
+/// Writes numbers into a buffer for them.
 pub(crate) fn put_wide(numbers: &[i128], room: &mut [McfWide])
     requires { length room.old ≡ length numbers.now }
     ensures { wide_values room.new ≡ numbers.now }
@@ -60,7 +60,7 @@ pub(crate) fn put_wide(numbers: &[i128], room: &mut [McfWide])
     }
 }
 
-/// Writes the marks of places into a room for them.
+/// Writes 1 for each place in a set and 0 for all others into a buffer.
 pub(crate) fn put_wide_marks(table: &[bool], room: &mut [McfWide])
     requires { length room.old ≡ length table.now }
     ensures { wide_values room.new ≡ map mark_of table.now }
@@ -70,7 +70,7 @@ pub(crate) fn put_wide_marks(table: &[bool], room: &mut [McfWide])
     }
 }
 
-/// The numbers of a list of two words each.
+/// Returns the numbers of a list of two words each.
 pub(crate) fn numbers_of(alloc: Global, wides: &[McfWide]) -> Result<Vec<i128>, NoMemory>
     ensures value { IfOk result (λ made. made.items ≡ wide_values wides.now) }
     ensures wants { OnErr result (1 ≤ length wides.now) }
