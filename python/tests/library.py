@@ -34,6 +34,34 @@ import mcf.simple
 import mcf.transportation
 
 
+# Calls of networkx with mcf as a backend; what mcf refuses, networkx answers.
+FALLING_BACK = """
+import networkx as nx
+import sys
+if not hasattr(getattr(nx, "config", None), "backends"):
+    print("no backends")
+    sys.exit()
+G = nx.DiGraph()
+G.add_node("a", demand=-3)
+G.add_node("b", demand=3)
+G.add_edge("a", "b", weight=1 / 3, capacity=sys.maxsize)
+own = nx.network_simplex(G)
+try:
+    nx.network_simplex(G, backend="mcf")
+except NotImplementedError:
+    print("refused")
+nx.config.backend_priority = ["mcf"]
+print(nx.network_simplex(G) == own, nx.min_cost_flow_cost(G) == own[0])
+G.add_edge("a", "b", weight=0.25)
+print(nx.network_simplex(G, backend="mcf")[0])
+flow = nx.maximum_flow(G, "a", "b", flow_func=nx.algorithms.flow.dinitz)
+print(flow[0] == sys.maxsize)
+print(nx.minimum_cut_value(G, "a", "b") == sys.maxsize)
+G.add_edge("a", "b", capacity=7)
+print(nx.minimum_cut_value(G, "a", "b", backend="mcf"))
+"""
+
+
 def load_tests(loader, tests, pattern):
     """Adds the examples of the docstrings, and the tests of transport problems."""
     tests.addTests(loader.loadTestsFromName("transports"))
@@ -867,31 +895,6 @@ class WithNetworkx(unittest.TestCase):
         self.assertRaises(nx.NetworkXNotImplemented, mcf.nx.network_simplex, G.to_undirected())
 
     def test_backend_falls_back(self):
-        script = """if True:
-            import networkx as nx
-            import sys
-            if not hasattr(getattr(nx, "config", None), "backends"):
-                print("no backends")
-                sys.exit()
-            G = nx.DiGraph()
-            G.add_node("a", demand=-3)
-            G.add_node("b", demand=3)
-            G.add_edge("a", "b", weight=1 / 3, capacity=sys.maxsize)
-            own = nx.network_simplex(G)
-            try:
-                nx.network_simplex(G, backend="mcf")
-            except NotImplementedError:
-                print("refused")
-            nx.config.backend_priority = ["mcf"]
-            print(nx.network_simplex(G) == own, nx.min_cost_flow_cost(G) == own[0])
-            G.add_edge("a", "b", weight=0.25)
-            print(nx.network_simplex(G, backend="mcf")[0])
-            flow = nx.maximum_flow(G, "a", "b", flow_func=nx.algorithms.flow.dinitz)
-            print(flow[0] == sys.maxsize)
-            print(nx.minimum_cut_value(G, "a", "b") == sys.maxsize)
-            G.add_edge("a", "b", capacity=7)
-            print(nx.minimum_cut_value(G, "a", "b", backend="mcf"))
-            """
         top = os.path.dirname(os.path.dirname(os.path.dirname(os.path.abspath(__file__))))
         with tempfile.TemporaryDirectory() as folder:
             about = os.path.join(folder, "yokdelm-0.dist-info")
@@ -899,7 +902,7 @@ class WithNetworkx(unittest.TestCase):
             shutil.copy(os.path.join(top, "packaging/python/entry_points.txt"), about)
             path = os.pathsep.join((folder, os.path.join(top, "python")))
             said = subprocess.run(
-                [sys.executable, "-W", "ignore", "-c", script],
+                [sys.executable, "-W", "ignore", "-c", FALLING_BACK],
                 env=dict(os.environ, PYTHONPATH=path),
                 stdout=subprocess.PIPE,
                 check=True,
