@@ -8,21 +8,43 @@ const WHOLE_BITS: u32 = 49;
 // The greatest span of bits for which the refinement's sums of prices fit 128 bits.
 const EXACT_BITS: u32 = 118;
 
-/// The exponents of 2 from the lowest set bit of the finite entries to above the highest.
+// All bits of a double but its sign: as numbers, sizes are in the order of their values.
+const SIZE_BITS: u64 = (1 << 63) - 1;
+
+/// The exponents of 2 from a bit below which no finite entry has one to above the highest.
 #[derive(Clone, Copy)]
 pub(crate) struct Window {
     pub(crate) low: u32,
     pub(crate) top: u32,
 }
 
+// The least size of the finite entries other than 0, less 1, and the greatest size.
+#[derive(Clone, Copy)]
+struct Sizes {
+    least_less_one: u64,
+    greatest: u64,
+}
+
 impl Window {
-    /// Returns the window of a matrix.
+    /// Returns a window of a matrix. Its low end is the lowest set bit of all entries if these may
+    /// be whole costs without rounding, or if it has to be; finding it takes longer than finding
+    /// the last place of the least entry, which is the low end otherwise.
     pub(crate) fn of(matrix: &DoubleMatrix<'_>) -> Window {
+        let window = Sizes::of(matrix).window();
+        let first_row = Window::exact(matrix, matrix.rows().min(1));
+        if first_row.is_whole() || !window.is_narrow() {
+            return Window::exact(matrix, matrix.rows());
+        }
+        window
+    }
+
+    // Returns the window of so many rows, from the lowest set bit on.
+    fn exact(matrix: &DoubleMatrix<'_>, rows: usize) -> Window {
         let mut window = Window {
             low: u32::MAX,
             top: 0,
         };
-        'rows: for row in 0..matrix.rows() {
+        'rows: for row in 0..rows.min(matrix.rows()) {
             window.widen(matrix.row(row));
         }
         window.low = window.low.min(window.top);
@@ -66,5 +88,44 @@ impl Window {
     /// Returns whether the refinement's sums of prices fit 128 bits.
     pub(crate) fn is_narrow(self) -> bool {
         self.top.wrapping_sub(self.low) <= EXACT_BITS
+    }
+}
+
+impl Sizes {
+    // Returns the sizes of a matrix.
+    fn of(matrix: &DoubleMatrix<'_>) -> Sizes {
+        let mut sizes = Sizes {
+            least_less_one: u64::MAX,
+            greatest: 0,
+        };
+        'rows: for row in 0..matrix.rows() {
+            sizes.widen(matrix.row(row));
+        }
+        sizes
+    }
+
+    // Takes the entries of a row into account. An infinite entry is above all finite sizes, and an
+    // entry of 0, less 1, is above all of them.
+    fn widen(&mut self, row: &[u64]) {
+        let mut least = self.least_less_one;
+        let mut greatest = self.greatest;
+        'columns: for column in 0..row.len() {
+            let size = row[column] & SIZE_BITS;
+            least = least.min(size.wrapping_sub(1));
+            greatest = greatest.max(if size < INFINITY { size } else { 0 });
+        }
+        self.least_less_one = least;
+        self.greatest = greatest;
+    }
+
+    // Returns the window from the last place of the least size to above the greatest.
+    fn window(self) -> Window {
+        if self.greatest == 0 {
+            return Window { low: 0, top: 0 };
+        }
+        Window {
+            low: Scaled::of(self.least_less_one.wrapping_add(1) & SIZE_BITS).shift,
+            top: Scaled::of(self.greatest).shift.wrapping_add(53),
+        }
     }
 }
