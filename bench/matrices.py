@@ -210,7 +210,8 @@ def frames(words):
 
 
 def transport(words):
-    """Transport between points of the plane, by masses that are equal or random."""
+    """Transport between points of the plane, by masses that are equal or random. Costs are rounded
+    to multiples of 2^-40, and random masses are whole, since `mcf.emd` is exact."""
     try:
         import ot
     except ImportError:
@@ -220,11 +221,12 @@ def transport(words):
     def cells(power, masses):
         for size in POINTS:
             chance = np.random.default_rng(words.seed + size)
-            costs = distances(chance, size, size, power)
+            costs = np.rint(distances(chance, size, size, power) * 2**40) / 2**40
+            shares = np.full(size, 1 / size)
             a, b = (
-                (np.full(size, 1 / size),) * 2
+                (shares, shares)
                 if masses == "equal"
-                else (m / m.sum() for m in chance.random((2, size)))
+                else chance.multinomial(10**6, shares, size=2).astype(float)
             )
             times = least(lambda: mcf.emd(a, b, costs), lambda: ot.emd(a, b, costs))
             yield cell(*times, 1.2 if size < 100 else GOALS["transport"])

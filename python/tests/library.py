@@ -33,7 +33,6 @@ import mcf.assignment
 import mcf.simple
 import mcf.transportation
 
-
 # Calls of networkx with mcf as a backend; what mcf refuses, networkx answers.
 FALLING_BACK = """
 import networkx as nx
