@@ -1,4 +1,4 @@
--- What comes of a run that is watched.
+-- The outcomes of a watched run.
 use Rattle.std.specs.Prelude.{◌≤◌, false}
 use Rattle.mcf_engine.specs.Outcomes.{IsOutcome}
 use Rattle.mcf_fast.specs.Made.{IsMadeOrFound, IsRunUnderWay}
