@@ -1,11 +1,10 @@
 -- The pass over the rows of a matching, a row at a time.
-use Rattle.std.proofs.Common.{◌≡◌, ℕ, ◌+◌, ◌<◌, ◌≤◌, Bool, true, false, List, length, get_or, set, IsSomeAnd, IfSome, IsSome, Option, Some, None, inl, inr, ap, sym, ◌∙◌, subst, arith, ℤ, pos, refl}
+use Rattle.std.proofs.Common.{◌≡◌, ℕ, ◌+◌, ◌<◌, ◌≤◌, Bool, true, false, List, length, get_or, set, IsSomeAnd, IfSome, IsSome, Option, Some, None, inl, inr, ap, sym, ◌∙◌, subst, arith, ℤ, refl}
 use Rattle.std.proofs.lemmas.Bool.{cases_eq}
 use Rattle.std.proofs.lemmas.List.{get_or-set_other, get_or-set_same}
 use Rattle.mcf_matrix.specs.Costs.{Costs}
 use Rattle.mcf_matrix.specs.Judging.{IsGoodPair}
 use Rattle.mcf_matrix.specs.Matchings.{IsPair}
-use Rattle.mcf_matrix.specs.MatrixPrices.{reduced_cost}
 use Rattle.mcf_matrix.specs.PlaceSums.{is_marked}
 use Rattle.mcf_matrix.specs.Private.Pairing.{AreGoodPairs, ArePairedSoFar}
 

@@ -1,6 +1,6 @@
 -- What a judge asks of a matrix with its prices, place by place.
 -- Source: own
-use Rattle.std.specs.Prelude.{◌≡◌, ℕ, ◌<◌, IfSome, Bool, false, IsTrue, List, ℤ, pos, ◌≤ℤ◌}
+use Rattle.std.specs.Prelude.{◌≡◌, ℕ, ◌<◌, IfSome, Bool, false, List, ℤ, pos, ◌≤ℤ◌}
 use Rattle.mcf_matrix.specs.Costs.{Costs, IsAllowed}
 use Rattle.mcf_matrix.specs.MatrixPrices.{reduced_cost}
 use Rattle.mcf_matrix.specs.PlaceSums.{is_marked}
@@ -19,6 +19,6 @@ pub record HasLengths (rows columns entries row_prices column_prices : ℕ) : Ty
   pub row_prices_are : row_prices ≡ rows
   pub column_prices_are : column_prices ≡ columns
 
--- the column of each allowed pair of row i is marked
-abbrev pub IsRowCovered : Costs → ℕ → List Bool → Type 0
-IsRowCovered m i columns = (j : ℕ) → j < m.columns → IsAllowed m i j → IsTrue (is_marked columns j)
+-- the column of each allowed pair of row i has this mark
+abbrev pub IsRowCovered : Costs → ℕ → List Bool → Bool → Type 0
+IsRowCovered m i columns mark = (j : ℕ) → j < m.columns → IsAllowed m i j → is_marked columns j ≡ mark

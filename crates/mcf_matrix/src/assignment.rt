@@ -1,63 +1,15 @@
 //! The judge of assignments of whole costs.
-ghost use Rattle.std.specs.Prelude.{◌≡◌, ◌≤◌, ◌↔◌, ◌≤ℤ◌, ◌-ℤ◌, pos, false, IfOk, IsSomeAnd, IsTrue, OnErr, length};
-ghost use Rattle.mcf_matrix.specs.Judging.{HasLengths, IsPricedPlace};
+ghost use Rattle.std.specs.Prelude.{◌≡◌, ◌≤◌, ◌↔◌, IfOk, IsTrue, OnErr, length};
+ghost use Rattle.mcf_matrix.specs.Judging.{HasLengths};
 ghost use Rattle.mcf_matrix.specs.Matchings.{IsLeastMatching, matching_cost};
 ghost use Rattle.mcf_matrix.specs.MatrixPrices.{IsShownMatching, price_total};
 ghost use Rattle.mcf_matrix.specs.Tables.{whole_costs};
 
 use crate::matrix::Matrix;
-use crate::prices::{is_tight, none_below};
-use crate::showing::{Priced, shows};
+use crate::showing::shows;
+use crate::whole_prices::WholePrices;
 use mcf_text::NoMemory;
 use std::alloc::Global;
-
-/// A matrix of whole costs with whole prices.
-#[derive(Drop)]
-struct WholePrices<'a> {
-    matrix: &'a Matrix<'a>,
-    row_prices: &'a [i64],
-    column_prices: &'a [i64],
-}
-
-impl<'a> Priced for WholePrices<'a> {
-    ghost costs = { λ p. whole_costs p.matrix.now };
-
-    ghost row_prices = { λ p. p.row_prices.now };
-
-    ghost column_prices = { λ p. p.column_prices.now };
-
-    ghost IsReady = { λ p. (length p.row_prices.now ≡ p.matrix.now.rows) × (length p.column_prices.now ≡ p.matrix.now.columns) };
-
-    #[inline(always)]
-    fn row_count(&self) -> usize {
-        self.matrix.rows()
-    }
-
-    #[inline(always)]
-    fn column_count(&self) -> usize {
-        self.matrix.columns()
-    }
-
-    #[inline(always)]
-    fn is_good_pair(&self, row: usize, column: usize) -> bool {
-        let cost = self.matrix.cost(row, column);
-        is_good_pair(cost, self.row_prices[row], self.column_prices[column])
-    }
-
-    #[inline(always)]
-    fn is_row_priced(&self, row: usize, is_matched: bool) -> bool {
-        is_priced(self.row_prices[row], is_matched)
-    }
-
-    #[inline(always)]
-    fn is_column_priced(&self, column: usize, is_matched: bool) -> bool {
-        is_priced(self.column_prices[column], is_matched)
-    }
-
-    fn has_none_below(&self) -> bool {
-        none_below(self.matrix, self.row_prices, self.column_prices)
-    }
-}
 
 /// Whether the prices show that the matching is least: the exact test of a matching with its prices
 /// (Kuhn 1955; Munkres 1957; Ahuja, Magnanti and Orlin, Network Flows, section 12.4).
@@ -101,21 +53,4 @@ fn has_lengths(matrix: &Matrix, rows: usize, row_prices: usize, column_prices: u
     ensures { IsTrue result ↔ HasLengths matrix.now.rows matrix.now.columns rows row_prices column_prices }
 {
     rows == matrix.rows() && row_prices == matrix.rows() && column_prices == matrix.columns()
-}
-
-// Whether the pair is allowed, and its reduced cost is 0.
-fn is_good_pair(cost: Option<i64>, row_price: i64, column_price: i64) -> bool
-    ensures { IsTrue result ↔ IsSomeAnd cost (λ c. c -ℤ row_price -ℤ column_price ≡ pos 0) }
-{
-    match cost {
-        Some(cost) => is_tight(cost, row_price, column_price),
-        None => false,
-    }
-}
-
-// Whether the price isn't above 0, and is 0 where the place is free.
-fn is_priced(price: i64, is_matched: bool) -> bool
-    ensures { IsTrue result ↔ IsPricedPlace price is_matched }
-{
-    price <= 0 && (is_matched || price == 0)
 }

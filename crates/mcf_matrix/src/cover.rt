@@ -11,7 +11,7 @@ ghost use Rattle.mcf_matrix.specs.Tables.{cost_of, whole_costs};
 
 use crate::matrix::{FORBIDDEN, Matrix};
 
-/// A matrix some of whose pairs are forbidden, as the judge of covers reads it.
+/// A matrix some of whose pairs are forbidden, as the judges of covers and cuts read it.
 pub trait Allows {
     // What each pair costs.
     ghost costs: { Self → Costs };
@@ -24,11 +24,11 @@ pub trait Allows {
     fn column_count(&self) -> usize
         ensures { result ≡ (costs self.now).columns };
 
-    /// Whether the column of each allowed pair of a row is marked.
-    fn is_row_covered(&self, row: usize, columns: &[bool]) -> bool
+    /// Whether the column of each allowed pair of a row has this mark.
+    fn is_row_covered(&self, row: usize, columns: &[bool], mark: bool) -> bool
         requires row { row < (costs self.now).rows }
         requires columns { length columns.now ≡ (costs self.now).columns }
-        ensures { IsTrue result ↔ IsRowCovered (costs self.now) row columns.now };
+        ensures { IsTrue result ↔ IsRowCovered (costs self.now) row columns.now mark };
 }
 
 impl<'a> Allows for Matrix<'a> {
@@ -44,8 +44,8 @@ impl<'a> Allows for Matrix<'a> {
         self.columns()
     }
 
-    fn is_row_covered(&self, row: usize, columns: &[bool]) -> bool {
-        row_is_covered(self.row(row), columns)
+    fn is_row_covered(&self, row: usize, columns: &[bool], mark: bool) -> bool {
+        row_is_covered(self.row(row), columns, mark)
     }
 }
 
@@ -97,22 +97,22 @@ fn is_short<M: Allows>(matrix: &M, rows: &[bool], columns: &[bool]) -> bool
     row_marks < smaller && column_marks < smaller - row_marks
 }
 
-// Returns whether an entry forbids its pair, or its column is marked.
+// Returns whether an entry forbids its pair, or its column has the mark that it should have.
 #[inline(always)]
-fn is_met(cost: i64, mark: bool) -> bool
-    ensures { IsTrue result ↔ (IsSome (cost_of cost) → IsTrue mark) }
+fn is_met(cost: i64, own: bool, mark: bool) -> bool
+    ensures { IsTrue result ↔ (IsSome (cost_of cost) → own ≡ mark) }
 {
-    cost == FORBIDDEN || mark
+    cost == FORBIDDEN || own == mark
 }
 
-// Returns whether the column of each allowed pair of a row is marked.
-fn row_is_covered(row: &[i64], columns: &[bool]) -> bool
+// Returns whether the column of each allowed pair of a row has this mark.
+fn row_is_covered(row: &[i64], columns: &[bool], mark: bool) -> bool
     requires { length columns.now ≡ length row.now }
-    ensures { IsTrue result ↔ RowIsCovered row.now columns.now }
+    ensures { IsTrue result ↔ RowIsCovered row.now columns.now mark }
 {
     let mut covered = true;
     for column in 0..row.len() {
-        covered &= is_met(row[column], columns[column]);
+        covered &= is_met(row[column], columns[column], mark);
     }
     covered
 }
@@ -124,7 +124,7 @@ fn are_covered<M: Allows>(matrix: &M, rows: &[bool], columns: &[bool]) -> bool
     ensures { IsTrue result ↔ AreCovered (M.costs matrix.now) rows.now columns.now }
 {
     for (row, mark) in rows.iter().enumerate() {
-        if !*mark && !matrix.is_row_covered(row, columns) {
+        if !*mark && !matrix.is_row_covered(row, columns, true) {
             return false;
         }
     }

@@ -1,14 +1,15 @@
 //! The judge of cuts: it tests whether a set of rows and columns excludes every transport plan.
-ghost use Rattle.std.specs.Prelude.{◌≡◌, ◌^◌, ◌+ℤ◌, ◌↔◌, List, IsSome, IsTrue, length};
+ghost use Rattle.std.specs.Prelude.{◌≡◌, ◌<◌, ◌^◌, ◌+ℤ◌, ◌↔◌, List, IsTrue, length};
 ghost use Rattle.mcf_flows.specs.Network.{when};
 ghost use Rattle.mcf_flows.specs.WellFormed.{IsUpTo};
 ghost use Rattle.mcf_matrix.specs.declared.shipment.Shipment.{Shipment};
-ghost use Rattle.mcf_matrix.specs.Cuts.{AreClosed, IsClosedMark, IsTransportCut, IsUneven, mass_in};
+ghost use Rattle.mcf_matrix.specs.Cuts.{AreClosed, IsTransportCut, IsUneven, mass_in};
 ghost use Rattle.mcf_matrix.specs.Plans.{IsPlan};
-ghost use Rattle.mcf_matrix.specs.Private.Narrow.{RowIsClosed};
-ghost use Rattle.mcf_matrix.specs.Tables.{cost_of, whole_costs};
+ghost use Rattle.mcf_matrix.specs.Private.Closing.{IsRowClosed, closing_mark};
+ghost use Rattle.mcf_matrix.specs.Tables.{whole_costs};
 
-use crate::matrix::{FORBIDDEN, Matrix};
+use crate::cover::Allows;
+use crate::matrix::Matrix;
 use crate::shipment::Masses;
 use mcf_flows::Side;
 
@@ -30,18 +31,32 @@ pub fn judge_transport_cut(
     ensures exact { IsTrue result ↔ IsTransportCut (whole_costs matrix.now) masses.now.supplies.now masses.now.demands.now rows.now columns.now side }
     ensures none { IsTrue result → (plan : List Shipment) → ¬ IsPlan (whole_costs matrix.now) masses.now.supplies.now masses.now.demands.now plan }
 {
+    excludes_plans(matrix, masses, rows, columns, side)
+}
+
+/// The same of whatever the costs are stored in.
+pub fn excludes_plans<M: Allows>(
+    matrix: &M,
+    masses: &Masses,
+    rows: &[bool],
+    columns: &[bool],
+    side: Side,
+) -> bool
+    ensures exact { IsTrue result ↔ IsTransportCut (M.costs matrix.now) masses.now.supplies.now masses.now.demands.now rows.now columns.now side }
+    ensures none { IsTrue result → (plan : List Shipment) → ¬ IsPlan (M.costs matrix.now) masses.now.supplies.now masses.now.demands.now plan }
+{
     let supplies = masses.supplies;
     let demands = masses.demands;
-    if supplies.len() != matrix.rows() {
+    if supplies.len() != matrix.row_count() {
         return false;
     }
-    if demands.len() != matrix.columns() {
+    if demands.len() != matrix.column_count() {
         return false;
     }
-    if rows.len() != matrix.rows() {
+    if rows.len() != matrix.row_count() {
         return false;
     }
-    if columns.len() != matrix.columns() {
+    if columns.len() != matrix.column_count() {
         return false;
     }
     if !is_uneven(mass_of(supplies, rows), mass_of(demands, columns), side) {
@@ -84,40 +99,37 @@ fn is_uneven(supply: i128, demand: i128, side: Side) -> bool
     }
 }
 
-// Returns whether an entry forbids its pair, or the pair doesn't lead out of the set.
-#[inline(always)]
-fn stays(cost: i64, row_mark: bool, column_mark: bool, side: Side) -> bool
-    ensures { IsTrue result ↔ (IsSome (cost_of cost) → IsClosedMark row_mark column_mark side) }
+// Returns the mark of the rows whose pairs may not lead to columns of the other mark.
+fn mark_of(side: Side) -> bool
+    ensures { result ≡ closing_mark side }
 {
-    if cost == FORBIDDEN {
-        return true;
-    }
     match side {
-        Side::Send => !row_mark || column_mark,
-        Side::Take => row_mark || !column_mark,
+        Side::Send => true,
+        Side::Take => false,
     }
 }
 
 // Returns whether no allowed pair of a row leads out of the set.
-fn row_is_closed(row: &[i64], row_mark: bool, columns: &[bool], side: Side) -> bool
-    requires { length columns.now ≡ length row.now }
-    ensures { IsTrue result ↔ RowIsClosed row.now row_mark columns.now side }
+fn is_row_closed<M: Allows>(matrix: &M, row: usize, own: bool, columns: &[bool], side: Side) -> bool
+    requires row { row < (M.costs matrix.now).rows }
+    requires columns { length columns.now ≡ (M.costs matrix.now).columns }
+    ensures { IsTrue result ↔ IsRowClosed (M.costs matrix.now) row own columns.now side }
 {
-    let mut closed = true;
-    for column in 0..row.len() {
-        closed &= stays(row[column], row_mark, columns[column], side);
+    let mark = mark_of(side);
+    if own != mark {
+        return true;
     }
-    closed
+    matrix.is_row_covered(row, columns, mark)
 }
 
 // Returns whether no allowed pair leads out of the set.
-fn are_closed(matrix: &Matrix, rows: &[bool], columns: &[bool], side: Side) -> bool
-    requires rows { length rows.now ≡ matrix.now.rows }
-    requires columns { length columns.now ≡ matrix.now.columns }
-    ensures { IsTrue result ↔ AreClosed (whole_costs matrix.now) rows.now columns.now side }
+fn are_closed<M: Allows>(matrix: &M, rows: &[bool], columns: &[bool], side: Side) -> bool
+    requires rows { length rows.now ≡ (M.costs matrix.now).rows }
+    requires columns { length columns.now ≡ (M.costs matrix.now).columns }
+    ensures { IsTrue result ↔ AreClosed (M.costs matrix.now) rows.now columns.now side }
 {
-    for (row, mark) in rows.iter().enumerate() {
-        if !row_is_closed(matrix.row(row), *mark, columns, side) {
+    for (row, own) in rows.iter().enumerate() {
+        if !is_row_closed(matrix, row, *own, columns, side) {
             return false;
         }
     }

@@ -16,11 +16,13 @@ mod matrix;
 mod prices;
 mod shipment;
 mod showing;
+mod showing_plans;
 mod transport;
+mod whole_prices;
 
 pub use assignment::judge_assignment;
 pub use cover::{Allows, excludes, judge_cover};
-pub use cut::judge_transport_cut;
+pub use cut::{excludes_plans, judge_transport_cut};
 pub use laws::{
     covered_has_no_matching, cut_has_no_plan, shown_matchings_are_least,
     shown_matchings_cost_the_prices, shown_plans_are_least, shown_plans_cost_the_prices,
@@ -28,4 +30,5 @@ pub use laws::{
 pub use matrix::{FORBIDDEN, Matrix, MatrixFault, is_shaped};
 pub use shipment::{Masses, Shipment};
 pub use showing::{Priced, shows};
+pub use showing_plans::shows_plan;
 pub use transport::judge_transport;

@@ -1,6 +1,6 @@
 //! Whether prices show a matching, for whatever the costs are stored in.
 ghost use Rattle.std.specs.Prelude.{◌≡◌, ◌<◌, ◌≤◌, ◌↔◌, ℕ, ℤ, List, false, IfOk, IsTrue, OnErr, count_by, length, min, nat_lt, slice_index};
-ghost use Rattle.mcf_matrix.specs.Costs.{Costs};
+ghost use Rattle.mcf_matrix.specs.Costs.{Costs, IsAllowed};
 ghost use Rattle.mcf_matrix.specs.Judging.{HasLengths, IsGoodPair, IsPricedPlace};
 ghost use Rattle.mcf_matrix.specs.Matchings.{IsLeastMatching, matching_cost, pair_count};
 ghost use Rattle.mcf_matrix.specs.MatrixPrices.{AreNoneBelow, IsShownMatching, price_total};
@@ -10,7 +10,7 @@ ghost use Rattle.mcf_matrix.specs.Private.Pairing.{AreGoodPairs, IsMarking};
 use mcf_text::{NoMemory, copies};
 use std::alloc::Global;
 
-/// A matrix with prices of its rows and columns, as the judge of assignments reads it.
+/// A matrix with prices of its rows and columns, as the judges of assignments and plans read it.
 pub trait Priced {
     // What each pair costs.
     ghost costs: { Self → Costs };
@@ -31,6 +31,12 @@ pub trait Priced {
     /// How many columns there are.
     fn column_count(&self) -> usize
         ensures { result ≡ (costs self.now).columns };
+
+    /// Whether the pair is allowed.
+    fn is_allowed_pair(&self, row: usize, column: usize) -> bool
+        requires row { row < (costs self.now).rows }
+        requires column { column < (costs self.now).columns }
+        ensures { IsTrue result ↔ IsAllowed (costs self.now) row column };
 
     /// Whether the pair is allowed, and its reduced cost is 0.
     fn is_good_pair(&self, row: usize, column: usize) -> bool

@@ -1,5 +1,5 @@
 -- An entry of doubles beside the prices of its row and its column.
-use Rattle.std.proofs.Common.{◌≡◌, ℕ, ◌^◌, Bool, IsTrue, ◌↔◌, IfSome, Option, Some, None, List, get_or, ap, sym, ◌∙◌, subst, refl, arith, ℤ, pos, ◌+ℤ◌, ◌-ℤ◌, ◌≤ℤ◌}
+use Rattle.std.proofs.Common.{◌≡◌, ℕ, ◌^◌, ◌==◌, if◌then◌else◌, Bool, true, false, IsTrue, ◌↔◌, IfSome, Option, Some, None, List, get_or, ap, sym, ◌∙◌, subst, refl, arith, ℤ, pos, ◌+ℤ◌, ◌-ℤ◌, ◌≤ℤ◌}
 use Rattle.std.proofs.Math.IntN.{◌*ℤ◌}
 use Rattle.std.proofs.lemmas.Bool.{ne_eqb}
 use Rattle.std.proofs.lemmas.Int.{ints}
@@ -7,6 +7,7 @@ use Rattle.std.proofs.Math.ListN.{get_or-map}
 use Rattle.mcf_flows.proofs.IntLaws.{add-mul, zero-mul}
 use Rattle.mcf_matrix.specs.MatrixPrices.{reduced_cost}
 use Rattle.mcf_matrix.specs.PlaceSums.{at_place}
+use Rattle.mcf_matrix_doubles.proofs.Powers.{scale_up}
 use Rattle.mcf_matrix_doubles.specs.declared.double.TheConstants.{INFINITY}
 use Rattle.mcf_matrix_doubles.specs.DoublePrices.{in_units}
 use Rattle.mcf_matrix_doubles.specs.Doubles.{double_cost, value_of}
@@ -52,3 +53,15 @@ pub from_reduced : (bits unit : ℕ) (u v : List ℤ) (i j : ℕ)
 from_reduced bits unit u v i j h =
     if_some_along (double_cost bits) (reduced_cost (in_units unit u) (in_units unit v) i j)
     (λ c. c -ℤ at_place u i *ℤ pos (2 ^ unit) -ℤ at_place v j *ℤ pos (2 ^ unit)) (λ c. reduced_is unit u v i j c) h
+
+either : (t : Bool) (z : ℤ) (P : ℤ → Type 0) → P z → IfSome (if t then None else Some z) P
+either true z P p = tt
+either false z P p = p
+
+-- an entry that is at least a price and a bound of others
+pub covers_above : (bits unit : ℕ) (a b most : ℤ) → b ≤ℤ most → ((a +ℤ most) *ℤ pos (2 ^ unit)) ≤ℤ value_of bits
+    → IfSome (double_cost bits) (λ c. pos 0 ≤ℤ (c -ℤ a *ℤ pos (2 ^ unit) -ℤ b *ℤ pos (2 ^ unit)))
+covers_above bits unit a b most le h =
+    let product = add-mul a most (pos (2 ^ unit)) in
+    let up = scale_up b most (2 ^ unit) le in
+    either (bits == INFINITY) (value_of bits) (λ c. pos 0 ≤ℤ (c -ℤ a *ℤ pos (2 ^ unit) -ℤ b *ℤ pos (2 ^ unit))) (omega (arith, ints, h, product, up))

@@ -1,16 +1,16 @@
 -- Entries and prices of doubles, as the judge of assignments asks for them.
-use Rattle.std.proofs.Common.{◌≡◌, ℕ, ◌^◌, ◌<◌, Bool, false, IsTrue, ◌↔◌, IfSome, IsSome, IsSomeAnd, Option, Some, None, List, length, get_or, ap, sym, ◌∙◌, subst, refl, arith, ℤ, pos, ◌+ℤ◌, ◌-ℤ◌, ◌≤ℤ◌}
+use Rattle.std.proofs.Common.{◌≡◌, ℕ, ◌^◌, ◌<◌, Bool, IsTrue, ◌↔◌, IfSome, IsSome, IsSomeAnd, Option, Some, None, List, ap, sym, ◌∙◌, subst, refl, arith, ℤ, pos, ◌+ℤ◌, ◌-ℤ◌, ◌≤ℤ◌}
 use Rattle.std.proofs.Math.IntN.{◌*ℤ◌}
 use Rattle.std.proofs.lemmas.Int.{ints}
 use Rattle.mcf_flows.proofs.IntLaws.{add-mul, sub-mul, zero-mul}
-use Rattle.mcf_matrix.specs.Judging.{IsGoodPair, IsPricedPlace, IsRowCovered}
+use Rattle.mcf_matrix.specs.Judging.{IsPricedPlace, IsRowCovered}
 use Rattle.mcf_matrix.specs.MatrixPrices.{reduced_cost}
-use Rattle.mcf_matrix.specs.PlaceSums.{at_place, is_marked}
+use Rattle.mcf_matrix.specs.PlaceSums.{at_place}
 use Rattle.mcf_matrix_doubles.specs.declared.double.TheConstants.{INFINITY}
 use Rattle.mcf_matrix_doubles.specs.DoublePrices.{RowIsCovered, in_units}
-use Rattle.mcf_matrix_doubles.specs.DoubleTables.{DoubleTable, IsShaped, bits_at, double_costs}
+use Rattle.mcf_matrix_doubles.specs.DoubleTables.{DoubleTable, IsShaped, double_costs}
 use Rattle.mcf_matrix_doubles.specs.Doubles.{double_cost, value_of}
-use Rattle.mcf_matrix_doubles.proofs.BitRows.{places_of_row, row_at, row_length, row_of}
+use Rattle.mcf_matrix_doubles.proofs.BitRows.{row_at, row_length, row_of}
 use Rattle.mcf_matrix_doubles.proofs.Covering.{cost_is, price_at, reduced_is}
 use Rattle.mcf_matrix_doubles.proofs.Powers.{power_above_zero, scale_back, scale_up}
 
@@ -75,11 +75,13 @@ negated_order s m P Q =
 
 -- ---- rows of covers
 
-pub covered_to : (t : DoubleTable) (i : ℕ) (columns : List Bool) → IsShaped t → i < t.rows → RowIsCovered (row_of t i) columns → IsRowCovered (double_costs t) i columns
-covered_to t i columns shaped row h j b some =
+pub covered_to : (t : DoubleTable) (i : ℕ) (columns : List Bool) (mark : Bool) → IsShaped t → i < t.rows → RowIsCovered (row_of t i) columns mark
+    → IsRowCovered (double_costs t) i columns mark
+covered_to t i columns mark shaped row h j b some =
     h j (omega (arith, b, row_length t i shaped row)) (subst (λ z. IsSome (double_cost z)) (sym (row_at t i j b)) some)
 
-pub covered_from : (t : DoubleTable) (i : ℕ) (columns : List Bool) → IsShaped t → i < t.rows → IsRowCovered (double_costs t) i columns → RowIsCovered (row_of t i) columns
-covered_from t i columns shaped row h j b some =
+pub covered_from : (t : DoubleTable) (i : ℕ) (columns : List Bool) (mark : Bool) → IsShaped t → i < t.rows → IsRowCovered (double_costs t) i columns mark
+    → RowIsCovered (row_of t i) columns mark
+covered_from t i columns mark shaped row h j b some =
     let inside : j < t.columns = omega (arith, b, row_length t i shaped row) in
     h j inside (subst (λ z. IsSome (double_cost z)) (row_at t i j inside) some)

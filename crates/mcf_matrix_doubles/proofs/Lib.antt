@@ -1,4 +1,5 @@
 pub mod BitRows
 pub mod Covering
 pub mod Judging
+pub mod Order
 pub mod Powers

@@ -1,6 +1,6 @@
 -- Prices of a matrix of doubles: whole numbers of one power of 2.
 -- Source: own
-use Rattle.std.specs.Prelude.{◌≡◌, ℕ, ◌-◌, ◌<◌, ◌^◌, Bool, IfSome, IsSome, IsTrue, List, length, map, ℤ, pos, ◌*ℤ◌, ◌-ℤ◌, ◌≤ℤ◌, slice_index}
+use Rattle.std.specs.Prelude.{◌≡◌, ℕ, ◌-◌, ◌<◌, ◌^◌, Bool, IfSome, IsSome, List, length, map, ℤ, pos, ◌*ℤ◌, ◌-ℤ◌, ◌≤ℤ◌, slice_index}
 use Rattle.mcf_flows.specs.WellFormed.{IsUpTo}
 use Rattle.mcf_matrix.specs.PlaceSums.{at_place, is_marked}
 use Rattle.mcf_matrix_doubles.specs.Doubles.{double_cost}
@@ -20,11 +20,14 @@ pub record AreReadyPrices (rows columns : ℕ) (u v : List ℤ) : Type 0 where
   pub small_rows : AreSmallPrices u
   pub small_columns : AreSmallPrices v
 
+-- the entry forbids its pair, or its reduced cost isn't below 0
+abbrev pub IsCovering : ℕ → ℤ → ℤ → ℕ → Type 0
+IsCovering bits row_price column_price unit = IfSome (double_cost bits) (λ c. pos 0 ≤ℤ (c -ℤ row_price *ℤ pos (2 ^ unit) -ℤ column_price *ℤ pos (2 ^ unit)))
+
 -- no reduced cost of a row is below 0
 abbrev pub RowHolds : List ℕ → ℤ → List ℤ → ℕ → Type 0
-RowHolds row price prices unit =
-    (j : ℕ) → j < length row → IfSome (double_cost (slice_index row j)) (λ c. pos 0 ≤ℤ (c -ℤ price *ℤ pos (2 ^ unit) -ℤ at_place prices j *ℤ pos (2 ^ unit)))
+RowHolds row price prices unit = (j : ℕ) → j < length row → IsCovering (slice_index row j) price (at_place prices j) unit
 
--- the column of each allowed pair of a row is marked
-abbrev pub RowIsCovered : List ℕ → List Bool → Type 0
-RowIsCovered row columns = (j : ℕ) → j < length row → IsSome (double_cost (slice_index row j)) → IsTrue (is_marked columns j)
+-- the column of each allowed pair of a row has this mark
+abbrev pub RowIsCovered : List ℕ → List Bool → Bool → Type 0
+RowIsCovered row columns mark = (j : ℕ) → j < length row → IsSome (double_cost (slice_index row j)) → is_marked columns j ≡ mark

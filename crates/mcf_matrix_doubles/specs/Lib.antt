@@ -1,9 +1,11 @@
 pub use Rattle.mcf_flows.specs.WellFormed
 pub use Rattle.mcf_matrix.specs.Costs
 pub use Rattle.mcf_matrix.specs.Covers
+pub use Rattle.mcf_matrix.specs.Cuts
 pub use Rattle.mcf_matrix.specs.Matchings
 pub use Rattle.mcf_matrix.specs.MatrixPrices
 pub use Rattle.mcf_matrix.specs.PlaceSums
+pub use Rattle.mcf_matrix.specs.Plans
 pub mod DoublePrices
 pub mod DoubleTables
 pub mod Doubles

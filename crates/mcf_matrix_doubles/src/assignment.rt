@@ -27,11 +27,11 @@ pub struct DoublePrices<'a> {
 
 /// A matrix of doubles with prices.
 #[derive(Drop)]
-struct PricedDoubles<'a> {
-    matrix: &'a DoubleMatrix<'a>,
-    row_prices: &'a [i128],
-    column_prices: &'a [i128],
-    unit: u32,
+pub(crate) struct PricedDoubles<'a> {
+    pub(crate) matrix: &'a DoubleMatrix<'a>,
+    pub(crate) row_prices: &'a [i128],
+    pub(crate) column_prices: &'a [i128],
+    pub(crate) unit: u32,
 }
 
 impl<'a> Priced for PricedDoubles<'a> {
@@ -51,6 +51,11 @@ impl<'a> Priced for PricedDoubles<'a> {
     #[inline(always)]
     fn column_count(&self) -> usize {
         self.matrix.columns()
+    }
+
+    #[inline(always)]
+    fn is_allowed_pair(&self, row: usize, column: usize) -> bool {
+        self.matrix.entry(row, column) != INFINITY
     }
 
     #[inline(always)]

@@ -24,8 +24,8 @@ impl<'a> Allows for DoubleMatrix<'a> {
         self.columns()
     }
 
-    fn is_row_covered(&self, row: usize, columns: &[bool]) -> bool {
-        row_is_covered(self.row(row), columns)
+    fn is_row_covered(&self, row: usize, columns: &[bool], mark: bool) -> bool {
+        row_is_covered(self.row(row), columns, mark)
     }
 }
 
@@ -42,22 +42,22 @@ pub fn judge_cover(matrix: &DoubleMatrix, rows: &[bool], columns: &[bool]) -> bo
     excludes(matrix, rows, columns)
 }
 
-// Whether the entry forbids its pair, or its column is marked.
+// Whether the entry forbids its pair, or its column has the mark that it should have.
 #[inline(always)]
-fn is_met(bits: u64, mark: bool) -> bool
-    ensures { IsTrue result ↔ (IsSome (double_cost bits) → IsTrue mark) }
+fn is_met(bits: u64, own: bool, mark: bool) -> bool
+    ensures { IsTrue result ↔ (IsSome (double_cost bits) → own ≡ mark) }
 {
-    bits == INFINITY || mark
+    bits == INFINITY || own == mark
 }
 
-// Whether the column of each allowed pair of a row is marked.
-fn row_is_covered(row: &[u64], columns: &[bool]) -> bool
+// Whether the column of each allowed pair of a row has this mark.
+fn row_is_covered(row: &[u64], columns: &[bool], mark: bool) -> bool
     requires { length columns.now ≡ length row.now }
-    ensures { IsTrue result ↔ RowIsCovered row.now columns.now }
+    ensures { IsTrue result ↔ RowIsCovered row.now columns.now mark }
 {
     let mut covered = true;
     for column in 0..row.len() {
-        covered &= is_met(row[column], columns[column]);
+        covered &= is_met(row[column], columns[column], mark);
     }
     covered
 }

@@ -7,7 +7,7 @@ ghost use Rattle.mcf_matrix_doubles.specs.Doubles.{IsEntry, exponent_of, fractio
 pub const INFINITY: u64 = 0x7FF0_0000_0000_0000;
 
 // How great a fraction may be, in units.
-const FRACTIONS: u64 = 1 << 52;
+pub(crate) const FRACTIONS: u64 = 1 << 52;
 
 /// A whole number of units: the mantissa times 2^shift.
 #[derive(Clone, Copy, Debug, PartialEq, Eq)]

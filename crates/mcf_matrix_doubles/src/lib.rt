@@ -10,12 +10,17 @@
 mod assignment;
 mod comparing;
 mod cover;
+mod cut;
 mod double;
 mod double_matrix;
 mod prices;
+mod threshold;
+mod transport;
 
 pub use assignment::{DoublePrices, judge_assignment};
 pub use cover::judge_cover;
+pub use cut::judge_transport_cut;
 pub use double::{INFINITY, Scaled};
 pub use double_matrix::{DoubleFault, DoubleMatrix};
 pub use prices::{are_small_prices, none_below};
+pub use transport::judge_transport;

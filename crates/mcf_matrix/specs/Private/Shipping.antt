@@ -1,5 +1,5 @@
 -- The tests that passes over a transport plan make.
-use Rattle.std.specs.Prelude.{◌≡◌, ℕ, ◌<◌, ◌==◌, IfSome, IsSome, Option, List, length, ℤ, pos, ◌+ℤ◌, ◌-ℤ◌, ◌≤ℤ◌, ◌<ℤ◌}
+use Rattle.std.specs.Prelude.{◌≡◌, ℕ, ◌<◌, ◌==◌, List, length, ℤ, pos, ◌+ℤ◌, ◌≤ℤ◌}
 use Rattle.std.specs.List.{All}
 use Rattle.mcf_flows.specs.Network.{when}
 use Rattle.mcf_matrix.specs.declared.shipment.Shipment.{Shipment}
@@ -28,9 +28,3 @@ AreMet end plan masses = (i : ℕ) → i < length masses → amount_at end plan 
 pub record IsLeft (end : Shipment → ℕ) (plan : List Shipment) (masses left : List ℤ) : Type 0 where
   pub as_long : length left ≡ length masses
   pub each : (i : ℕ) → i < length masses → at_place left i +ℤ amount_at end plan i ≡ at_place masses i
-
--- the same of an entry's parts
-pub record IsGoodAmount (cost : Option ℤ) (size u v : ℤ) : Type 0 where
-  pub allowed : IsSome cost
-  pub amount : pos 0 ≤ℤ size
-  pub tight : pos 0 <ℤ size → IfSome cost (λ c. c -ℤ u -ℤ v ≡ pos 0)

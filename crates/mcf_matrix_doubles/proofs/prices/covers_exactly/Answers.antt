@@ -3,7 +3,7 @@ use Rattle.std.specs.Int.{w64, w128}
 use Rattle.std.specs.Prelude.{FitsSigned}
 use Rattle.std.proofs.lemmas.Int.{ints, to_z-of_z}
 use Rattle.mcf_matrix_doubles.proofs.Covering.{covers_exact}
-use Rattle.mcf_matrix_doubles.proofs.prices.covers.Goals as goal
+use Rattle.mcf_matrix_doubles.proofs.prices.covers_exactly.Goals as goal
 
 pub returns : goal.returns
 returns c =

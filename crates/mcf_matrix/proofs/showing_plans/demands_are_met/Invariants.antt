@@ -1,6 +1,6 @@
 use Rattle.std.proofs.Common.{take}
 use Rattle.mcf_matrix.specs.Private.Shipping.{IsLeft}
-use Rattle.mcf_matrix.proofs.transport.demands_are_met.Given as goal
+use Rattle.mcf_matrix.proofs.showing_plans.demands_are_met.Given as goal
 
 abbrev pub invariant-loop-shipment : goal.invariant-loop-shipment
 invariant-loop-shipment l = IsLeft (λ s. s.column) (take l.shipment-index l.plan) l.initial.demands l.demands

@@ -4,7 +4,7 @@ use Rattle.std.specs.Prelude.{FitsSigned}
 use Rattle.std.proofs.lemmas.Int.{ints, to_z-of_z}
 use Rattle.mcf_matrix.proofs.Shipping.{no_shipment, taken_off, too_much}
 use Rattle.mcf_matrix.proofs.Tests.{fits_difference}
-use Rattle.mcf_matrix.proofs.transport.supplies_are_met.Goals as goal
+use Rattle.mcf_matrix.proofs.showing_plans.supplies_are_met.Goals as goal
 
 pub returns-then-left-shipment : goal.returns-then-left-shipment
 returns-then-left-shipment c =

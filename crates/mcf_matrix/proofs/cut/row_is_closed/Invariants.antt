@@ -1,9 +1,0 @@
-use Rattle.std.proofs.Common.{ℕ, ◌<◌, ◌↔◌, IsSome, IsTrue}
-use Rattle.mcf_matrix.specs.Cuts.{IsClosedMark}
-use Rattle.mcf_matrix.specs.PlaceSums.{at_place, is_marked}
-use Rattle.mcf_matrix.specs.Tables.{cost_of}
-use Rattle.mcf_matrix.proofs.cut.row_is_closed.Given as goal
-
-abbrev pub invariant-loop-column : goal.invariant-loop-column
-invariant-loop-column l =
-    IsTrue l.closed ↔ ((j : ℕ) → j < l.column → IsSome (cost_of (at_place l.row j)) → IsClosedMark l.row_mark (is_marked l.columns j) l.side)
