@@ -19,4 +19,4 @@ mod ranges;
 mod searching;
 
 pub use found::{Assignment, Cover, Cut, Found, FoundPlan, Plan};
-pub use searching::{find_assignment, find_plan};
+pub use searching::{find_assignment, find_basic_plan, find_plan, improve_plan};

@@ -2,11 +2,11 @@
 ghost use Rattle.std.specs.Prelude.{◌≤◌, ◌+◌, IfNone, IfOk, OnErr};
 
 use crate::cuts::find_uneven;
-use crate::found::{Assignment, Found, FoundPlan};
-use crate::planning::find_without_pairs;
+use crate::found::{Assignment, Found, FoundPlan, Plan};
+use crate::planning::{Listing, find_without_pairs};
 use crate::{assigning, planning};
 use mcf_columns::narrow;
-use mcf_matrix::{Masses, Matrix};
+use mcf_matrix::{Masses, Matrix, Shipment};
 use mcf_matrix_rows::View;
 use mcf_text::NoMemory;
 use std::alloc::Global;
@@ -84,6 +84,59 @@ pub fn find_plan(
 ) -> Result<Option<FoundPlan>, NoMemory>
     ensures wants { OnErr result (1 ≤ matrix.now.rows + matrix.now.columns) }
 {
+    search(alloc, matrix, masses, Listing::Used)
+}
+
+/// Searches as `find_plan` does. The plan that it finds lists the pairs of its basis, also those
+/// whose amount is 0, so that `improve_plan` can start from it.
+///
+/// # Errors
+///
+/// `NoMemory` if an allocation is refused; a matrix without rows and columns needs none.
+pub fn find_basic_plan(
+    alloc: Global,
+    matrix: &Matrix<'_>,
+    masses: &Masses<'_>,
+) -> Result<Option<FoundPlan>, NoMemory>
+    ensures wants { OnErr result (1 ≤ matrix.now.rows + matrix.now.columns) }
+{
+    search(alloc, matrix, masses, Listing::Basis)
+}
+
+/// Improves a plan to a least one for other costs, with prices that show it, by the network simplex
+/// from the basis that the plan lists. The plan is meant to be one of `find_basic_plan` or of this
+/// call, which lists the pairs of its basis, too.
+///
+/// The caller has to check the result: this call promises nothing about it. A forbidden pair is
+/// read as a cost. Returns `None` if the plan lists no basis, the matrix has no rows or no columns
+/// or more than 2^30, or the search exceeds its budget of pivots.
+///
+/// # Errors
+///
+/// `NoMemory` if an allocation is refused; a matrix without rows or without columns needs none.
+pub fn improve_plan(
+    alloc: Global,
+    matrix: &Matrix<'_>,
+    plan: &[Shipment],
+) -> Result<Option<Plan>, NoMemory>
+    ensures wants { OnErr result ((1 ≤ matrix.now.rows) × (1 ≤ matrix.now.columns)) }
+{
+    let (rows, columns) = (matrix.rows(), matrix.columns());
+    if rows == 0 || columns == 0 || rows > MOST_LINES || columns > MOST_LINES {
+        return Ok(None);
+    }
+    planning::improve(alloc, view_of(matrix), plan)
+}
+
+// Searches for a least transport plan, or for a cut that shows that no plan exists.
+fn search(
+    alloc: Global,
+    matrix: &Matrix<'_>,
+    masses: &Masses<'_>,
+    listing: Listing,
+) -> Result<Option<FoundPlan>, NoMemory>
+    ensures wants { OnErr result (1 ≤ matrix.now.rows + matrix.now.columns) }
+{
     let (rows, columns) = (matrix.rows(), matrix.columns());
     let are_counted = masses.supplies.len() == rows && masses.demands.len() == columns;
     if !are_counted || rows > MOST_LINES || columns > MOST_LINES {
@@ -95,5 +148,5 @@ pub fn find_plan(
     if rows == 0 || columns == 0 {
         return Ok(Some(find_without_pairs(alloc, rows, columns)?));
     }
-    planning::find(alloc, view_of(matrix), masses)
+    planning::find(alloc, view_of(matrix), masses, listing)
 }

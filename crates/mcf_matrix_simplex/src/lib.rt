@@ -12,4 +12,4 @@ mod tuning;
 
 pub use basis::Basis;
 pub use plan::Cell;
-pub use transport::{search_matching, search_plan};
+pub use transport::{improve_plan, search_matching, search_plan};

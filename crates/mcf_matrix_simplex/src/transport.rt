@@ -1,7 +1,7 @@
 //! The network simplex on all pairs of a matrix.
 
 use crate::basis::{Basis, Entering, Links};
-use crate::plan::FirstPlan;
+use crate::plan::{Cell, FirstPlan};
 use crate::tuning::PIVOTS_PER_NODE;
 use mcf_columns::{NOWHERE, at, put};
 use mcf_matrix_rows::{Pairing, View, row_least};
@@ -24,11 +24,28 @@ pub fn search_plan<'a>(
 ) -> Result<Option<Basis<'a>>, NoMemory> {
     let mut numbers = copies(alloc, view.columns as usize, 0)?;
     let mut plan = FirstPlan::start(alloc, view)?;
-    let mut basis = Basis::start(alloc, view)?;
-    let mut links = Links::start(alloc, basis.nodes())?;
     plan.write(supplies, demands);
     plan.make(numbers.as_mut_slice());
-    if basis.span(plan.made(), &mut links) && improve(&mut basis) {
+    improve_plan(alloc, view, plan.made())
+}
+
+/// Improves a transport plan to a least one for the view's costs, by the network simplex. The cells
+/// are meant to be those of a basis: the arcs of a spanning tree of senders and columns. The view
+/// has rows and columns.
+///
+/// Returns the last basis, as `search_plan` does. Returns `None` if the cells span no tree, or the
+/// search exceeds its budget of pivots.
+///
+/// # Errors
+/// `NoMemory` if an allocation is refused.
+pub fn improve_plan<'a>(
+    alloc: Global,
+    view: View<'a>,
+    cells: &[Cell],
+) -> Result<Option<Basis<'a>>, NoMemory> {
+    let mut basis = Basis::start(alloc, view)?;
+    let mut links = Links::start(alloc, basis.nodes())?;
+    if basis.span(cells, &mut links) && improve(&mut basis) {
         return Ok(Some(basis));
     }
     Ok(None)
