@@ -1,8 +1,9 @@
 #![tactic(auto)]
 
-//! A search for least assignments of cost matrices of doubles.
+//! Searches for least assignments and transport plans of cost matrices of doubles.
 //!
-//! Nothing is proved of what it finds, since a proved judge checks it: the search is safe and ends.
+//! Nothing is proved of what they find, since proved judges check it: the searches are safe and
+//! end.
 //!
 //! It builds on `mcf_matrix_doubles` and `mcf_matrix_search`. It cuts the entries to multiples of a
 //! power of 2, has a matrix of whole costs searched, and then makes the answer exact, by the pairs
@@ -10,12 +11,18 @@
 
 mod cutting;
 mod found;
+mod found_plan;
+mod lines;
 mod near;
+mod planning;
 mod refining;
 mod searching;
+mod staging;
 mod turning;
 mod window;
 
 pub use found::{DoubleAssignment, DoubleFound};
-pub use mcf_matrix_search::Cover;
+pub use found_plan::{DoubleFoundPlan, DoublePlan};
+pub use mcf_matrix_search::{Cover, Cut};
+pub use planning::find_plan;
 pub use searching::find_assignment;

@@ -1,10 +1,10 @@
 //! Exact reduced costs, and the pairs whose reduced cost is near 0.
 
 use crate::cutting::exact;
+use crate::lines::Lines;
 use crate::window::Window;
 use mcf_columns::{at, narrow, put};
 use mcf_matrix::FORBIDDEN;
-use mcf_matrix_doubles::DoubleMatrix;
 use mcf_matrix_search::Assignment;
 use mcf_text::{NoMemory, copies};
 use std::alloc::Global;
@@ -13,7 +13,7 @@ use std::alloc::Global;
 /// A row of zeros, after the last, stands for the columns that stay free.
 #[derive(Drop)]
 pub(crate) struct Near<'a> {
-    matrix: &'a DoubleMatrix<'a>,
+    lines: Lines<'a>,
     pub(crate) rows: u32,
     unit: u32,
     // the prices of rows, and then that of the row of zeros
@@ -49,28 +49,28 @@ pub(crate) fn finer_prices(
 }
 
 impl<'a> Near<'a> {
-    /// Starts from the prices of the whole costs. Since entries are rounded down, each exact
-    /// reduced cost is at least 0, and that of a matched pair is below 2^grid. So exact prices
-    /// differ by at most as many times that as there are rows, and each pair that may be matched is
-    /// near.
+    /// Starts from the prices of the whole costs. Entries are rounded to multiples of 2^grid, and
+    /// then each row's price is changed until its least exact reduced cost is 0: that of a matched
+    /// pair is at most 2^grid. So exact prices differ by at most as many times that as there are
+    /// rows, and each pair that may be matched is near.
     pub(crate) fn start(
         alloc: Global,
-        matrix: &'a DoubleMatrix<'a>,
+        lines: Lines<'a>,
         window: Window,
         found: &Assignment,
         costs: &[i64],
     ) -> Result<Near<'a>, NoMemory> {
         let places = window.grid().wrapping_sub(window.low);
         let (row_prices, column_prices) = finer_prices(alloc, found, places)?;
-        let rows = narrow(matrix.rows());
+        let rows = narrow(lines.rows());
         let reach = (i128::from(rows) + 2).wrapping_mul(1i128 << places.min(90));
         let mut near = Near {
-            matrix,
+            lines,
             rows,
             unit: window.low,
             row_prices,
             column_prices,
-            starts: copies(alloc, matrix.rows().saturating_add(2), 0)?,
+            starts: copies(alloc, lines.rows().saturating_add(2), 0)?,
             columns: Vec::new(alloc),
             reach,
         };
@@ -92,14 +92,13 @@ impl<'a> Near<'a> {
     // Returns the cost of an allowed pair, or 0 in the row of zeros.
     #[inline(always)]
     fn cost(&self, row: u32, column: u32) -> i128 {
-        let (row, column) = (row as usize, column as usize);
-        if row < self.matrix.rows() && column < self.matrix.columns() {
-            return exact(self.matrix.entry(row, column), self.unit);
+        if row < self.rows {
+            return exact(self.lines.entry(row as usize, column as usize), self.unit);
         }
         0
     }
 
-    // Lists the near columns of each row, and raises its price until its least reduced cost is 0.
+    // Lists the near columns of each row, and changes its price until its least reduced cost is 0.
     fn list_rows(&mut self, costs: &[i64], found: &Assignment) -> Result<(), NoMemory> {
         let width = self.column_prices.len();
         let prices = found.column_prices.as_slice();
@@ -115,14 +114,13 @@ impl<'a> Near<'a> {
         Ok(())
     }
 
-    // Lists the near columns of a row, by whole costs: these are less than 1 below the exact ones.
+    // Lists the near columns of a row, by whole costs: these are less than 1 from the exact ones.
     fn list_row(&mut self, costs: &[i64], price: i64, prices: &[i64]) -> Result<(), NoMemory> {
         let count = prices.len().min(costs.len());
-        let reach = i64::from(self.rows).wrapping_add(3);
+        let reach = i64::from(self.rows).wrapping_add(3).wrapping_add(price);
         for column in 0..count {
             let cost = costs[column];
-            let reduced = cost.wrapping_sub(price).wrapping_sub(prices[column]);
-            if reduced < reach && cost != FORBIDDEN {
+            if cost < reach.wrapping_add(prices[column]) && cost != FORBIDDEN {
                 self.columns.push(narrow(column))?;
             }
         }
@@ -140,7 +138,7 @@ impl<'a> Near<'a> {
 
     // Lists the near columns of the row of zeros, if there are more columns than rows.
     fn list_zeros(&mut self) -> Result<(), NoMemory> {
-        let columns = if self.matrix.rows() < self.matrix.columns() {
+        let columns = if self.lines.rows() < self.lines.columns() {
             narrow(self.column_prices.len())
         } else {
             0
@@ -168,7 +166,7 @@ impl<'a> Near<'a> {
         at(&self.columns, start.wrapping_add(place), u32::MAX)
     }
 
-    /// Raises the price of a row.
+    /// Raises the price of a row; a change below 0 lowers it.
     pub(crate) fn raise_row(&mut self, row: u32, change: i128) {
         let price = at(&self.row_prices, row, 0).wrapping_add(change);
         put(&mut self.row_prices, row, price);

@@ -3,10 +3,10 @@
 //! cost above 0.
 
 use crate::found::DoubleAssignment;
+use crate::lines::Lines;
 use crate::near::Near;
 use crate::window::Window;
 use mcf_columns::{NOWHERE, Pile, at, narrow, put};
-use mcf_matrix_doubles::DoubleMatrix;
 use mcf_matrix_search::Assignment;
 use mcf_text::{NoMemory, copies};
 use std::alloc::Global;
@@ -48,13 +48,13 @@ struct Refining<'a> {
 /// `NoMemory` if an allocation is refused.
 pub(crate) fn refine<'a>(
     alloc: Global,
-    matrix: &'a DoubleMatrix<'a>,
+    lines: Lines<'a>,
     window: Window,
     found: Assignment,
     costs: &[i64],
 ) -> Result<Option<DoubleAssignment>, NoMemory> {
-    let near = Near::start(alloc, matrix, window, &found, costs)?;
-    let columns = matrix.columns();
+    let near = Near::start(alloc, lines, window, &found, costs)?;
+    let columns = lines.columns();
     let zeros = near.rows;
     let mut refining = Refining {
         near,
@@ -159,10 +159,13 @@ impl<'a> Refining<'a> {
         is_new
     }
 
-    // Reaches the near columns of a row at a distance.
+    // Reaches the near columns of a row at a distance, except those that are matched with it.
     fn offer(&mut self, row: u32, distance: i128) -> Result<(), NoMemory> {
         for place in 0..self.near.count(row) {
             let column = self.near.column(row, place);
+            if at(&self.row_of, column, row) == row {
+                continue;
+            }
             let reduced = self.near.reduced(row, column);
             let found = Reached {
                 distance: distance.wrapping_add(reduced),
@@ -207,19 +210,28 @@ impl<'a> Refining<'a> {
     fn price_settled(&mut self, distance: i128) {
         'columns: for place in 0..self.reached.len() {
             let column = self.reached.get(place);
-            if at(&self.is_settled, column, false) {
+            let row = at(&self.row_of, column, NOWHERE);
+            if row < self.near.rows && at(&self.is_settled, column, false) {
                 let nearer = distance.wrapping_sub(at(&self.distances, column, 0));
                 self.near.lower_column(column, nearer);
-                let row = at(&self.row_of, column, NOWHERE);
-                if row < self.near.rows {
-                    self.near.raise_row(row, nearer);
-                }
+                self.near.raise_row(row, nearer);
             }
         }
         if let Some(zeros) = self.zeros {
-            let nearer = distance.wrapping_sub(zeros.distance);
-            let row_of_zeros = self.near.rows;
-            self.near.raise_row(row_of_zeros, nearer);
+            self.price_zeros(distance.wrapping_sub(zeros.distance));
+        }
+    }
+
+    // Raises the price of the row of zeros, and lowers those of the columns that are matched with
+    // it.
+    fn price_zeros(&mut self, nearer: i128) {
+        let zeros = self.near.rows;
+        self.near.raise_row(zeros, nearer);
+        'columns: for place in 0..self.near.count(zeros) {
+            let column = self.near.column(zeros, place);
+            if at(&self.row_of, column, NOWHERE) == zeros {
+                self.near.lower_column(column, nearer);
+            }
         }
     }
 

@@ -1,11 +1,12 @@
 //! The search in a matrix of doubles.
 ghost use Rattle.std.specs.Prelude.{◌≤◌, ◌+◌, IfNone, IfOk, OnErr};
 
-use crate::cutting::cut_costs;
+use crate::cutting::{Grid, cut_costs};
 use crate::found::{DoubleAssignment, DoubleFound};
+use crate::lines::Lines;
 use crate::near::finer_prices;
 use crate::refining::refine;
-use crate::turning::{turn_found, turned_bits};
+use crate::turning::turn_found;
 use crate::window::Window;
 use mcf_matrix::Matrix;
 use mcf_matrix_doubles::DoubleMatrix;
@@ -21,7 +22,7 @@ const MOST_LINES: usize = 1 << 30;
 ///
 /// The caller has to check the result: this call promises nothing about it. If the bits of the
 /// finite entries span at most 49 places, it searches a matrix of exact whole costs. Otherwise it
-/// rounds entries down to multiples of a power of 2, searches a least assignment of these, and
+/// rounds entries to multiples of a power of 2, searches a least assignment of these, and
 /// refines it by shortest augmenting paths among the pairs whose exact reduced cost is near 0
 /// (Dijkstra 1959). Returns `None` if the bits span more than 118 places, or a search gives up. The
 /// whole costs take 8 bytes for each entry.
@@ -48,34 +49,29 @@ pub fn find_assignment(
     if rows > MOST_LINES || columns > MOST_LINES {
         return Ok(None);
     }
-    if rows > columns {
-        return find_turned(alloc, matrix);
+    let lines = Lines::of(matrix);
+    let found = find(alloc, matrix, lines)?;
+    if lines.is_turned {
+        return turn_found(alloc, found);
     }
-    find(alloc, matrix)
+    Ok(found)
 }
 
-// Searches a matrix with more rows than columns, by exchanging both.
-fn find_turned(alloc: Global, matrix: &DoubleMatrix<'_>) -> Result<Option<DoubleFound>, NoMemory> {
-    let (rows, columns) = (matrix.rows(), matrix.columns());
-    let bits = turned_bits(alloc, matrix)?;
-    let Ok(turned) = DoubleMatrix::of(&bits, columns, rows, rows) else {
-        return Ok(None);
-    };
-    let found = find(alloc, &turned)?;
-    turn_found(alloc, found)
-}
-
-// Searches a matrix with at most as many rows as columns.
-fn find(alloc: Global, matrix: &DoubleMatrix<'_>) -> Result<Option<DoubleFound>, NoMemory> {
-    let (rows, columns) = (matrix.rows(), matrix.columns());
+// Searches the lines of a matrix.
+fn find(
+    alloc: Global,
+    matrix: &DoubleMatrix<'_>,
+    lines: Lines<'_>,
+) -> Result<Option<DoubleFound>, NoMemory> {
     let window = Window::of(matrix);
-    let costs = cut_costs(alloc, matrix, window.grid())?;
+    let costs = cut_costs(alloc, matrix, Grid::nearest(window.grid()), lines.is_turned)?;
+    let (rows, columns) = (lines.rows(), lines.columns());
     let Ok(whole) = Matrix::of(&costs, rows, columns, columns) else {
         return Ok(None);
     };
     match mcf_matrix_search::find_assignment(alloc, &whole)? {
         Some(Found::Assignment(found)) => {
-            let exact = made_exact(alloc, matrix, window, found, &costs)?;
+            let exact = made_exact(alloc, lines, window, found, &costs)?;
             Ok(exact.map(DoubleFound::Assignment))
         }
         Some(Found::Cover(cover)) => Ok(Some(DoubleFound::Cover(cover))),
@@ -87,7 +83,7 @@ fn find(alloc: Global, matrix: &DoubleMatrix<'_>) -> Result<Option<DoubleFound>,
 // `None` if 128 bits don't allow that.
 fn made_exact(
     alloc: Global,
-    matrix: &DoubleMatrix<'_>,
+    lines: Lines<'_>,
     window: Window,
     found: Assignment,
     costs: &[i64],
@@ -98,7 +94,7 @@ fn made_exact(
     if !window.is_narrow() {
         return Ok(None);
     }
-    refine(alloc, matrix, window, found, costs)
+    refine(alloc, lines, window, found, costs)
 }
 
 // Returns an assignment of exact whole costs as one of doubles.

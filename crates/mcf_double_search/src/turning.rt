@@ -2,30 +2,9 @@
 
 use crate::found::{DoubleAssignment, DoubleFound};
 use mcf_columns::{NOWHERE, at, narrow, put};
-use mcf_matrix_doubles::{DoubleMatrix, INFINITY};
 use mcf_matrix_search::Cover;
 use mcf_text::{NoMemory, copies};
 use std::alloc::Global;
-
-/// Returns the bits of a matrix, column after column.
-pub(crate) fn turned_bits(alloc: Global, matrix: &DoubleMatrix<'_>) -> Result<Vec<u64>, NoMemory> {
-    let rows = matrix.rows();
-    let mut bits = copies(alloc, rows.saturating_mul(matrix.columns()), INFINITY)?;
-    'rows: for row in 0..rows {
-        turn_row(matrix.row(row), row, rows, bits.as_mut_slice());
-    }
-    Ok(bits)
-}
-
-// Writes a row as a column.
-fn turn_row(entries: &[u64], row: usize, rows: usize, bits: &mut [u64]) {
-    'columns: for column in 0..entries.len() {
-        let place = column.wrapping_mul(rows).wrapping_add(row);
-        if place < bits.len() {
-            bits[place] = entries[column];
-        }
-    }
-}
 
 /// Exchanges rows and columns in what a search found.
 pub(crate) fn turn_found(
