@@ -12,6 +12,8 @@ mod columns;
 #[cfg(test)]
 mod double_solving;
 #[cfg(test)]
+mod double_transports;
+#[cfg(test)]
 mod doubles;
 #[cfg(test)]
 mod matrices;
