@@ -213,6 +213,50 @@ static int check_doubles(void) {
     return 0;
 }
 
+/* Solves transport problems of doubles: one whose plans differ by a unit in the last place, one
+   whose rows may both use the first column alone, and those with a fault. */
+static int check_double_transport(void) {
+    static const double one = 1.0, last = 2.220446049250313e-16, zero = 0.0;
+    static const int64_t supplies[2] = {3, 4}, demands[2] = {5, 2};
+    static double costs[4], one_way[4], faulty[4];
+    const struct mcf_transport_doubles problem = {{costs, 4, 2, 2, 2}, supplies, 2, demands, 2},
+                                       without = {{one_way, 4, 2, 2, 2}, supplies, 2, demands, 2},
+                                       wrong = {{faulty, 4, 2, 2, 2}, supplies, 2, demands, 2},
+                                       narrow = {{costs, 4, 2, 2, 2}, supplies, 2, demands, 1};
+    struct mcf_shipment plan[3];
+    struct mcf_planned_doubles told = {9, 9, 9};
+    struct mcf_wide rows[2], columns[2];
+    uint32_t unit;
+    size_t place;
+    costs[0] = costs[2] = one, costs[1] = one + 2 * last, costs[3] = one + last;
+    one_way[0] = one_way[2] = one, one_way[1] = one_way[3] = one / zero;
+    memcpy(faulty, costs, sizeof costs);
+    faulty[3] = zero / zero;
+    CHECK(101, mcf_transport_doubles(&problem, plan, 3, rows, 2, columns, 2, &told) == MCF_FLOW);
+    CHECK(102, told.used == 3 && told.side == 0);
+    for (place = 0; place < 3; place++)
+        CHECK(103, plan[place].amount == (plan[place].row == 0 ? 3 : 2) &&
+                       (plan[place].row == 1 || plan[place].column == 0));
+    unit = told.unit;
+    CHECK(104, mcf_check_transport_doubles(&problem, plan, 3, rows, 2, columns, 2, unit) == 0);
+    CHECK(105, mcf_check_transport_doubles(&problem, plan, 2, rows, 2, columns, 2, unit) == 1);
+    CHECK(106, mcf_check_transport_doubles(&narrow, plan, 3, rows, 2, columns, 2, unit) == 1);
+    rows[0].low++;
+    CHECK(107, mcf_check_transport_doubles(&problem, plan, 3, rows, 2, columns, 2, unit) == 1);
+    CHECK(108, mcf_check_transport_doubles(&wrong, plan, 3, rows, 2, columns, 2, unit) ==
+                   MCF_INVALID_INPUT);
+    CHECK(109, mcf_transport_doubles(&without, plan, 3, rows, 2, columns, 2, &told) == MCF_BLOCKED);
+    CHECK(110, told.side == MCF_SEND && rows[0].low == 1 && rows[1].low == 1 &&
+                   columns[0].low == 1 && columns[1].low == 0);
+    CHECK(111,
+          mcf_transport_doubles(&wrong, plan, 3, rows, 2, columns, 2, &told) == MCF_INVALID_INPUT);
+    CHECK(112, mcf_transport_doubles(&problem, plan, 2, rows, 2, columns, 2, &told) ==
+                   MCF_BUFFER_TOO_SMALL);
+    CHECK(113, mcf_transport_doubles(&narrow, plan, 3, rows, 2, columns, 2, &told) ==
+                   MCF_BUFFER_TOO_SMALL);
+    return 0;
+}
+
 /* A chain of more than 9223 arcs that cost 10^15 each and carry 1: the last price is too low for 64
  * bits. */
 static int check_wide(void) {
@@ -266,6 +310,7 @@ int main(int count, char **words) {
     if (status == 0) status = check_matrix();
     if (status == 0) status = check_transport();
     if (status == 0) status = check_doubles();
+    if (status == 0) status = check_double_transport();
     for (place = 1; status == 0 && place + 1 < count; place += 2)
         status = check_text(words[place + 1], (uint32_t)atoi(words[place]));
     return status;

@@ -1,9 +1,9 @@
 /* Tests hostile texts, arrays and cost matrices. All arguments lie at the edge of accessible
    memory, and inputs are read-only. Texts are noise, or examples that are cut off or changed;
    arrays have numbers at the limits and beyond them; matrices have up to four lines, with shapes
-   that don't fit, too. The test compares the answers with the definitions, which it implements
-   again. The first word is the number of rounds, and the others are instance texts. Ends with 0, or
-   names the line of the first check that fails. */
+   that don't fit, too, of whole numbers and of doubles. The test compares the answers with the
+   definitions, which it implements again. The first word is the number of rounds, and the others
+   are instance texts. Ends with 0, or names the line of the first check that fails. */
 #define _DEFAULT_SOURCE
 #include "mcf.h"
 
@@ -574,27 +574,38 @@ static int is_matrix(void) {
     return 1;
 }
 
+/* The prices of rows and columns, or their marks, times 2^lift. */
+static struct {
+    wide rows[ROOMS], columns[ROOMS];
+    int lift;
+} priced;
+
+/* The reduced cost of a pair, times 2^lift. */
+static wide reduced(size_t row, size_t column) {
+    return ((wide)cost_at(row, column) * ((wide)1 << priced.lift)) - priced.rows[row] -
+           priced.columns[column];
+}
+
 /* Whether no allowed pair costs less than the sum of its prices. */
-static int are_none_below(const int64_t *u, const int64_t *v) {
+static int are_none_below(void) {
     size_t i, j;
     for (i = 0; i < table.rows; i++)
         for (j = 0; j < table.columns; j++)
-            if (cost_at(i, j) != INT64_MAX && (wide)cost_at(i, j) - u[i] - v[j] < 0) return 0;
+            if (cost_at(i, j) != INT64_MAX && reduced(i, j) < 0) return 0;
     return 1;
 }
 
 /* Whether the prices show that the columns of the rows are an assignment of least cost, which
  * `spent` gets. */
-static int is_assignment(const uint32_t *column_of, const int64_t *u, const int64_t *v,
-                         wide *spent) {
+static int is_assignment(const uint32_t *column_of, wide *spent) {
+    const wide *u = priced.rows, *v = priced.columns;
     size_t i, j, pairs = 0, smaller = table.rows < table.columns ? table.rows : table.columns;
     int taken[LINES] = {0};
     *spent = 0;
     for (i = 0; i < table.rows; i++) {
         j = column_of[i];
         if (j >= table.columns) continue;
-        if (cost_at(i, j) == INT64_MAX || taken[j] || (wide)cost_at(i, j) - u[i] - v[j] != 0)
-            return 0;
+        if (cost_at(i, j) == INT64_MAX || taken[j] || reduced(i, j) != 0) return 0;
         taken[j] = 1;
         pairs++;
         *spent += cost_at(i, j);
@@ -603,7 +614,7 @@ static int is_assignment(const uint32_t *column_of, const int64_t *u, const int6
         if (v[j] > 0 || (!taken[j] && v[j] != 0)) return 0;
     for (i = 0; i < table.rows && table.columns < table.rows; i++)
         if (u[i] > 0 || (column_of[i] >= table.columns && u[i] != 0)) return 0;
-    return pairs == smaller && are_none_below(u, v);
+    return pairs == smaller && are_none_below();
 }
 
 /* The least cost of so many more pairs, in rows from this one on; FAR if there are none. */
@@ -622,7 +633,8 @@ static wide least_pairs(size_t row, unsigned taken, size_t pairs) {
 }
 
 /* Whether fewer marked rows and columns than the smaller side has meet all allowed pairs. */
-static int is_cover(const int64_t *rows, const int64_t *columns) {
+static int is_cover(void) {
+    const wide *rows = priced.rows, *columns = priced.columns;
     size_t i, j, marks = 0;
     for (i = 0; i < table.rows; i++) marks += rows[i] == 1;
     for (j = 0; j < table.columns; j++) marks += columns[j] == 1;
@@ -633,8 +645,7 @@ static int is_cover(const int64_t *rows, const int64_t *columns) {
 }
 
 /* Whether the prices show that the entries are a plan of least cost, which `spent` gets. */
-static int is_plan(const struct mcf_shipment *plan, size_t used, const int64_t *u, const int64_t *v,
-                   wide *spent) {
+static int is_plan(const struct mcf_shipment *plan, size_t used, wide *spent) {
     wide supplies[LINES], demands[LINES];
     size_t i, j, k;
     *spent = 0;
@@ -644,7 +655,7 @@ static int is_plan(const struct mcf_shipment *plan, size_t used, const int64_t *
         i = plan[k].row, j = plan[k].column;
         if (i >= table.rows || j >= table.columns || cost_at(i, j) == INT64_MAX) return 0;
         if (plan[k].amount < 0) return 0;
-        if (plan[k].amount > 0 && (wide)cost_at(i, j) - u[i] - v[j] != 0) return 0;
+        if (plan[k].amount > 0 && reduced(i, j) != 0) return 0;
         supplies[i] -= plan[k].amount;
         demands[j] -= plan[k].amount;
         *spent += (wide)cost_at(i, j) * plan[k].amount;
@@ -653,7 +664,7 @@ static int is_plan(const struct mcf_shipment *plan, size_t used, const int64_t *
         if (supplies[i] != 0) return 0;
     for (j = 0; j < table.columns; j++)
         if (demands[j] != 0) return 0;
-    return are_none_below(u, v);
+    return are_none_below();
 }
 
 /* The least cost of a plan for what is left, in pairs from this place on; FAR if there is none. */
@@ -680,7 +691,8 @@ static wide least_plan(size_t place, int64_t *supplies, int64_t *demands) {
 }
 
 /* Whether the marks exclude every plan by a side. */
-static int is_cut(const int64_t *rows, const int64_t *columns, uint32_t side) {
+static int is_cut(uint32_t side) {
+    const wide *rows = priced.rows, *columns = priced.columns;
     wide supply = 0, demand = 0;
     size_t i, j;
     for (i = 0; i < table.rows; i++) supply += rows[i] == 1 ? table.supplies[i] : 0;
@@ -695,10 +707,12 @@ static int is_cut(const int64_t *rows, const int64_t *columns, uint32_t side) {
     return side == MCF_SEND ? supply > demand : supply < demand;
 }
 
-static int are_marks(const int64_t *marks, size_t count) {
+static int are_marks(void) {
     size_t k;
-    for (k = 0; k < count; k++)
-        if (marks[k] != 0 && marks[k] != 1) return 0;
+    for (k = 0; k < table.rows; k++)
+        if (priced.rows[k] != 0 && priced.rows[k] != 1) return 0;
+    for (k = 0; k < table.columns; k++)
+        if (priced.columns[k] != 0 && priced.columns[k] != 1) return 0;
     return 1;
 }
 
@@ -720,98 +734,254 @@ static struct mcf_matrix matrix_at_edge(void) {
     return matrix;
 }
 
+static uint8_t *double_end, *wide_end, *other_wide_end;
+
 /* Makes what is judged read-only, or writable again. */
 static void protect_judged(int how) {
     protect(flow_end, PAGE, how), protect(other_flow_end, PAGE, how);
     protect(price_end, PAGE, how), protect(other_price_end, PAGE, how);
+    protect(wide_end, PAGE, how), protect(other_wide_end, PAGE, how);
+}
+
+/* ---- the same matrices of doubles: the entries times 2^places */
+
+static int as_doubles, places;
+
+/* The double for an entry: one that is beyond the limit is no number, or -infinity. */
+static double double_of(int64_t cost) {
+    static const double one = 1.0, zero = 0.0;
+    double value = (double)cost;
+    int k;
+    if (cost == INT64_MAX) return one / zero;
+    if (!is_up_to(COST, cost)) return cost > 0 ? zero / zero : -one / zero;
+    for (k = 0; k < places; k++) value *= 2.0;
+    for (k = 0; k > places; k--) value /= 2.0;
+    return value;
+}
+
+/* The doubles of a matrix, at the edge of memory, which is read-only from now on. */
+static struct mcf_doubles doubles_of(const struct mcf_matrix *matrix) {
+    static double values[ENTRIES];
+    struct mcf_doubles doubles;
+    size_t k;
+    for (k = 0; k < matrix->length; k++) values[k] = double_of(matrix->costs[k]);
+    protect(double_end, PAGE, PROT_READ | PROT_WRITE);
+    doubles.costs = at_edge(double_end, values, matrix->length * sizeof *values);
+    protect(double_end, PAGE, PROT_READ);
+    doubles.length = matrix->length;
+    doubles.rows = matrix->rows;
+    doubles.columns = matrix->columns;
+    doubles.stride = matrix->stride;
+    return doubles;
+}
+
+/* Takes prices over. */
+static void take_whole(const int64_t *u, size_t rows, const int64_t *v, size_t columns) {
+    size_t k;
+    priced.lift = 0;
+    for (k = 0; k < rows; k++) priced.rows[k] = u[k];
+    for (k = 0; k < columns; k++) priced.columns[k] = v[k];
+}
+
+static wide price_of(struct mcf_wide words, int shift) {
+    return ((wide)words.high * ((wide)1 << 64) + words.low) * ((wide)1 << shift);
+}
+
+/* Takes prices in units of 2^(unit - 1074) over, in these or in those of 2^places. Where the first
+   are much finer, all finite entries are 0, so that the second do, too. */
+static void take_wide(const struct mcf_wide *y, size_t rows, const struct mcf_wide *z,
+                      size_t columns, int64_t unit) {
+    int64_t shift = unit - 1074 - places;
+    size_t k;
+    CHECK(shift < 64);
+    if (shift < -64) shift = 0;
+    priced.lift = shift < 0 ? (int)-shift : 0;
+    for (k = 0; k < rows; k++) priced.rows[k] = price_of(y[k], shift > 0 ? (int)shift : 0);
+    for (k = 0; k < columns; k++) priced.columns[k] = price_of(z[k], shift > 0 ? (int)shift : 0);
+}
+
+/* The prices as 64-bit numbers at the edge of memory. */
+static const int64_t *narrowed(uint8_t *end, const wide *prices, size_t count) {
+    static int64_t numbers[ROOMS];
+    size_t k;
+    for (k = 0; k < count; k++) numbers[k] = (int64_t)prices[k];
+    return at_edge(end, numbers, count * sizeof *numbers);
+}
+
+/* The prices in two words each at the edge of memory. */
+static const struct mcf_wide *widened(uint8_t *end, const wide *prices, size_t count) {
+    static struct mcf_wide words[ROOMS];
+    size_t k;
+    for (k = 0; k < count; k++)
+        words[k].low = (uint64_t)prices[k], words[k].high = (int64_t)(prices[k] >> 64);
+    return at_edge(end, words, count * sizeof *words);
+}
+
+/* The unit of the prices. */
+static uint32_t unit_now(void) { return (uint32_t)(1074 + places - priced.lift); }
+
+/* Assigns with rooms for so many prices, which are taken over if there are any. */
+static uint32_t assign(const struct mcf_matrix *matrix, uint32_t *column_of, size_t column_count,
+                       size_t rows, size_t columns) {
+    int64_t *u = room_at(price_end, rows * sizeof *u),
+            *v = room_at(other_price_end, columns * sizeof *v);
+    struct mcf_wide *y = room_at(wide_end, rows * sizeof *y),
+                    *z = room_at(other_wide_end, columns * sizeof *z);
+    struct mcf_doubles doubles;
+    uint32_t unit = 77, status;
+    if (as_doubles) {
+        doubles = doubles_of(matrix);
+        status = mcf_assign_doubles(&doubles, column_of, column_count, y, rows, z, columns, &unit);
+        if (status > MCF_FLOW) CHECK(unit == 77);
+        if (status == MCF_BLOCKED) unit = (uint32_t)(1074 + places);
+        if (status <= MCF_BLOCKED) take_wide(y, rows, z, columns, unit);
+    } else {
+        status = mcf_assign_matrix(matrix, column_of, column_count, u, rows, v, columns);
+        if (status <= MCF_BLOCKED) take_whole(u, rows, v, columns);
+    }
+    if (status > MCF_BLOCKED) {
+        CHECK(is_seven(u, rows * sizeof *u) && is_seven(v, columns * sizeof *v));
+        CHECK(is_seven(y, rows * sizeof *y) && is_seven(z, columns * sizeof *z));
+    }
+    return status;
+}
+
+static struct mcf_transport_doubles transport_of(const struct mcf_transport *problem) {
+    struct mcf_transport_doubles doubles;
+    doubles.matrix = doubles_of(&problem->matrix);
+    doubles.supplies = problem->supplies, doubles.supply_count = problem->supply_count;
+    doubles.demands = problem->demands, doubles.demand_count = problem->demand_count;
+    return doubles;
+}
+
+/* Sends with rooms for so many prices, which are taken over if there are any. */
+static uint32_t send(const struct mcf_transport *problem, struct mcf_shipment *plan, size_t length,
+                     size_t rows, size_t columns, struct mcf_planned *told) {
+    int64_t *u = room_at(price_end, rows * sizeof *u),
+            *v = room_at(other_price_end, columns * sizeof *v);
+    struct mcf_wide *y = room_at(wide_end, rows * sizeof *y),
+                    *z = room_at(other_wide_end, columns * sizeof *z);
+    struct mcf_planned_doubles all = {77, 77, 77};
+    struct mcf_transport_doubles doubles;
+    uint32_t status;
+    if (as_doubles) {
+        doubles = transport_of(problem);
+        status = mcf_transport_doubles(&doubles, plan, length, y, rows, z, columns, &all);
+        if (status > MCF_BLOCKED) CHECK(all.unit == 77);
+        if (status == MCF_BLOCKED) CHECK(all.unit == 0);
+        if (status == MCF_BLOCKED) all.unit = (uint32_t)(1074 + places);
+        if (status <= MCF_BLOCKED) take_wide(y, rows, z, columns, all.unit);
+        told->used = all.used, told->side = all.side;
+    } else {
+        status = mcf_transport_matrix(problem, plan, length, u, rows, v, columns, told);
+        if (status <= MCF_BLOCKED) take_whole(u, rows, v, columns);
+    }
+    if (status > MCF_BLOCKED) {
+        CHECK(is_seven(u, rows * sizeof *u) && is_seven(v, columns * sizeof *v));
+        CHECK(is_seven(y, rows * sizeof *y) && is_seven(z, columns * sizeof *z));
+    }
+    return status;
 }
 
 static uint32_t judge_matrix(const struct mcf_matrix *matrix, const uint32_t *column_of,
-                             size_t column_count, const int64_t *u, size_t rows, const int64_t *v,
-                             size_t columns) {
+                             size_t column_count, size_t rows, size_t columns) {
+    const int64_t *u = narrowed(price_end, priced.rows, rows),
+                  *v = narrowed(other_price_end, priced.columns, columns);
+    const struct mcf_wide *y = widened(wide_end, priced.rows, rows),
+                          *z = widened(other_wide_end, priced.columns, columns);
+    struct mcf_doubles doubles;
     uint32_t status;
     protect_judged(PROT_READ);
-    status = mcf_check_matrix(matrix, column_of, column_count, u, rows, v, columns);
+    if (as_doubles) {
+        doubles = doubles_of(matrix);
+        status =
+            mcf_check_doubles(&doubles, column_of, column_count, y, rows, z, columns, unit_now());
+    } else {
+        status = mcf_check_matrix(matrix, column_of, column_count, u, rows, v, columns);
+    }
     protect_judged(PROT_READ | PROT_WRITE);
     return status;
 }
 
 static uint32_t judge_transport(const struct mcf_transport *problem,
-                                const struct mcf_shipment *plan, size_t used, const int64_t *u,
-                                size_t rows, const int64_t *v, size_t columns) {
+                                const struct mcf_shipment *plan, size_t used, size_t rows,
+                                size_t columns) {
+    const int64_t *u = narrowed(price_end, priced.rows, rows),
+                  *v = narrowed(other_price_end, priced.columns, columns);
+    const struct mcf_wide *y = widened(wide_end, priced.rows, rows),
+                          *z = widened(other_wide_end, priced.columns, columns);
+    struct mcf_transport_doubles doubles;
     uint32_t status;
     protect_judged(PROT_READ);
-    status = mcf_check_transport(problem, plan, used, u, rows, v, columns);
+    if (as_doubles) {
+        doubles = transport_of(problem);
+        status = mcf_check_transport_doubles(&doubles, plan, used, y, rows, z, columns, unit_now());
+    } else {
+        status = mcf_check_transport(problem, plan, used, u, rows, v, columns);
+    }
     protect_judged(PROT_READ | PROT_WRITE);
     return status;
 }
 
 /* The judge agrees with the definition on an assignment and on changed ones. */
-static void try_matrix_judge(const struct mcf_matrix *matrix, uint32_t *column_of, int64_t *u,
-                             int64_t *v) {
+static void try_matrix_judge(const struct mcf_matrix *matrix, uint32_t *column_of) {
     size_t rows = table.rows, columns = table.columns;
     int change, right;
     wide spent;
     for (change = 0; change < 6; change++) {
         if (change > 0 && rows) column_of[chance(rows)] = (uint32_t)chance(columns + 1);
-        if (change > 3 && rows) u[chance(rows)] += (int64_t)chance(3) - 1;
-        if (change > 4 && columns) v[chance(columns)] = entry();
-        right = is_assignment(column_of, u, v, &spent);
-        CHECK(judge_matrix(matrix, column_of, rows, u, rows, v, columns) == (right ? 0u : 1u));
+        if (change > 3 && rows) priced.rows[chance(rows)] += (int64_t)chance(3) - 1;
+        if (change > 4 && columns) priced.columns[chance(columns)] = entry();
+        right = is_assignment(column_of, &spent);
+        CHECK(judge_matrix(matrix, column_of, rows, rows, columns) == (right ? 0u : 1u));
     }
-    CHECK(judge_matrix(matrix, column_of - 1, rows + 1, u, rows, v, columns) == 1);
-    CHECK(judge_matrix(matrix, column_of, rows, u - 1, rows + 1, v, columns) == 1);
-    CHECK(judge_matrix(matrix, column_of, rows, u, rows, v - 1, columns + 1) == 1);
+    CHECK(judge_matrix(matrix, column_of - 1, rows + 1, rows, columns) == 1);
+    CHECK(judge_matrix(matrix, column_of, rows, rows + 1, columns) == 1);
+    CHECK(judge_matrix(matrix, column_of, rows, rows, columns + 1) == 1);
 }
 
 static void try_assign(void) {
     struct mcf_matrix matrix = matrix_at_edge();
     size_t rows = table.rows, columns = table.columns, smaller = rows < columns ? rows : columns;
     uint32_t *column_of = room_at(flow_end, rows * sizeof *column_of), status;
-    int64_t *u = room_at(price_end, rows * sizeof *u),
-            *v = room_at(other_price_end, columns * sizeof *v);
     int right = is_matrix();
     wide spent;
     protect(arc_end, PAGE, PROT_READ);
-    status = mcf_assign_matrix(&matrix, column_of, rows, u, rows, v, columns);
+    status = assign(&matrix, column_of, rows, rows, columns);
     outcomes[6 + (status < 3 ? status : 3)]++;
     CHECK(status <= MCF_INVALID_INPUT && (status == MCF_INVALID_INPUT) == !right);
     if (status != MCF_FLOW) CHECK(is_seven(column_of, rows * sizeof *column_of));
     if (status == MCF_FLOW) {
-        CHECK(is_assignment(column_of, u, v, &spent) && spent == least_pairs(0, 0, smaller));
-        try_matrix_judge(&matrix, column_of, u, v);
+        CHECK(is_assignment(column_of, &spent) && spent == least_pairs(0, 0, smaller));
+        try_matrix_judge(&matrix, column_of);
     } else if (status == MCF_BLOCKED) {
-        CHECK(are_marks(u, rows) && are_marks(v, columns) && is_cover(u, v));
+        CHECK(are_marks() && is_cover());
         CHECK(least_pairs(0, 0, smaller) == FAR);
     } else {
-        CHECK(is_seven(u, rows * sizeof *u) && is_seven(v, columns * sizeof *v));
-        CHECK(judge_matrix(&matrix, column_of, rows, u, rows, v, columns) == MCF_INVALID_INPUT);
+        CHECK(judge_matrix(&matrix, column_of, rows, rows, columns) == MCF_INVALID_INPUT);
     }
-    CHECK(mcf_assign_matrix(&matrix, column_of - 1, rows + 1, u, rows, v, columns) ==
-          MCF_BUFFER_TOO_SMALL);
-    CHECK(mcf_assign_matrix(&matrix, column_of, rows, u - 1, rows + 1, v, columns) ==
-          MCF_BUFFER_TOO_SMALL);
-    CHECK(mcf_assign_matrix(&matrix, column_of, rows, u, rows, v - 1, columns + 1) ==
-          MCF_BUFFER_TOO_SMALL);
+    CHECK(assign(&matrix, column_of - 1, rows + 1, rows, columns) == MCF_BUFFER_TOO_SMALL);
+    CHECK(assign(&matrix, column_of, rows, rows + 1, columns) == MCF_BUFFER_TOO_SMALL);
+    CHECK(assign(&matrix, column_of, rows, rows, columns + 1) == MCF_BUFFER_TOO_SMALL);
     protect(arc_end, PAGE, PROT_READ | PROT_WRITE);
 }
 
 /* The judge agrees with the definition on a plan and on changed ones. */
 static void try_plan_judge(const struct mcf_transport *problem, struct mcf_shipment *plan,
-                           size_t used, int64_t *u, int64_t *v) {
+                           size_t used) {
     size_t rows = table.rows, columns = table.columns;
     int change, right;
     wide spent;
     for (change = 0; change < 6; change++) {
         if (change > 1 && used) plan[chance(used)].column = (uint32_t)chance(columns + 1);
         if (change > 2 && used) plan[chance(used)].amount += (int64_t)chance(3) - 1;
-        if (change > 3 && rows) u[chance(rows)] += (int64_t)chance(3) - 1;
+        if (change > 3 && rows) priced.rows[chance(rows)] += (int64_t)chance(3) - 1;
         if (change > 4 && used) plan[chance(used)].amount = bound();
-        right = is_plan(plan, used, u, v, &spent);
-        CHECK(judge_transport(problem, plan, used, u, rows, v, columns) == (right ? 0u : 1u));
+        right = is_plan(plan, used, &spent);
+        CHECK(judge_transport(problem, plan, used, rows, columns) == (right ? 0u : 1u));
     }
-    CHECK(judge_transport(problem, plan, used, u - 1, rows + 1, v, columns) == 1);
-    CHECK(judge_transport(problem, plan, used, u, rows, v - 1, columns + 1) == 1);
+    CHECK(judge_transport(problem, plan, used, rows + 1, columns) == 1);
+    CHECK(judge_transport(problem, plan, used, rows, columns + 1) == 1);
 }
 
 /* Whether the masses are small enough to try all plans. */
@@ -825,15 +995,14 @@ static int are_few(void) {
 }
 
 static void try_found_plan(const struct mcf_transport *problem, struct mcf_shipment *room,
-                           size_t length, const struct mcf_planned *told, int64_t *u, int64_t *v) {
+                           size_t length, const struct mcf_planned *told) {
     struct mcf_shipment plan[ROOMS];
     wide spent;
-    CHECK(told->used <= length && told->side == 0 && is_plan(room, told->used, u, v, &spent));
+    CHECK(told->used <= length && told->side == 0 && is_plan(room, told->used, &spent));
     CHECK(is_seven(room + told->used, (length - told->used) * sizeof *room));
     if (are_few()) CHECK(spent == least_plan(0, table.supplies, table.demands));
     memcpy(plan, room, told->used * sizeof *plan);
-    try_plan_judge(problem, at_edge(other_flow_end, plan, told->used * sizeof *plan), told->used, u,
-                   v);
+    try_plan_judge(problem, at_edge(other_flow_end, plan, told->used * sizeof *plan), told->used);
 }
 
 static void try_transport(void) {
@@ -842,39 +1011,34 @@ static void try_transport(void) {
     struct mcf_transport problem;
     struct mcf_planned told = {77, 77};
     struct mcf_shipment *plan = room_at(other_flow_end, length * sizeof *plan);
-    int64_t *u = room_at(price_end, rows * sizeof *u),
-            *v = room_at(other_price_end, columns * sizeof *v);
     int right = is_matrix();
     uint32_t status;
     problem.matrix = matrix_at_edge();
-    problem.supplies = at_edge(supply_end, table.supplies, rows * sizeof *u);
+    problem.supplies = at_edge(supply_end, table.supplies, rows * sizeof *table.supplies);
     problem.supply_count = rows;
-    problem.demands = at_edge(answer_end, table.demands, columns * sizeof *v);
+    problem.demands = at_edge(answer_end, table.demands, columns * sizeof *table.demands);
     problem.demand_count = columns;
     protect(arc_end, PAGE, PROT_READ), protect(supply_end, PAGE, PROT_READ);
     protect(answer_end, PAGE, PROT_READ);
     if (length > 0 && length < all)
-        CHECK(mcf_transport_matrix(&problem, plan + 1, length - 1, u, rows, v, columns, &told) ==
-              MCF_BUFFER_TOO_SMALL);
-    status = mcf_transport_matrix(&problem, plan, length, u, rows, v, columns, &told);
+        CHECK(send(&problem, plan + 1, length - 1, rows, columns, &told) == MCF_BUFFER_TOO_SMALL);
+    status = send(&problem, plan, length, rows, columns, &told);
     outcomes[6 + (status < 3 ? status : 3)]++;
     CHECK(status <= MCF_INVALID_INPUT && (status == MCF_INVALID_INPUT) == !right);
     if (status != MCF_FLOW) CHECK(is_seven(plan, length * sizeof *plan));
     if (status == MCF_FLOW) {
-        try_found_plan(&problem, plan, length, &told, u, v);
+        try_found_plan(&problem, plan, length, &told);
     } else if (status == MCF_BLOCKED) {
-        CHECK(are_marks(u, rows) && are_marks(v, columns) && is_cut(u, v, told.side));
+        CHECK(are_marks() && is_cut(told.side));
         CHECK(told.used == 0 && told.side <= MCF_TAKE);
         if (are_few()) CHECK(least_plan(0, table.supplies, table.demands) == FAR);
     } else {
-        CHECK(is_seven(u, rows * sizeof *u) && is_seven(v, columns * sizeof *v));
         CHECK(told.used == 77 && told.side == 77);
-        CHECK(judge_transport(&problem, plan, length, u, rows, v, columns) == MCF_INVALID_INPUT);
+        CHECK(judge_transport(&problem, plan, length, rows, columns) == MCF_INVALID_INPUT);
     }
     problem.supplies--, problem.supply_count++;
-    CHECK(mcf_transport_matrix(&problem, plan, length, u, rows, v, columns, &told) ==
-          MCF_BUFFER_TOO_SMALL);
-    CHECK(judge_transport(&problem, plan, length, u, rows, v, columns) ==
+    CHECK(send(&problem, plan, length, rows, columns, &told) == MCF_BUFFER_TOO_SMALL);
+    CHECK(judge_transport(&problem, plan, length, rows, columns) ==
           (right ? 1u : (uint32_t)MCF_INVALID_INPUT));
     protect(answer_end, PAGE, PROT_READ | PROT_WRITE);
     protect(arc_end, PAGE, PROT_READ | PROT_WRITE),
@@ -912,6 +1076,7 @@ int main(int count, char **words) {
     answer_end = edge(SIZE);
     supply_end = edge(PAGE), arc_end = edge(PAGE), flow_end = edge(PAGE), price_end = edge(PAGE);
     other_flow_end = edge(PAGE), other_price_end = edge(PAGE);
+    double_end = edge(PAGE), wide_end = edge(PAGE), other_wide_end = edge(PAGE);
     try_text(0);
     try_sizes();
     try_overlap();
@@ -931,8 +1096,11 @@ int main(int count, char **words) {
         try_arrays();
         make_matrix();
         make_masses();
-        try_assign();
-        try_transport();
+        places = chance(4) ? (int)chance(1900) - 1000 : -1074;
+        for (as_doubles = 0; as_doubles < 2; as_doubles++) {
+            try_assign();
+            try_transport();
+        }
         if (count > 2) try_changed(words[2 + chance((uint64_t)count - 2)]);
     }
     printf("texts: %ld flows, %ld sets, %ld refusals; arrays: %ld flows, %ld sets, %ld faults; "

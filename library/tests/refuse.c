@@ -51,6 +51,10 @@ static uint32_t column_of[20];
 static int64_t masses[20];
 static struct mcf_shipment plan[40];
 static struct mcf_planned told;
+static double doubles[400];
+static struct mcf_wide row_wides[20], column_wides[20];
+static struct mcf_planned_doubles told_doubles;
+static uint32_t unit;
 static size_t length, used, nodes, arc_count;
 static struct mcf_choice choice;
 static struct mcf_verdict verdict, before;
@@ -62,6 +66,9 @@ static uint32_t call(int number) {
     static const struct mcf_matrix matrix = {costs, 400, 20, 20, 20};
     static const struct mcf_transport transport = {
         {costs, 400, 20, 20, 20}, masses, 20, masses, 20};
+    static const struct mcf_doubles double_matrix = {doubles, 400, 20, 20, 20};
+    static const struct mcf_transport_doubles double_transport = {
+        {doubles, 400, 20, 20, 20}, masses, 20, masses, 20};
     problem.nodes = nodes;
     problem.arc_count = arc_count;
     switch (number) {
@@ -83,8 +90,20 @@ static uint32_t call(int number) {
         return mcf_check_matrix(&matrix, column_of, 20, flow, 20, prices, 20);
     case 8:
         return mcf_transport_matrix(&transport, plan, 40, flow, 20, prices, 20, &told);
-    default:
+    case 9:
         return mcf_check_transport(&transport, plan, told.used, flow, 20, prices, 20);
+    case 10:
+        return mcf_assign_doubles(&double_matrix, column_of, 20, row_wides, 20, column_wides, 20,
+                                  &unit);
+    case 11:
+        return mcf_check_doubles(&double_matrix, column_of, 20, row_wides, 20, column_wides, 20,
+                                 unit);
+    case 12:
+        return mcf_transport_doubles(&double_transport, plan, 40, row_wides, 20, column_wides, 20,
+                                     &told_doubles);
+    default:
+        return mcf_check_transport_doubles(&double_transport, plan, told_doubles.used, row_wides,
+                                           20, column_wides, 20, told_doubles.unit);
     }
 }
 
@@ -94,10 +113,16 @@ static int refuse_each(int number) {
     for (step = 0;; step++) {
         uint32_t status;
         int solves = number == 2 || number == 4 || number == 6 || number == 8;
+        int is_wide = number == 10 || number == 12, plans = number == 8 || number == 12;
         memset(&verdict, 9, sizeof verdict);
         if (number == 0) memset(buffer, 7, sizeof buffer);
         if (solves) memset(flow, 7, sizeof flow), memset(prices, 7, sizeof prices);
-        if (number == 8) memset(plan, 7, sizeof plan), memset(&told, 7, sizeof told);
+        if (is_wide) memset(row_wides, 7, sizeof row_wides);
+        if (is_wide) memset(column_wides, 7, sizeof column_wides);
+        if (is_wide) memset(column_of, 7, sizeof column_of), memset(&unit, 7, sizeof unit);
+        if (plans) memset(plan, 7, sizeof plan);
+        if (number == 8) memset(&told, 7, sizeof told);
+        if (number == 12) memset(&told_doubles, 7, sizeof told_doubles);
         before = verdict;
         left = step;
         live = 0;
@@ -116,8 +141,17 @@ static int refuse_each(int number) {
         if (solves &&
             (memcmp(flow, sevens, sizeof flow) != 0 || memcmp(prices, sevens, sizeof prices) != 0))
             return printf("refuse: call %d: a buffer is written\n", number);
-        if (number == 8 && (memcmp(plan, sevens, sizeof plan) != 0 || told.side != plan[0].row))
-            return printf("refuse: the plan is written\n");
+        if (plans && memcmp(plan, sevens, sizeof plan) != 0)
+            return printf("refuse: call %d: the plan is written\n", number);
+        if (number == 8 && memcmp(&told, sevens, sizeof told) != 0)
+            return printf("refuse: call %d: what is told is written\n", number);
+        if (number == 12 && memcmp(&told_doubles, sevens, sizeof told_doubles) != 0)
+            return printf("refuse: call %d: what is told is written\n", number);
+        if (is_wide && (memcmp(row_wides, sevens, sizeof row_wides) != 0 ||
+                        memcmp(column_wides, sevens, sizeof column_wides) != 0 ||
+                        memcmp(column_of, sevens, sizeof column_of) != 0 ||
+                        memcmp(&unit, sevens, sizeof unit) != 0))
+            return printf("refuse: call %d: a buffer is written\n", number);
     }
 }
 
@@ -141,8 +175,17 @@ static void make_arrays(void) {
         pairs[place].row = 1 + place / 20;
         pairs[place].column = 1 + place % 20;
         pairs[place].cost = costs[place] = (int64_t)((state >> 4) % 100);
+        doubles[place] = (double)(state >> 1) / 3.0;
     }
     for (place = 0; place < 20; place++) masses[place] = 1 + (int64_t)place % 4;
+}
+
+/* Forbids all pairs outside the first column. */
+static void forbid(void) {
+    const double one = 1.0, zero = 0.0;
+    int place;
+    for (place = 0; place < 400; place++)
+        if (place % 20 > 0) costs[place] = INT64_MAX, doubles[place] = one / zero;
 }
 
 int main(int count, char **words) {
@@ -159,13 +202,14 @@ int main(int count, char **words) {
             supplies[0] -= 1000, supplies[29] += 1000;
         }
     /* Call it with the same matrix, and with one that allows only one column. */
-    if (refuse_each(6) || refuse_each(7) || refuse_each(8) || refuse_each(9)) return 1;
-    for (place = 0; place < 400; place++)
-        if (place % 20 > 0) costs[place] = INT64_MAX;
-    if (refuse_each(6) || refuse_each(8)) return 1;
+    for (number = 6; number < 14; number++)
+        if (refuse_each(number)) return 1;
+    forbid();
+    for (number = 6; number < 14; number += 2)
+        if (refuse_each(number)) return 1;
     /* The masses differ in total. */
     masses[0] = -1;
-    if (refuse_each(8)) return 1;
+    if (refuse_each(8) || refuse_each(12)) return 1;
     choice.pricing = 0;
     for (place = 1; place < count; place++) {
         FILE *file = fopen(words[place], "rb");

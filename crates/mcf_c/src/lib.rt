@@ -13,6 +13,7 @@
 mod arrays;
 mod choosing;
 mod double_matrices;
+mod double_transports;
 mod handing;
 mod judging;
 mod matrices;

@@ -36,29 +36,31 @@ pub struct McfPlanned {
     pub side: u32,
 }
 
-// Returns whether there are a supply and a price for each row, a demand and a price for each
-// column, and room for one entry less than there are rows and columns together.
-fn has_rooms(
-    problem: &McfTransport<'_>,
-    plan: &[Shipment],
-    row_prices: usize,
-    column_prices: usize,
-) -> bool
-    ensures { IsTrue result ↔ HasRooms problem.now (length plan.now) row_prices column_prices }
+/// How many rows and columns there are.
+#[derive(Clone, Copy)]
+pub(crate) struct Lines {
+    pub(crate) rows: usize,
+    pub(crate) columns: usize,
+}
+
+/// Returns whether there are a supply and a price for each row, a demand and a price for each
+/// column, and room for one entry less than there are rows and columns together.
+pub(crate) fn has_rooms(lines: Lines, masses: &Masses<'_>, plan: &[Shipment], prices: Lines) -> bool
+    ensures { IsTrue result ↔ HasRooms lines.rows lines.columns masses.now.supplies.now masses.now.demands.now (length plan.now) prices.rows prices.columns }
 {
-    if problem.supplies.len() != problem.matrix.rows {
+    if masses.supplies.len() != lines.rows {
         return false;
     }
-    if problem.demands.len() != problem.matrix.columns {
+    if masses.demands.len() != lines.columns {
         return false;
     }
-    if row_prices != problem.matrix.rows {
+    if prices.rows != lines.rows {
         return false;
     }
-    if column_prices != problem.matrix.columns {
+    if prices.columns != lines.columns {
         return false;
     }
-    problem.supplies.len() + problem.demands.len() <= plan.len() + 1
+    masses.supplies.len() + masses.demands.len() <= plan.len() + 1
 }
 
 /// Finds a least transport plan, and writes its entries to the beginning of a buffer, and prices of
@@ -81,35 +83,41 @@ pub extern "C" fn mcf_transport_matrix(
     told: &mut McfPlanned,
 ) -> u32
     ensures statuses { (result ≤ 4) ⊎ (result ≡ 7) }
-    ensures plan { result ≡ 0 → HandsPlan problem.now room.old room.new told.new row_prices.new column_prices.new }
+    ensures plan { result ≡ 0 → HandsPlan (costs_of problem.now.matrix) problem.now.supplies.now problem.now.demands.now room.old room.new told.new.used row_prices.new column_prices.new }
+    ensures side { result ≡ 0 → told.new.side ≡ 0 }
     ensures least { result ≡ 0 → IsLeastPlan (costs_of problem.now.matrix) problem.now.supplies.now problem.now.demands.now (take told.new.used room.new) }
-    ensures cut { result ≡ 1 → MarksCut problem.now row_prices.new column_prices.new told.new }
+    ensures cut { result ≡ 1 → MarksCut (costs_of problem.now.matrix) problem.now.supplies.now problem.now.demands.now row_prices.new column_prices.new told.new.side }
+    ensures unused { result ≡ 1 → told.new.used ≡ 0 }
     ensures none { result ≡ 1 → (plan : List Shipment) → ¬ IsPlan (costs_of problem.now.matrix) problem.now.supplies.now problem.now.demands.now plan }
     ensures within { result ≤ 1 → IsMatrix (table_of problem.now.matrix) }
     ensures fault { result ≡ 2 → ¬ IsMatrix (table_of problem.now.matrix) }
     ensures memory { result ≡ 3 → 1 ≤ problem.now.matrix.rows + problem.now.matrix.columns }
-    ensures room { result ≡ 4 → ¬ HasRooms problem.now (length room.old) (length row_prices.old) (length column_prices.old) }
-    ensures rooms { (result ≤ 3) ⊎ (result ≡ 7) → HasRooms problem.now (length room.old) (length row_prices.old) (length column_prices.old) }
+    ensures room { result ≡ 4 → ¬ HasRooms problem.now.matrix.rows problem.now.matrix.columns problem.now.supplies.now problem.now.demands.now (length room.old) (length row_prices.old) (length column_prices.old) }
+    ensures rooms { (result ≤ 3) ⊎ (result ≡ 7) → HasRooms problem.now.matrix.rows problem.now.matrix.columns problem.now.supplies.now problem.now.demands.now (length room.old) (length row_prices.old) (length column_prices.old) }
     ensures plan_stays { 1 ≤ result → room.new ≡ room.old }
     ensures row_prices_stay { 2 ≤ result → row_prices.new ≡ row_prices.old }
     ensures column_prices_stay { 2 ≤ result → column_prices.new ≡ column_prices.old }
     ensures told_stays { 2 ≤ result → told.new ≡ told.old }
 {
-    if !has_rooms(problem, room, row_prices.len(), column_prices.len()) {
-        return BUFFER_TOO_SMALL;
-    }
     let McfMatrix {
         costs,
         rows,
         columns,
         stride,
     } = problem.matrix;
-    let Ok(matrix) = Matrix::of(costs, rows, columns, stride) else {
-        return INVALID_INPUT;
-    };
     let masses = Masses {
         supplies: problem.supplies,
         demands: problem.demands,
+    };
+    let prices = Lines {
+        rows: row_prices.len(),
+        columns: column_prices.len(),
+    };
+    if !has_rooms(Lines { rows, columns }, &masses, room, prices) {
+        return BUFFER_TOO_SMALL;
+    }
+    let Ok(matrix) = Matrix::of(costs, rows, columns, stride) else {
+        return INVALID_INPUT;
     };
     match plan(alloc, &matrix, &masses) {
         Ok(Planned::Least(found)) => put_plan(&found, room, row_prices, column_prices, told),

@@ -80,6 +80,19 @@ pub enum AssignedDoubles {
     Refused,
 }
 
+/// The answer to a transport problem with doubles for costs.
+#[derive(Clone, Debug, PartialEq, Eq)]
+pub enum PlannedDoubles {
+    /// What goes from which row to which column, and prices of rows and columns, in units of
+    /// 2^(unit - 1074), which show that the exact sum is least.
+    Least { plan: Vec<Shipment>, row_prices: Vec<i128>, column_prices: Vec<i128>, unit: u32 },
+    /// Rows that supply more than the columns demand that they may send to; or, by `Take`, columns
+    /// that demand more than the rows supply that may send to them.
+    Infeasible { side: Side, rows: Vec<usize>, columns: Vec<usize> },
+    /// The number of costs isn't rows times columns, or a cost is a NaN or -infinity.
+    Refused,
+}
+
 /// A verdict in the numbers of `mcf.h`.
 #[derive(Clone, Copy, Debug, PartialEq, Eq)]
 pub struct Verdict {
@@ -168,19 +181,48 @@ pub fn assign_doubles(costs: &[f64], rows: usize, columns: usize) -> Result<Assi
     let (mut column_of, mut unit) = (vec![0; rows], 0);
     let (mut row_prices, mut column_prices) = (vec![raw::Wide::default(); rows], vec![raw::Wide::default(); columns]);
     let status = raw::assign_doubles(costs, (rows, columns), &mut column_of, &mut row_prices, &mut column_prices, &mut unit);
-    let numbers = |prices: &[raw::Wide]| prices.iter().map(|price| price.number()).collect::<Vec<i128>>();
-    let marked = |marks: &[raw::Wide]| (0..marks.len()).filter(|i| marks[*i].number() == 1).collect();
     match status {
         0 => {
             let column_of = column_of.iter().map(|j| Some(*j as usize).filter(|j| *j < columns)).collect();
             let (row_prices, column_prices) = (numbers(&row_prices), numbers(&column_prices));
             Ok(AssignedDoubles::Least { column_of, row_prices, column_prices, unit })
         }
-        1 => Ok(AssignedDoubles::Infeasible { rows: marked(&row_prices), columns: marked(&column_prices) }),
+        1 => Ok(AssignedDoubles::Infeasible { rows: widely_marked(&row_prices), columns: widely_marked(&column_prices) }),
         raw::INVALID_INPUT => Ok(AssignedDoubles::Refused),
         raw::NOT_SHOWN => Err(Error::NotShown),
         _ => Err(Error::NoMemory),
     }
+}
+
+/// The least-cost transport plan, exactly, for a matrix of doubles that is stored row by row. Rows
+/// and columns count from 0, and `f64::INFINITY` forbids a pair.
+pub fn transport_doubles(costs: &[f64], supplies: &[i64], demands: &[i64]) -> Result<PlannedDoubles, Error> {
+    let (rows, columns) = (supplies.len(), demands.len());
+    let (mut row_prices, mut column_prices) = (vec![raw::Wide::default(); rows], vec![raw::Wide::default(); columns]);
+    let mut plan = vec![Shipment { row: 0, column: 0, amount: 0 }; rows + columns];
+    let (status, told) = raw::transport_doubles(costs, (supplies, demands), &mut plan, &mut row_prices, &mut column_prices);
+    match status {
+        0 => {
+            plan.truncate(told.used);
+            let (row_prices, column_prices) = (numbers(&row_prices), numbers(&column_prices));
+            Ok(PlannedDoubles::Least { plan, row_prices, column_prices, unit: told.unit })
+        }
+        1 => {
+            let (rows, columns) = (widely_marked(&row_prices), widely_marked(&column_prices));
+            Ok(PlannedDoubles::Infeasible { side: side_of(told.side), rows, columns })
+        }
+        raw::INVALID_INPUT => Ok(PlannedDoubles::Refused),
+        raw::NOT_SHOWN => Err(Error::NotShown),
+        _ => Err(Error::NoMemory),
+    }
+}
+
+fn numbers(prices: &[raw::Wide]) -> Vec<i128> {
+    prices.iter().map(|price| price.number()).collect()
+}
+
+fn widely_marked(marks: &[raw::Wide]) -> Vec<usize> {
+    (0..marks.len()).filter(|i| marks[*i].number() == 1).collect()
 }
 
 /// The verdict on a flow by arc, prices by node and a cost, or `None` if the arrays have a fault or

@@ -133,6 +133,24 @@ struct Doubles {
     stride: usize,
 }
 
+/// A transport problem with doubles for costs, as `mcf.h` has it.
+#[repr(C)]
+struct TransportDoubles {
+    matrix: Doubles,
+    supplies: *const i64,
+    supply_count: usize,
+    demands: *const i64,
+    demand_count: usize,
+}
+
+#[repr(C)]
+#[derive(Clone, Copy, Debug, Default)]
+pub struct PlannedDoubles {
+    pub used: usize,
+    pub side: u32,
+    pub unit: u32,
+}
+
 /// A whole number in two words.
 #[repr(C)]
 #[derive(Clone, Copy, Default)]
@@ -148,7 +166,9 @@ impl Wide {
 }
 
 mod exports {
-    use super::{Assignment, Choice, Doubles, FlowProblem, Matrix, Planned, Shipment, Told, Transport, Wide};
+    use super::{
+        Assignment, Choice, Doubles, FlowProblem, Matrix, Planned, PlannedDoubles, Shipment, Told, Transport, TransportDoubles, Wide,
+    };
 
     #[rustfmt::skip]
     unsafe extern "C" {
@@ -166,6 +186,8 @@ mod exports {
             row_prices: *mut i64, row_prices_length: usize, column_prices: *mut i64, column_prices_length: usize, told: *mut Planned) -> u32;
         pub fn mcf_assign_doubles(matrix: *const Doubles, column_of: *mut u32, column_of_length: usize,
             row_prices: *mut Wide, row_prices_length: usize, column_prices: *mut Wide, column_prices_length: usize, unit: *mut u32) -> u32;
+        pub fn mcf_transport_doubles(problem: *const TransportDoubles, plan: *mut Shipment, plan_length: usize,
+            row_prices: *mut Wide, row_prices_length: usize, column_prices: *mut Wide, column_prices_length: usize, told: *mut PlannedDoubles) -> u32;
     }
 }
 
@@ -228,4 +250,20 @@ pub fn assign_doubles(
         exports::mcf_assign_doubles(&matrix, column_of.as_mut_ptr(), column_of.len(),
             row_prices.as_mut_ptr(), row_prices.len(), column_prices.as_mut_ptr(), column_prices.len(), unit)
     }
+}
+
+pub fn transport_doubles(
+    costs: &[f64], masses: (&[i64], &[i64]), plan: &mut [Shipment], row_prices: &mut [Wide], column_prices: &mut [Wide],
+) -> (u32, PlannedDoubles) {
+    let (supplies, demands) = masses;
+    let matrix = Doubles { costs: costs.as_ptr(), length: costs.len(), rows: supplies.len(), columns: demands.len(), stride: demands.len() };
+    let problem = TransportDoubles {
+        matrix, supplies: supplies.as_ptr(), supply_count: supplies.len(), demands: demands.as_ptr(), demand_count: demands.len(),
+    };
+    let mut told = PlannedDoubles::default();
+    let status = unsafe {
+        exports::mcf_transport_doubles(&problem, plan.as_mut_ptr(), plan.len(),
+            row_prices.as_mut_ptr(), row_prices.len(), column_prices.as_mut_ptr(), column_prices.len(), &mut told)
+    };
+    (status, told)
 }

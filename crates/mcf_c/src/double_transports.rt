@@ -1,0 +1,223 @@
+//! Least transport plans of cost matrices of doubles in arrays, and the judge of such plans.
+ghost use Rattle.std.specs.Prelude.{◌≡◌, ◌≤◌, ◌+◌, ◌⊎◌, ◌↔◌, List, drop, length, map, take};
+ghost use Rattle.mcf_matrix.specs.declared.shipment.Shipment.{Shipment};
+ghost use Rattle.mcf_matrix.specs.Plans.{IsLeastPlan, IsPlan, IsShownPlan};
+ghost use Rattle.mcf_matrix_doubles.specs.DoublePrices.{AreSmallPrices, in_units};
+ghost use Rattle.mcf_matrix_doubles.specs.DoubleTables.{IsDoubleMatrix};
+ghost use Rattle.mcf_c.specs.DoubleMatrices.{double_costs_of, doubles_of, wide_values};
+ghost use Rattle.mcf_c.specs.Handing.{mark_of};
+ghost use Rattle.mcf_c.specs.Transports.{HandsPlan, HasRooms, MarksCut};
+ghost use Rattle.mcf_c.specs.Verdicts.{side_number};
+
+use crate::double_matrices::McfDoubles;
+use crate::statuses::{
+    ACCEPTED, BLOCKED, BUFFER_TOO_SMALL, FLOW, INVALID_INPUT, NO_MEMORY, NOT_SHOWN, REJECTED,
+};
+use crate::transports::{Lines, has_rooms};
+use crate::verdicts::side_number;
+use crate::wide::{McfWide, numbers_of, put_wide, put_wide_marks};
+use mcf_double_solver::{Cut, DoubleMatrix, DoublePlan, DoublePlanned, plan};
+use mcf_matrix::{Masses, Shipment};
+use mcf_matrix_doubles::{DoublePrices, judge_transport};
+use std::alloc::Global;
+
+/// A transport problem in arrays: a cost matrix of doubles, what each row supplies, and what each
+/// column demands.
+#[repr(C)]
+#[derive(Clone, Copy)]
+pub struct McfDoubleTransport<'a> {
+    pub matrix: McfDoubles<'a>,
+    pub supplies: &'a [i64],
+    pub demands: &'a [i64],
+}
+
+/// How many entries a plan has, the side of a cut, and the unit of the prices.
+#[repr(C)]
+#[derive(Clone, Copy)]
+pub struct McfDoublePlanned {
+    pub used: usize,
+    pub side: u32,
+    pub unit: u32,
+}
+
+/// Finds a least transport plan for a cost matrix of doubles, which it reads exactly. Writes its
+/// entries to the beginning of a buffer, and prices of rows and columns that show it, in units of
+/// 2^unit * 2^-1074.
+///
+/// The status is 0 for a plan; 1 if there is none: the prices then mark by 1 rows and columns that
+/// have more to send, or to take, than they can, and all others by 0; 2 if rows overlap or don't
+/// end within the costs, or an entry is a NaN or -infinity; 3 if memory runs out; 4 if a buffer or
+/// the masses don't have the length of the rows or columns, or the plan has no room for one entry
+/// less than rows and columns; and 7 if nothing was shown. `told` becomes the number of entries and
+/// the unit, or the side of the cut. From 2 on all buffers and `told` are unchanged, and at 1 the
+/// plan is.
+#[unsafe(no_mangle)]
+pub extern "C" fn mcf_transport_doubles(
+    alloc: Global,
+    problem: &McfDoubleTransport<'_>,
+    room: &mut [Shipment],
+    row_prices: &mut [McfWide],
+    column_prices: &mut [McfWide],
+    told: &mut McfDoublePlanned,
+) -> u32
+    ensures statuses { (result ≤ 4) ⊎ (result ≡ 7) }
+    ensures plan { result ≡ 0 → HandsPlan (double_costs_of problem.now.matrix) problem.now.supplies.now problem.now.demands.now room.old room.new told.new.used (in_units told.new.unit (wide_values row_prices.new)) (in_units told.new.unit (wide_values column_prices.new)) }
+    ensures side { result ≡ 0 → told.new.side ≡ 0 }
+    ensures least { result ≡ 0 → IsLeastPlan (double_costs_of problem.now.matrix) problem.now.supplies.now problem.now.demands.now (take told.new.used room.new) }
+    ensures cut { result ≡ 1 → MarksCut (double_costs_of problem.now.matrix) problem.now.supplies.now problem.now.demands.now (wide_values row_prices.new) (wide_values column_prices.new) told.new.side }
+    ensures unused { result ≡ 1 → (told.new.used ≡ 0) × (told.new.unit ≡ 0) }
+    ensures none { result ≡ 1 → (plan : List Shipment) → ¬ IsPlan (double_costs_of problem.now.matrix) problem.now.supplies.now problem.now.demands.now plan }
+    ensures within { result ≤ 1 → IsDoubleMatrix (doubles_of problem.now.matrix) }
+    ensures fault { result ≡ 2 → ¬ IsDoubleMatrix (doubles_of problem.now.matrix) }
+    ensures memory { result ≡ 3 → 1 ≤ problem.now.matrix.rows + problem.now.matrix.columns }
+    ensures room { result ≡ 4 → ¬ HasRooms problem.now.matrix.rows problem.now.matrix.columns problem.now.supplies.now problem.now.demands.now (length room.old) (length row_prices.old) (length column_prices.old) }
+    ensures rooms { (result ≤ 3) ⊎ (result ≡ 7) → HasRooms problem.now.matrix.rows problem.now.matrix.columns problem.now.supplies.now problem.now.demands.now (length room.old) (length row_prices.old) (length column_prices.old) }
+    ensures plan_stays { 1 ≤ result → room.new ≡ room.old }
+    ensures row_prices_stay { 2 ≤ result → row_prices.new ≡ row_prices.old }
+    ensures column_prices_stay { 2 ≤ result → column_prices.new ≡ column_prices.old }
+    ensures told_stays { 2 ≤ result → told.new ≡ told.old }
+{
+    let McfDoubles {
+        costs,
+        rows,
+        columns,
+        stride,
+    } = problem.matrix;
+    let masses = Masses {
+        supplies: problem.supplies,
+        demands: problem.demands,
+    };
+    let prices = Lines {
+        rows: row_prices.len(),
+        columns: column_prices.len(),
+    };
+    if !has_rooms(Lines { rows, columns }, &masses, room, prices) {
+        return BUFFER_TOO_SMALL;
+    }
+    let Ok(matrix) = DoubleMatrix::of(costs, rows, columns, stride) else {
+        return INVALID_INPUT;
+    };
+    match plan(alloc, &matrix, &masses) {
+        Ok(DoublePlanned::Least(found)) => put_plan(&found, room, row_prices, column_prices, told),
+        Ok(DoublePlanned::Infeasible(cut)) => put_cut(&cut, row_prices, column_prices, told),
+        Ok(DoublePlanned::NotShown) => NOT_SHOWN,
+        Err(_) => NO_MEMORY,
+    }
+}
+
+// Writes a plan with its prices, if it has room.
+fn put_plan(
+    found: &DoublePlan,
+    room: &mut [Shipment],
+    row_prices: &mut [McfWide],
+    column_prices: &mut [McfWide],
+    told: &mut McfDoublePlanned,
+) -> u32
+    requires row_prices { length row_prices.old ≡ length found.now.row_prices.items }
+    requires column_prices { length column_prices.old ≡ length found.now.column_prices.items }
+    ensures statuses { (result ≡ 0) ⊎ (result ≡ 7) }
+    ensures fits { result ≡ 0 → told.new.used ≤ length room.new }
+    ensures plan { result ≡ 0 → take told.new.used room.new ≡ found.now.shipments.items }
+    ensures rest { result ≡ 0 → drop told.new.used room.new ≡ drop told.new.used room.old }
+    ensures row_prices { result ≡ 0 → wide_values row_prices.new ≡ found.now.row_prices.items }
+    ensures column_prices { result ≡ 0 → wide_values column_prices.new ≡ found.now.column_prices.items }
+    ensures side { result ≡ 0 → told.new.side ≡ 0 }
+    ensures unit { result ≡ 0 → told.new.unit ≡ found.now.unit }
+    ensures plan_stays { result ≡ 7 → room.new ≡ room.old }
+    ensures row_prices_stay { result ≡ 7 → row_prices.new ≡ row_prices.old }
+    ensures column_prices_stay { result ≡ 7 → column_prices.new ≡ column_prices.old }
+    ensures told_stays { result ≡ 7 → told.new ≡ told.old }
+{
+    let shipments = found.shipments.as_slice();
+    if room.len() < shipments.len() {
+        return NOT_SHOWN;
+    }
+    *told = McfDoublePlanned {
+        used: shipments.len(),
+        side: 0,
+        unit: found.unit,
+    };
+    room[..shipments.len()].copy_from_slice(shipments);
+    put_wide(found.row_prices.as_slice(), row_prices);
+    put_wide(found.column_prices.as_slice(), column_prices);
+    FLOW
+}
+
+// Writes the marks of a cut and its side.
+fn put_cut(
+    cut: &Cut,
+    row_marks: &mut [McfWide],
+    column_marks: &mut [McfWide],
+    told: &mut McfDoublePlanned,
+) -> u32
+    requires rows { length row_marks.old ≡ length cut.now.rows.items }
+    requires columns { length column_marks.old ≡ length cut.now.columns.items }
+    ensures status { result ≡ 1 }
+    ensures rows { wide_values row_marks.new ≡ map mark_of cut.now.rows.items }
+    ensures columns { wide_values column_marks.new ≡ map mark_of cut.now.columns.items }
+    ensures side { told.new.side ≡ side_number cut.now.side }
+    ensures used { told.new.used ≡ 0 }
+    ensures unit { told.new.unit ≡ 0 }
+{
+    put_wide_marks(cut.rows.as_slice(), row_marks);
+    put_wide_marks(cut.columns.as_slice(), column_marks);
+    *told = McfDoublePlanned {
+        used: 0,
+        side: side_number(cut.side),
+        unit: 0,
+    };
+    BLOCKED
+}
+
+/// Judges a transport plan with prices for a matrix of doubles, whoever made them, exactly.
+///
+/// The status is 0 if the prices show the plan least; 1 if they don't, a price isn't less than
+/// 2^125 from 0, or an array doesn't have the length of the rows or columns; 2 if the matrix has a
+/// fault; and 3 if memory runs out.
+#[unsafe(no_mangle)]
+pub extern "C" fn mcf_check_transport_doubles(
+    alloc: Global,
+    problem: &McfDoubleTransport<'_>,
+    plan: &[Shipment],
+    row_prices: &[McfWide],
+    column_prices: &[McfWide],
+    unit: u32,
+) -> u32
+    ensures statuses { result ≤ 3 }
+    ensures exact { result ≤ 1 → (result ≡ 0) ↔ (AreSmallPrices (wide_values row_prices.now) × AreSmallPrices (wide_values column_prices.now)
+        × IsShownPlan (double_costs_of problem.now.matrix) problem.now.supplies.now problem.now.demands.now plan.now (in_units unit (wide_values row_prices.now)) (in_units unit (wide_values column_prices.now))) }
+    ensures least { result ≡ 0 → IsLeastPlan (double_costs_of problem.now.matrix) problem.now.supplies.now problem.now.demands.now plan.now }
+    ensures within { result ≤ 1 → IsDoubleMatrix (doubles_of problem.now.matrix) }
+    ensures fault { result ≡ 2 → ¬ IsDoubleMatrix (doubles_of problem.now.matrix) }
+    ensures memory { result ≡ 3 → 1 ≤ length row_prices.now + length column_prices.now + problem.now.matrix.rows + problem.now.matrix.columns }
+{
+    let McfDoubles {
+        costs,
+        rows,
+        columns,
+        stride,
+    } = problem.matrix;
+    let Ok(matrix) = DoubleMatrix::of(costs, rows, columns, stride) else {
+        return INVALID_INPUT;
+    };
+    let Ok(rows) = numbers_of(alloc, row_prices) else {
+        return NO_MEMORY;
+    };
+    let Ok(columns) = numbers_of(alloc, column_prices) else {
+        return NO_MEMORY;
+    };
+    let masses = Masses {
+        supplies: problem.supplies,
+        demands: problem.demands,
+    };
+    let prices = DoublePrices {
+        rows: rows.as_slice(),
+        columns: columns.as_slice(),
+        unit,
+    };
+    match judge_transport(alloc, &matrix, &masses, plan, &prices) {
+        Ok(true) => ACCEPTED,
+        Ok(false) => REJECTED,
+        Err(_) => NO_MEMORY,
+    }
+}
