@@ -61,7 +61,7 @@ quick:
 	@scripts/ci.py --quick
 
 clean:
-	rm -rf bin bench/out crates/*/out
+	rm -rf bin bench/out crates/*/out python/mcf/_small.abi3.so
 
 bench:
 	@python3 bench/run.py

@@ -210,8 +210,7 @@ def frames(words):
 
 
 def transport(words):
-    """Transport between points of the plane, by masses that are equal or random. Costs are rounded
-    to multiples of 2^-40, and random masses are whole, since `mcf.emd` is exact."""
+    """Transport between points of the plane, by masses that are equal or random."""
     try:
         import ot
     except ImportError:
@@ -221,13 +220,10 @@ def transport(words):
     def cells(power, masses):
         for size in POINTS:
             chance = np.random.default_rng(words.seed + size)
-            costs = np.rint(distances(chance, size, size, power) * 2**40) / 2**40
-            shares = np.full(size, 1 / size)
-            a, b = (
-                (shares, shares)
-                if masses == "equal"
-                else chance.multinomial(10**6, shares, size=2).astype(float)
-            )
+            costs = distances(chance, size, size, power)
+            a, b = np.ones((2, size)) if masses == "equal" else chance.random((2, size))
+            a, b = a / a.sum(), b / b.sum()
+            assert np.isclose(mcf.emd2(a, b, costs), ot.emd2(a, b, costs), rtol=1e-9)
             times = least(lambda: mcf.emd(a, b, costs), lambda: ot.emd(a, b, costs))
             yield cell(*times, 1.2 if size < 100 else GOALS["transport"])
 
@@ -240,12 +236,11 @@ def transport(words):
 
 
 PEAK = """
-import resource, sys
+import sys
 import numpy as np
 sys.path[:0] = {paths!r}
 import mcf, matrices
 matrix = matrices.FAMILIES[{family!r}](np.random.default_rng(1), 3000, 3000)
-before = resource.getrusage(resource.RUSAGE_SELF).ru_maxrss
 with open("/proc/self/clear_refs", "w") as file: file.write("5")
 def of(name): return [int(l.split()[1]) for l in open("/proc/self/status") if l.startswith(name)][0]
 held = of("VmRSS")

@@ -29,15 +29,17 @@ BIN = TOP / "bin"
 PACKAGING = TOP / "packaging"
 # The targets that build parts of bin/. Each leaves the line of its kit in bin/PART.kit.
 TARGETS = {"programs": "make", "library": "make library", "page": "make page"}
-# The packed files of bin/, the part that each belongs to, and its sources. Only the page may be
-# missing.
+# The packed files of bin/, the part that each belongs to, and its sources.
 BUILT = {
     "mcf": ("programs", "crates/"),
     "mcfcheck": ("programs", "crates/"),
     "libmcf.so.1": ("library", "crates/"),
     "libmcf.a": ("library", "crates/"),
+    "_small.abi3.so": ("library", "library/python/", "library/mcf.h"),
     "mcf.html": ("page", "crates/", "page/"),
 }
+# Those that may be missing: the page, and the Python module's extension for small matrices.
+OPTIONAL = ("_small.abi3.so", "mcf.html")
 
 
 def stop(why):
@@ -81,7 +83,7 @@ def look(version, proved):
         stop("packages are for Linux on x86-64, and made there")
     for name, (part, *sources) in BUILT.items():
         if not (BIN / name).is_file():
-            if name == "mcf.html":
+            if name in OPTIONAL:
                 continue
             stop(f"bin/{name} isn't there; run {TARGETS[part]} first")
         if (BIN / name).stat().st_mtime < int(git("log", "-1", "--format=%ct", "--", *sources)):
@@ -212,8 +214,12 @@ def pack_wheel(folder, version, provenance, at):
     tag = f"py3-none-{'manylinux2014' if needed <= 17 else f'manylinux_2_{needed}'}_x86_64"
     about = f"yokdelm-{version}.dist-info"
     files = {
-        f"mcf/{file.name}": file.read_bytes() for file in sorted((TOP / "python/mcf").glob("*.*"))
+        f"mcf/{file.name}": file.read_bytes()
+        for file in sorted((TOP / "python/mcf").glob("*.*"))
+        if file.suffix != ".so"
     }
+    if (BIN / "_small.abi3.so").is_file():
+        files["mcf/_small.abi3.so"] = (BIN / "_small.abi3.so").read_bytes()
     files["mcf/libmcf.so"] = (BIN / "libmcf.so.1").read_bytes()
     for name in ("METADATA", "WHEEL", "entry_points.txt"):
         files[f"{about}/{name}"] = filled(f"python/{name}", VERSION=version, TAG=tag).encode()

@@ -1,19 +1,22 @@
 """Minimum-cost flow with proved answers.
 
-`solve` takes supplies and arcs, and `solve_arrays` columns of them. `linear_sum_assignment` takes a
-cost matrix, `transport` one with supplies and demands, and `emd` and `emd2` histograms, as POT's
-functions of these names do. `SimpleMinCostFlow`, `SimpleMaxFlow` and `SimpleLinearSumAssignment`
-have the methods of OR-tools' classes, and `mcf.nx` takes networkx graphs. The checker judges each
-answer before the package returns it, unless `check=False`. `solve_text` and `check_text` take texts
-in the DIMACS formats.
+`solve` takes supplies and arcs, and `solve_arrays` columns of them. `linear_sum_assignment` and
+`assign` take a cost matrix, `transport` one with supplies and demands, and `emd` and `emd2`
+histograms, as POT's functions of these names do. `SimpleMinCostFlow`, `SimpleMaxFlow` and
+`SimpleLinearSumAssignment` have the methods of OR-tools' classes, and `mcf.nx` takes networkx
+graphs. The checker judges each answer before the package returns it, unless `check=False`; by
+`check_arrays` it judges a flow that anybody made. `solve_text` and `check_text` take texts in the
+DIMACS formats.
 """
 from typing import Optional, Tuple, Union
 
 from . import _library
 from ._arrays import ArrayFlow, solve_arrays
 from ._errors import Infeasible, MCFError, NotAccepted, Refused, Unbounded
+from ._judging import check_arrays
 from ._library import Verdict
 from ._solving import Flow, solve
+from .assigning import Assignment, assign
 from .assignment import linear_sum_assignment
 from .earth_mover import emd, emd2
 from .simple import SimpleLinearSumAssignment, SimpleMaxFlow, SimpleMinCostFlow
@@ -21,6 +24,7 @@ from .transportation import Plan, transport
 
 __all__ = [
     "ArrayFlow",
+    "Assignment",
     "Flow",
     "Infeasible",
     "MCFError",
@@ -32,6 +36,8 @@ __all__ = [
     "SimpleMinCostFlow",
     "Unbounded",
     "Verdict",
+    "assign",
+    "check_arrays",
     "check_text",
     "emd",
     "emd2",

@@ -63,7 +63,7 @@ class ArrayFlow(Flow[Any, Any]):
     __hash__ = None  # type: ignore[assignment]
 
 
-class _Kind:
+class Kind:
     """How columns are read and results are written: by numpy if a column is a numpy array, or an
     object like one; as array.array if a column is a buffer; and otherwise as lists."""
 
@@ -143,8 +143,11 @@ class _Kind:
         return array("q" if set(map(type, values)) <= {int} else "d", values)
 
 
-def _columns(*columns: Any) -> List[Any]:
-    """The columns, which have one length, as sequences."""
+def columns_of(*columns: Any, low: Any = None) -> List[Any]:
+    """The columns and, at the end, the least amounts, which alone may be None: of one length."""
+    if any(column is None for column in columns):
+        raise TypeError("a column of numbers is no None")
+    columns = (*columns, low)
     for column in columns:
         if isinstance(column, (Mapping, Set, str, bytes, bytearray)):
             raise TypeError("a column of numbers is no %s" % type(column).__name__)
@@ -157,12 +160,12 @@ def _columns(*columns: Any) -> List[Any]:
     return found
 
 
-def _values(column: Any) -> List[Any]:
+def values_of(column: Any) -> List[Any]:
     return list(listed(column))
 
 
 def _solve_whole(
-    kind: _Kind, supplies: Any, columns: Sequence[Any], choice: Choice, check: bool
+    kind: Kind, supplies: Any, columns: Sequence[Any], choice: Choice, check: bool
 ) -> Tuple[ArcArrays, Optional[Verdict]]:
     """Solves an instance of whole numbers with capacities. OverflowError or TypeError before it is
     solved if it isn't one."""
@@ -176,12 +179,14 @@ def _solve_whole(
     problem = ArcArrays(amounts, len(amounts), rows, len(src))
     status = problem.solve(choice)
     if status in (INVALID_INPUT, BLOCKED):
-        lows = repeat(0) if low is None else _values(low)
-        arcs: List[Arc] = list(zip(_values(src), _values(dst), lows, _values(cap), _values(cost)))
+        lows = repeat(0) if low is None else values_of(low)
+        arcs: List[Arc] = list(
+            zip(values_of(src), values_of(dst), lows, values_of(cap), values_of(cost))
+        )
         limits = Limits(arcs, [], set())  # type: ignore[arg-type]
         if status == INVALID_INPUT:
-            raise refused_by(problem, _values(amounts), limits)
-        raise blocked_by(problem, _values(amounts), arcs, limits, check)
+            raise refused_by(problem, values_of(amounts), limits)
+        raise blocked_by(problem, values_of(amounts), arcs, limits, check)
     return problem, judged(problem) if check else None
 
 
@@ -238,18 +243,18 @@ def solve_arrays(
     >>> solve_arrays(array("q", [1, -1]), [0], [1], [5], [3]).flow
     array('q', [1])
     """
-    (supplies,) = _columns(supplies)
-    columns = _columns(src, dst, cap, cost, low)
-    kind, choice = _Kind([supplies, *columns]), flow_choice(engine)
+    supplies = columns_of(supplies)[0]
+    columns = columns_of(src, dst, cap, cost, low=low)
+    kind, choice = Kind([supplies, *columns]), flow_choice(engine)
     try:
         problem, verdict = _solve_whole(kind, supplies, columns, choice, check)
     except (OverflowError, TypeError):
         # Numbers that aren't whole or don't fit, or a price beyond 64 bits, which comes again.
-        lists = [_values(column) for column in columns if column is not None]
+        lists = [values_of(column) for column in columns if column is not None]
         lows = repeat(0) if low is None else lists[4]
         tails, heads = (list(map(as_node, ends)) for ends in lists[:2])
         rows = list(zip(tails, heads, lows, lists[2], lists[3]))
-        found = solve_rows(None, _values(supplies), rows, choice, check)
+        found = solve_rows(None, values_of(supplies), rows, choice, check)
         return ArrayFlow(found, kind.result(found.flow), kind.result(found.prices))
     found = Flow(problem.told.number, [], verdict, (), None, 1)
     return ArrayFlow(found, kind.result(problem.flow), kind.result(problem.prices))

@@ -7,7 +7,7 @@ import os
 import sys
 import threading
 from array import array
-from typing import Any, Dict, List, NamedTuple, Optional, Tuple, Union
+from typing import Any, Callable, Dict, List, NamedTuple, Optional, Sequence, Tuple, Union
 
 (
     FLOW,
@@ -138,6 +138,10 @@ class Planned(ctypes.Structure):
     _fields_ = [("used", ctypes.c_size_t), ("side", ctypes.c_uint32)]
 
 
+class PlannedDoubles(ctypes.Structure):
+    _fields_ = [("used", ctypes.c_size_t), ("side", ctypes.c_uint32), ("unit", ctypes.c_uint32)]
+
+
 class Verdict(NamedTuple):
     """The checker's verdict on an answer.
 
@@ -202,6 +206,7 @@ def _load() -> ctypes.CDLL:
     library.mcf_assign_matrix.argtypes = lines
     plans: List[Any] = [ctypes.POINTER(TransportProblem), at, size, *rooms]
     library.mcf_transport_matrix.argtypes = plans + [ctypes.POINTER(Planned)]
+    library.mcf_transport_doubles.argtypes = plans + [ctypes.POINTER(PlannedDoubles)]
     library.mcf_assign_doubles.argtypes = [*lines, ctypes.POINTER(word)]
     for function in (
         library.mcf_solve,
@@ -212,6 +217,7 @@ def _load() -> ctypes.CDLL:
         library.mcf_check_pairs,
         library.mcf_assign_matrix,
         library.mcf_transport_matrix,
+        library.mcf_transport_doubles,
         library.mcf_assign_doubles,
     ):
         function.restype = word
@@ -219,6 +225,24 @@ def _load() -> ctypes.CDLL:
 
 
 _lib = _load()
+
+
+def _found_small() -> Optional[Callable[[Any, bool], Optional[Tuple[Any, Any]]]]:
+    """The call for small matrices of numpy: it returns the matched rows and their columns, or None
+    if it leaves a matrix to the caller. None if the extension isn't built, or not for this Python:
+    `library/python/small.c` is for the stable interface of CPython 3.11 and later."""
+    if sys.implementation.name != "cpython" or sys.version_info < (3, 11):
+        return None
+    try:
+        from . import _small
+    except ImportError:
+        return None
+    functions = _lib.mcf_assign_matrix, _lib.mcf_assign_doubles
+    _small.bind(*(ctypes.cast(function, ctypes.c_void_p).value or 0 for function in functions))
+    return _small.assign
+
+
+assign_small = _found_small()
 
 
 def choice_of(
@@ -340,12 +364,25 @@ class Arrays:
 
     def check(self) -> Verdict:
         """The checker's verdict on the flow, the prices and the cost in `told`."""
-        told = Told(0, 0, self.told.negative, self.told.low, self.told.high)
-        words = (self.problem, *self._rooms, told)
-        status = self._call(self._check, words, len(self.flow) // 16)
+        status, told = self.judged()
         if status > 1:
             raise failed(status)
         return Verdict(status == 0, VERDICTS[told.kind], told.number, "")
+
+    def judged(self) -> Tuple[int, Told]:
+        """The status of the checker's call, and what it tells: the verdict, or the first fault of
+        the arrays."""
+        told = Told(0, 0, self.told.negative, self.told.low, self.told.high)
+        words = (self.problem, *self._rooms, told)
+        return int(self._call(self._check, words, len(self.flow) // 16)), told
+
+    def claim(self, flow: Any, prices: Any, cost: int) -> None:
+        """Fills the buffers with a flow, prices and the flow's cost, for the checker. The flow and
+        the prices are buffers of 8-byte integers, as many as the arrays have."""
+        self.flow[:] = array("q", memoryview(flow).cast("B").tobytes())
+        self.prices[:] = array("q", memoryview(prices).cast("B").tobytes())
+        size = abs(cost)
+        self.told = Told(0, 0, cost < 0, size & (2**64 - 1), size >> 64)
 
     def _call(self, function: Any, words: Tuple[Any, ...], size: int) -> Any:
         return _called(function, words, self) if size > LASTING_ARCS else function(*words)
@@ -390,19 +427,45 @@ class PairArrays(Arrays):
         self._room(pair_count, rows + columns)
 
 
-class MatrixArrays:
+class Priced:
+    """Buffers for the prices of rows and of columns: of a word each for whole costs; for doubles of
+    two, the low one, which has no sign, and the high one, in units of 2^(unit - 1074)."""
+
+    __slots__ = ("_prices",)
+    # How many words a price has.
+    words = 1
+
+    def __init__(self, rows: int, columns: int):
+        self._prices = [array("q", bytes(self.words * 8 * size)) for size in (rows, columns)]
+
+    @property
+    def row_prices(self) -> List[int]:
+        """The prices of rows, or their marks."""
+        return self._numbers(self._prices[0])
+
+    @property
+    def column_prices(self) -> List[int]:
+        """The prices of columns, or their marks."""
+        return self._numbers(self._prices[1])
+
+    def _numbers(self, words: "array[int]") -> List[int]:
+        if self.words == 1:
+            return words.tolist()
+        lows = memoryview(words).cast("B").cast("Q")[::2].tolist()
+        return [low + (high << 64) for low, high in zip(lows, words[1::2])]
+
+
+class MatrixArrays(Priced):
     """A matrix of 64-bit integers at an address, with buffers for the column of each row and for
     prices."""
 
-    __slots__ = ("matrix", "column_of", "_prices", "_rooms", "_kept")
-    # How many words a price has.
-    words = 1
+    __slots__ = ("matrix", "column_of", "_rooms", "_kept")
 
     def __init__(self, address: int, rows: int, columns: int, stride: int, kept: Any):
         length = (rows - 1) * stride + columns if rows else 0
         self.matrix = CostMatrix(address or 8, length, rows, columns, stride)
         self.column_of = array("I", bytes(4 * rows))
-        self._prices = [array("q", bytes(self.words * 8 * size)) for size in (rows, columns)]
+        super().__init__(rows, columns)
         self._kept = kept
         rooms = zip((self.column_of, *self._prices), (rows, rows, columns))
         self._rooms = tuple(word for room, size in rooms for word in (at(room), size))
@@ -424,47 +487,50 @@ class MatrixArrays:
 class DoubleArrays(MatrixArrays):
     """The same for a matrix of doubles."""
 
-    __slots__ = ()
+    __slots__ = ("unit",)
     words = 2
 
     def assign(self) -> int:
-        unit = ctypes.byref(ctypes.c_uint32())
-        return self._call(_lib.mcf_assign_doubles, *self._rooms, unit)
+        self.unit = ctypes.c_uint32()
+        return self._call(_lib.mcf_assign_doubles, *self._rooms, ctypes.byref(self.unit))
 
 
 class Costs(NamedTuple):
     """A cost matrix in memory: any buffer of 8-byte numbers that `at` takes, how many of them there
-    are, and how far apart its rows begin."""
+    are, how far apart its rows begin, and whether they are doubles."""
 
     buffer: Any
     length: int
     rows: int
     columns: int
     stride: int
+    are_doubles: bool = False
 
 
-class TransportArrays:
-    """A cost matrix with supplies and demands, and buffers for a plan and for prices."""
+class TransportArrays(Priced):
+    """A cost matrix of 64-bit integers with supplies and demands, and buffers for a plan and for
+    prices."""
 
-    __slots__ = ("problem", "told", "plan", "row_prices", "column_prices", "_prices", "_kept")
+    __slots__ = ("problem", "told", "plan", "_kept")
+    told: Any
 
     def __init__(self, costs: Costs, supplies: Any, demands: Any):
-        _, length, rows, columns, stride = costs
+        rows, columns = costs.rows, costs.columns
         self._kept = (costs, supplies, demands)
-        matrix = CostMatrix(at(costs.buffer), length, rows, columns, stride)
+        matrix = CostMatrix(at(costs.buffer), costs.length, rows, columns, costs.stride)
         self.problem = TransportProblem(matrix, at(supplies), rows, at(demands), columns)
-        self.told = Planned()
+        self.told = self._nothing_told()
         # An entry is 16 bytes: its row, its column, and its amount.
         self.plan = array("q", bytes(16 * (rows + columns)))
-        self.row_prices = array("q", bytes(8 * rows))
-        self.column_prices = array("q", bytes(8 * columns))
-        self._prices = (at(self.row_prices), rows, at(self.column_prices), columns)
+        super().__init__(rows, columns)
+
+    def _nothing_told(self) -> Any:
+        return Planned()
 
     def solve(self) -> int:
         """Solves the problem and returns the status: FLOW, BLOCKED, INVALID_INPUT or NOT_SHOWN. The
         library judges what it finds."""
-        words = (self.problem, at(self.plan), len(self.plan) // 2, *self._prices, self.told)
-        return self._call(_lib.mcf_transport_matrix, words)
+        return self._call(_lib.mcf_transport_matrix)
 
     def entries(self) -> List[Tuple[int, int, int]]:
         """The row, the column and the amount of each entry of the plan, in order."""
@@ -472,14 +538,31 @@ class TransportArrays:
         amounts = self.plan[1 : 2 * self.told.used : 2]
         return sorted(zip(rows[::4].tolist(), rows[1::4].tolist(), amounts))
 
-    def _call(self, function: Any, words: Tuple[Any, ...]) -> int:
-        lasts = self.problem.matrix.length > LASTING_ARCS
+    def _call(self, function: Any) -> int:
+        matrix = self.problem.matrix
+        rooms = zip(self._prices, (matrix.rows, matrix.columns))
+        prices = (word for room, size in rooms for word in (at(room), size))
+        words = (self.problem, at(self.plan), len(self.plan) // 2, *prices, self.told)
+        lasts = matrix.length > LASTING_ARCS
         status = _called(function, words, self) if lasts else function(*words)
         if status in (NO_MEMORY, BUFFER_TOO_SMALL):
             raise failed(status)
         return int(status)
 
 
-def marked(marks: "array[int]") -> List[int]:
+class DoubleTransportArrays(TransportArrays):
+    """The same for a matrix of doubles."""
+
+    __slots__ = ()
+    words = 2
+
+    def _nothing_told(self) -> Any:
+        return PlannedDoubles()
+
+    def solve(self) -> int:
+        return self._call(_lib.mcf_transport_doubles)
+
+
+def marked(marks: Sequence[int]) -> List[int]:
     """The indices of the marks that are 1."""
     return [place for place, mark in enumerate(marks) if mark]

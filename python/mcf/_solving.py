@@ -148,7 +148,7 @@ def flow_choice(
     return choice_of(engine if is_asked else "fast", pricing or "block", block)
 
 
-def _packed(arcs: Sequence[Limited]) -> bytes:
+def packed(arcs: Sequence[Limited]) -> bytes:
     """The arcs in the library's layout. A number beyond a limit stays beyond it."""
     try:
         numbers = [(u + 1, v + 1, low, cap, cost) for u, v, low, cap, cost in arcs]
@@ -167,7 +167,7 @@ def _packed(arcs: Sequence[Limited]) -> bytes:
         return struct.pack("=" + "IIqqq" * len(arcs), *chain.from_iterable(numbers))
 
 
-def _supplied(supplies: Sequence[int]) -> "array[int]":
+def supplied(supplies: Sequence[int]) -> "array[int]":
     try:
         return array("q", supplies)
     except OverflowError:
@@ -191,6 +191,27 @@ def _must_and_can(
             else:
                 must += low
     return must, can, limiting
+
+
+def reached(
+    arcs: Iterable[Tuple[Any, Any, Any]], flow: Iterable[Any], start: Any, is_onward: bool
+) -> "set[Any]":
+    """The nodes to which residual paths lead from a node, or from which they lead to it. An arc has
+    its tail, its head and its capacity; its lower bound is 0."""
+    near: Dict[Any, List[Any]] = {}
+    for (tail, head, cap), amount in zip(arcs, flow):
+        before, after = (tail, head) if is_onward else (head, tail)
+        if amount < cap:
+            near.setdefault(before, []).append(after)
+        if amount > 0:
+            near.setdefault(after, []).append(before)
+    found, stack = {start}, [start]
+    while stack:
+        for node in near.get(stack.pop(), ()):
+            if node not in found:
+                found.add(node)
+                stack.append(node)
+    return found
 
 
 def refused_by(problem: ArcArrays, supplies: Sequence[int], limits: Limits) -> Refused:
@@ -283,7 +304,7 @@ def solve_whole(
     is a negative-cost cycle of arcs without capacity, unless it was 10^18 that bound the flow.
     """
     limits = limited_arcs(supplies, arcs, beyond)
-    problem = ArcArrays(_supplied(supplies), len(supplies), _packed(limits.arcs), len(arcs))
+    problem = ArcArrays(supplied(supplies), len(supplies), packed(limits.arcs), len(arcs))
     status = problem.solve(choice)
     if status == INVALID_INPUT:
         raise refused_by(problem, supplies, limits)
@@ -396,7 +417,7 @@ def _are_whole(amounts: List[Any], rows: Sequence[Tuple[Any, ...]]) -> bool:
     )
 
 
-def _scaled(
+def scaled_rows(
     amounts: List[Any], rows: Sequence[Tuple[Any, ...]]
 ) -> Tuple[List[int], List[Any], int, int]:
     """Supplies and arcs in whole numbers, and the factors by which amounts and costs were
@@ -426,7 +447,7 @@ def _scaled(
     return amounts, exacts, units, costs
 
 
-def _restored(error: Refused, labels: Optional[Sequence[Any]], scales: Dict[str, int]) -> Refused:
+def restored(error: Refused, labels: Optional[Sequence[Any]], scales: Dict[str, int]) -> Refused:
     """A refusal in the caller's labels and numbers."""
     named: Any = (lambda v: v) if labels is None else labels.__getitem__
     scale = scales.get(error.reason, 1)
@@ -449,7 +470,7 @@ def solve_rows(
     beyond: float = 0,
 ) -> Flow[Any, Any]:
     """Solves an instance with numbers of any type, whose nodes are numbered and may have labels."""
-    amounts, exacts, units, costs = _scaled([exact(b) for b in given], rows)
+    amounts, exacts, units, costs = scaled_rows([exact(b) for b in given], rows)
     try:
         problem, verdict = solve_whole(amounts, exacts, choice, check, beyond)
     except Infeasible as error:
@@ -460,7 +481,7 @@ def solve_rows(
     except Refused as error:
         scales = {"cost": costs, "total": units * costs}
         scales.update(dict.fromkeys(("supply", "bound", "order", "unlimited"), units))
-        raise _restored(error, labels, scales) from None
+        raise restored(error, labels, scales) from None
     flow: List[Number] = list(problem.flow)
     if units != 1:
         flow = [unscaled(f, units) for f in problem.flow]

@@ -17,6 +17,7 @@ from ._library import (
     DoubleArrays,
     MatrixArrays,
     PairArrays,
+    assign_small,
     choice_of,
 )
 from ._limits import COST
@@ -86,7 +87,7 @@ def linear_sum_assignment(
         No matching covers all rows or all columns without an infinite entry; or `cost_matrix` isn't
         a matrix.
     Refused
-        A scaled entry is beyond 10^15; or floats have bits that lie more than 118 places apart.
+        A scaled entry is beyond 10^15; or the bits of floats span more than 118.
     TypeError
         An entry isn't a number.
 
@@ -95,6 +96,10 @@ def linear_sum_assignment(
     >>> linear_sum_assignment([[4, 1, 3], [2, 0, 5], [3, 2, 2]])
     ([0, 1, 2], [1, 0, 2])
     """
+    if engine == "auto" and assign_small is not None:
+        pair = assign_small(cost_matrix, maximize)
+        if pair is not None:
+            return pair
     table = _table(cost_matrix) if engine == "auto" else None
     found = _by_array(table, maximize) if table is not None else None
     if found is not None:

@@ -1,29 +1,76 @@
 """The earth mover's distance, with the interface of POT's `emd` and `emd2`. It needs numpy."""
 import math
 from fractions import Fraction
-from typing import Any, Dict, NamedTuple, Tuple, Union
+from typing import Any, Dict, List, NamedTuple, Tuple, Union
 
-from ._errors import Refused
-from ._limits import COST
-from .transportation import Plan, transport
+from ._library import BLOCKED, FLOW, FORBIDDEN, INVALID_INPUT, DoubleTransportArrays
+from .transportation import in_place, infeasible, total_of, unit_of
 
 # Masses have at most so many bits in their unit, so that their sum fits 64.
 MASS_BITS = 62
+# The sum of masses that aren't representable is made 2 to this power.
+TOTAL_BITS = 52
 
 
-class _Scaled(NamedTuple):
-    """Whole numbers, and the number that one stands for."""
+class _Masses(NamedTuple):
+    """Supplies and demands as whole numbers, and the number that one stands for."""
 
-    numbers: Any
+    supplies: Any
+    demands: Any
     unit: Fraction
 
 
 class _Solved(NamedTuple):
-    """A plan, and the numbers that a unit of its masses and a unit of its costs stand for."""
+    """The arrays of a problem that is solved, and its masses."""
 
-    plan: Plan
-    mass: Fraction
-    cost: Fraction
+    problem: DoubleTransportArrays
+    masses: _Masses
+
+    def dense(self) -> Any:
+        """The plan as a matrix."""
+        import numpy
+
+        plan = numpy.frombuffer(self.problem.plan, dtype=numpy.int64)
+        lines = plan.view(numpy.uint32).reshape(-1, 4)[: self.problem.told.used]
+        amounts = plan[1 : 2 * len(lines) : 2]
+        G = numpy.zeros((len(self.masses.supplies), len(self.masses.demands)))
+        G[lines[:, 0], lines[:, 1]] = _multiples(amounts, self.masses.unit)
+        return G
+
+    def cost(self) -> float:
+        """The least cost, rounded once."""
+        return self._cost((self.problem.row_prices, self.problem.column_prices))
+
+    def _cost(self, prices: Tuple[List[int], List[int]]) -> float:
+        _, _, unit = self.masses
+        masses = self.masses.supplies.tolist(), self.masses.demands.tolist()
+        return float(total_of(prices, *masses) * unit * unit_of(self.problem))
+
+    def log(self, center_dual: bool) -> Dict[str, Any]:
+        """The log of POT, with the prices as dual variables, and the masses of the plan."""
+        import numpy
+
+        supplies, demands, unit = self.masses
+        prices = self.problem.row_prices, self.problem.column_prices
+        places = self.problem.told.unit - 1074
+        u, v = (numpy.ldexp(numpy.array(line, dtype=float), places) for line in prices)
+        a, b = _multiples(supplies, unit), _multiples(demands, unit)
+        total = a.sum() + b.sum()
+        if center_dual and total > 0:
+            shift = (b @ v - a @ u) / total
+            u, v = u + shift, v - shift
+        told = {"cost": self._cost(prices), "u": u, "v": v, "a": a, "b": b}
+        return {**told, "warning": None, "result_code": 1}
+
+
+def _multiples(numbers: Any, unit: Fraction) -> Any:
+    """Multiples of a unit as doubles."""
+    import numpy
+
+    if unit < Fraction(1, 2**1000):
+        # The unit alone may round to 0.
+        return numpy.array([float(number * unit) for number in numbers.tolist()])
+    return numbers * float(unit)
 
 
 def emd(
@@ -39,19 +86,22 @@ def emd(
     """Solves the earth mover's distance problem: the plan of least cost that turns one histogram
     into another.
 
-    The answer is exact, so masses and costs have to be representable: costs are whole multiples of
-    one power of two, of at most 10^15 units, as whole numbers and rounded decimals in binary are;
-    masses are all equal in `a` and all equal in `b`, or whole multiples of one power of two, with
-    at most 62 bits and equal sums.
+    The plan is exactly least: costs are the numbers that their bits stand for, and masses are whole
+    multiples of a unit. They are those given if these are multiples of one power of two, with at
+    most 62 bits and equal sums. Equal masses in `a`, and equal ones in `b`, are the sum of `a` over
+    their number. Otherwise `b` is scaled to the sum of `a`, as POT does, and the unit is the 2^52nd
+    part of that sum: each mass is rounded down to units, and those that are left go one by one to
+    the masses with the greatest remainders. So each mass then changes by less than a unit.
 
     Parameters
     ----------
     a : array of n floats
-        The masses of the source; empty for equal ones of sum 1.
+        The masses of the source, read as doubles; empty for equal ones of sum 1.
     b : array of m floats
         The masses of the target; empty for equal ones of sum 1.
     M : array of n x m floats or integers
-        The costs. An infinite one forbids a pair.
+        The costs. An infinite one forbids a pair. Doubles whose rows are contiguous are read where
+        they are, without a copy: no other thread may change them during the call.
     numItermax : int
         Unused: the search decides by itself when it gives up.
     log : bool
@@ -62,22 +112,26 @@ def emd(
     numThreads : int or str
         Unused.
     check_marginals : bool
-        Whether equal masses need the same sum up to 7 decimals.
+        Whether the sums have to be the same up to 7 decimals.
 
     Returns
     -------
     G : array of n x m floats
         The plan.
     log : dict
-        If `log` is true: 'cost', the dual variables 'u' and 'v', 'warning' and 'result_code'.
+        If `log` is true: 'cost', the dual variables 'u' and 'v', the masses 'a' and 'b' that the
+        plan has, 'warning' and 'result_code'.
 
     Raises
     ------
     ValueError
-        Masses or costs aren't representable, which the message explains, or the shapes or sums
-        differ.
+        The shapes or sums differ; a mass isn't finite, or a cost is a NaN or -infinity; or costs
+        aren't representable: their bits span more than 118, integers are beyond 2^53, or their
+        type is wider than 64 bits.
     Infeasible
         A mass is negative, or the pairs that aren't forbidden don't suffice.
+    OverflowError
+        `log` is true, and the cost is beyond doubles.
 
     Examples
     --------
@@ -89,8 +143,8 @@ def emd(
     """
     a, b, M = _arguments(a, b, M)
     solved = _solved(a, b, M, check_marginals)
-    G = _dense(solved, M.shape)
-    return (G, _log(solved, a, b, center_dual)) if log else G
+    G = solved.dense()
+    return (G, solved.log(center_dual)) if log else G
 
 
 def emd2(
@@ -131,6 +185,8 @@ def emd2(
     ------
     ValueError, Infeasible
         As for `emd`.
+    OverflowError
+        The cost is beyond doubles.
 
     Examples
     --------
@@ -140,148 +196,128 @@ def emd2(
     import numpy
 
     b = numpy.asarray(b, dtype=float)
-    if b.ndim == 2 and b.shape[1] > 1:
+    if b.ndim == 2 and b.shape[1] != 1:
         options = (numItermax, log, return_matrix, center_dual, numThreads, check_marginals)
         return [emd2(a, b[:, k], M, 1, *options) for k in range(b.shape[1])]
     a, b, M = _arguments(a, b.reshape(-1), M)
     solved = _solved(a, b, M, check_marginals)
     if not log and not return_matrix:
-        return _cost(solved)
-    told = _log(solved, a, b, center_dual)
+        return solved.cost()
+    told = solved.log(center_dual)
     if return_matrix:
-        told["G"] = _dense(solved, M.shape)
-    return _cost(solved), told
+        told["G"] = solved.dense()
+    return told["cost"], told
 
 
 def _arguments(a: Any, b: Any, M: Any) -> Tuple[Any, Any, Any]:
-    """Masses as doubles, and costs as doubles or integers, of shapes that fit."""
+    """Masses and costs as doubles, of shapes that fit."""
     import numpy
 
     a, b, M = numpy.asarray(a, dtype=float), numpy.asarray(b, dtype=float), numpy.asarray(M)
     if M.ndim != 2:
         raise ValueError("M isn't a matrix: %d dimensions" % M.ndim)
-    if M.dtype.kind not in "iu":
-        M = M.astype(float)
+    if M.dtype.kind not in "biuf" or M.dtype.itemsize > 8:
+        raise ValueError("costs aren't representable: %s; use float64" % M.dtype)
+    M = _doubles(M) if M.dtype.kind in "iu" else M.astype(float, copy=False)
     n, m = M.shape
     a = numpy.full(n, 1 / n) if a.size == 0 and n else a
     b = numpy.full(m, 1 / m) if b.size == 0 and m else b
     if a.shape != (n,) or b.shape != (m,):
         raise ValueError("M is %d x %d, for masses of shapes %s and %s" % (n, m, a.shape, b.shape))
+    if not numpy.isfinite(a).all() or not numpy.isfinite(b).all():
+        raise ValueError("masses have to be finite numbers")
     return a, b, M
 
 
+def _doubles(M: Any) -> Any:
+    """Integers as doubles, which they have to be exactly. The greatest of 64 bits is infinite."""
+    costs = M.astype(float)
+    if M.size and max(abs(int(M.min())), abs(int(M.max()))) > 2**53:
+        forbidden = M == FORBIDDEN
+        if ((M > 2**53) & ~forbidden).any() or int(M.min()) < -(2**53):
+            raise ValueError("costs aren't representable: an integer is beyond 2^53; round it")
+        costs[forbidden] = math.inf
+    return costs
+
+
 def _solved(a: Any, b: Any, M: Any, check_marginals: bool) -> _Solved:
-    supplies, demands, mass = _masses(a, b, check_marginals)
-    costs = _costs(M)
-    try:
-        return _Solved(transport(costs.numbers, supplies, demands), mass, costs.unit)
-    except Refused as error:
-        raise ValueError("costs aren't representable: %s" % error) from None
+    import numpy
+
+    masses = _masses(a, b, check_marginals)
+    problem = DoubleTransportArrays(in_place(M, numpy.float64), masses.supplies, masses.demands)
+    status = problem.solve()
+    if status == BLOCKED:
+        raise infeasible(problem, masses.supplies.tolist(), masses.demands.tolist())
+    if status == INVALID_INPUT:
+        raise ValueError("costs have to be numbers, or infinite to forbid a pair")
+    if status != FLOW:
+        raise ValueError("costs aren't representable: their bits may span up to 118; round them")
+    return _Solved(problem, masses)
 
 
-def _masses(a: Any, b: Any, check_marginals: bool) -> Tuple[Any, Any, Fraction]:
-    """The masses as whole numbers of one unit, and the unit."""
+def _masses(a: Any, b: Any, check_marginals: bool) -> _Masses:
+    """The masses as whole numbers of one unit, with equal sums unless one is negative."""
     import numpy
 
     n, m = len(a), len(b)
     if n and m and (a == a[0]).all() and (b == b[0]).all() and a[0] > 0 and b[0] > 0:
-        total, other = Fraction(a[0]) * n, Fraction(b[0]) * m
-        if check_marginals and abs(total - other) >= Fraction(3, 2 * 10**7):
-            raise ValueError(_uneven(float(total), float(other)))
+        if check_marginals:
+            _compare(a, b)
         count = math.gcd(n, m)
         unit = Fraction(a[0]) * count / m
-        return numpy.full(n, m // count), numpy.full(m, n // count), unit
-    both = _scaled(numpy.concatenate([a, b]), "masses")
-    bits = max((abs(int(number)) for number in both.numbers), default=0).bit_length()
-    whole = [int(number) for number in both.numbers]
-    sums = sum(whole[:n]), sum(whole[n:])
-    if sums[0] != sums[1]:
-        raise ValueError(_uneven(float(sums[0] * both.unit), float(sums[1] * both.unit)))
-    if max(bits, sums[0].bit_length()) > MASS_BITS:
-        raise ValueError(
-            "masses aren't representable: as whole multiples of %g their sum has %d bits, and at"
-            " most %d are possible" % (both.unit, sums[0].bit_length(), MASS_BITS)
-        )
-    return whole[:n], whole[n:], both.unit
+        return _Masses(numpy.full(n, m // count), numpy.full(m, n // count), unit)
+    both, unit = _whole(a.tolist() + b.tolist())
+    supplies, demands = both[:n], both[n:]
+    total, other = sum(supplies), sum(demands)
+    most = max(total, other, max(both, default=0), -min(both, default=0))
+    if total == other and most.bit_length() <= MASS_BITS:
+        return _Masses(_longs(supplies), _longs(demands), unit)
+    if check_marginals:
+        _compare(a, b)
+    if total <= 0 or other <= 0:
+        # Signs alone are told then: a mass is below 0, or the sums differ.
+        return _Masses(numpy.sign(a).astype(numpy.int64), numpy.sign(b).astype(numpy.int64), unit)
+    unit = total * unit / 2**TOTAL_BITS
+    return _Masses(_shared(supplies, total), _shared(demands, other), unit)
 
 
-def _uneven(total: float, other: float) -> str:
-    return (
-        "masses aren't representable: their sums have to be equal exactly, unless the masses of"
-        " each side are equal, and differ by %g" % (total - other)
-    )
+def _compare(a: Any, b: Any) -> None:
+    """Refuses sums that differ, as POT does."""
+    difference = float(a.sum() - b.sum())
+    if not abs(difference) < 1.5e-7:
+        raise ValueError("a and b have to have the same sum: they differ by %g" % difference)
 
 
-def _costs(M: Any) -> _Scaled:
-    """The costs as whole numbers of one unit, as `transport` takes them."""
-    import numpy
-
-    if M.dtype.kind in "iu":
-        return _Scaled(M, Fraction(1))
-    finite = numpy.isfinite(M)
-    if numpy.isnan(M).any() or (M == -math.inf).any():
-        raise ValueError("costs have to be numbers, or infinite to forbid a pair")
-    scaled = _scaled(M[finite], "costs")
-    most = max((abs(int(number)) for number in scaled.numbers), default=0)
-    if most > COST:
-        raise ValueError(
-            "costs aren't representable: as whole multiples of %g the greatest is %d, and at most"
-            " 10^15 is possible; round them" % (scaled.unit, most)
-        )
-    whole = numpy.full(M.shape, numpy.iinfo(numpy.int64).max)
-    whole[finite] = scaled.numbers
-    return _Scaled(whole, scaled.unit)
-
-
-def _scaled(values: Any, what: str) -> _Scaled:
+def _whole(values: List[float]) -> Tuple[List[int], Fraction]:
     """Doubles as whole multiples of the greatest power of two that divides all of them."""
+    ratios = [value.as_integer_ratio() for value in values]
+    # Denominators are powers of two, so that the greatest is a multiple of each.
+    below = max((ratio[1] for ratio in ratios), default=1)
+    numbers = [number * (below // of) for number, of in ratios]
+    bits = 0
+    for number in numbers:
+        bits |= number
+    divisor = bits & -bits or 1
+    if divisor > 1:
+        numbers = [number // divisor for number in numbers]
+    return numbers, Fraction(divisor, below)
+
+
+def _longs(numbers: List[int]) -> Any:
     import numpy
 
-    if not numpy.isfinite(values).all():
-        raise ValueError("%s have to be finite numbers" % what)
-    fractions, exponents = numpy.frexp(values)
-    whole = (fractions * 2.0**53).astype(numpy.int64)
-    used = whole != 0
-    if not used.any():
-        return _Scaled(numpy.zeros(values.shape, dtype=numpy.int64), Fraction(1))
-    # The lowest bit that is set is a number's greatest divisor that is a power of two.
-    lowest = numpy.frexp((whole & -whole).astype(float))[1] - 1
-    places = exponents.astype(numpy.int64) - 53
-    bottom = int((places + lowest)[used].min())
-    if int(exponents[used].max()) - bottom > MASS_BITS:
-        raise ValueError(
-            "%s aren't representable: they span %d bits, from the lowest bit of any to the highest"
-            " of the greatest, and at most %d are possible; round them"
-            % (what, int(exponents[used].max()) - bottom, MASS_BITS)
-        )
-    shifts = numpy.where(used, places - bottom, 0)
-    numbers = numpy.where(
-        shifts >= 0, whole << numpy.maximum(shifts, 0), whole >> numpy.maximum(-shifts, 0)
-    )
-    return _Scaled(numbers, Fraction(2) ** bottom)
+    return numpy.array(numbers, dtype=numpy.int64)
 
 
-def _dense(solved: _Solved, shape: Tuple[int, int]) -> Any:
-    import numpy
-
-    G = numpy.zeros(shape)
-    for row, column, amount in solved.plan.shipments:
-        G[row, column] = float(amount * solved.mass)
-    return G
-
-
-def _cost(solved: _Solved) -> float:
-    return float(solved.plan.cost * solved.mass * solved.cost)
-
-
-def _log(solved: _Solved, a: Any, b: Any, center_dual: bool) -> Dict[str, Any]:
-    """The log of POT, with the prices as dual variables."""
-    import numpy
-
-    u = numpy.array([float(price * solved.cost) for price in solved.plan.row_prices])
-    v = numpy.array([float(price * solved.cost) for price in solved.plan.column_prices])
-    total = a.sum() + b.sum()
-    if center_dual and total > 0:
-        shift = (b @ v - a @ u) / total
-        u, v = u + shift, v - shift
-    return {"cost": _cost(solved), "u": u, "v": v, "warning": None, "result_code": 1}
+def _shared(masses: List[int], total: int) -> Any:
+    """Shares 2^52 units in the proportions of the masses: each gets its whole units, and those that
+    are left go one by one to the masses with the greatest remainders. A mass below 0 stays so."""
+    units, remainders = [], []
+    for mass in masses:
+        whole, remainder = divmod(mass << TOTAL_BITS, total)
+        units.append(whole)
+        remainders.append(remainder if mass > 0 else -1)
+    order = sorted(range(len(masses)), key=remainders.__getitem__, reverse=True)
+    for place in order[: max(0, 2**TOTAL_BITS - sum(units))]:
+        units[place] += 1
+    return _longs(units)

@@ -12,7 +12,7 @@ scaled number is beyond the limits of mcf, though networkx takes it: 10^18 for d
 weights. So floats of 16 digits, such as 1/3, are refused. NetworkXOverflow, another, means that a
 price doesn't fit 64 bits.
 """
-from typing import Any, Dict, List, NamedTuple, Sequence, Set, Tuple
+from typing import Any, Dict, List, NamedTuple, Optional, Sequence, Set, Tuple
 
 import networkx as nx
 
@@ -20,7 +20,7 @@ from . import _errors
 from ._errors import Infeasible, Unbounded
 from ._limits import lowered
 from ._numbers import exact, unscaled
-from ._solving import INFINITE, Flow, flow_choice, solve_rows
+from ._solving import INFINITE, Flow, flow_choice, reached, solve_rows
 from ._types import Number
 
 __all__ = [
@@ -322,6 +322,17 @@ def _require_ends(G: Any, s: Any, t: Any, flow_func: Any, others: Dict[str, Any]
         raise nx.NetworkXError("source and sink are the same node")
 
 
+def _by_networkx(
+    name: str, ends: Tuple[Any, Any, Any], capacity: str, flow_func: Any, others: Dict[str, Any]
+) -> Any:
+    """What networkx' function of a name gives for parameters of a flow function, or None if there
+    are none. Raises the exceptions that networkx raises before it looks for a maximum flow."""
+    _require_ends(*ends, flow_func, others)
+    if not others:
+        return None
+    return getattr(nx.algorithms.flow, name)(*ends, capacity, flow_func, **others)
+
+
 def _maximum(G: Any, s: Any, t: Any, capacity: str, engine: str, check: bool) -> _MaximumFlow:
     """A maximum flow. Its value is the flow on an extra arc from t to s that costs -1 a unit, in a
     least-cost circulation."""
@@ -363,11 +374,10 @@ def maximum_flow_value(
     >>> maximum_flow_value(G, "a", "c")
     2
     """
-    _require_ends(flowG, _s, _t, flow_func, others)
-    if others:
-        own: Number = nx.algorithms.flow.maximum_flow_value(
-            flowG, _s, _t, capacity, flow_func, **others
-        )
+    own: Optional[Number] = _by_networkx(
+        "maximum_flow_value", (flowG, _s, _t), capacity, flow_func, others
+    )
+    if own is not None:
         return own
     return _maximum(flowG, _s, _t, capacity, engine, check).value
 
@@ -417,11 +427,10 @@ def maximum_flow(
     >>> maximum_flow(G, "a", "c")
     (2, {'a': {'b': 2}, 'b': {'c': 2}, 'c': {}})
     """
-    _require_ends(flowG, _s, _t, flow_func, others)
-    if others:
-        own: Tuple[Number, Flows] = nx.algorithms.flow.maximum_flow(
-            flowG, _s, _t, capacity, flow_func, **others
-        )
+    own: Optional[Tuple[Number, Flows]] = _by_networkx(
+        "maximum_flow", (flowG, _s, _t), capacity, flow_func, others
+    )
+    if own is not None:
         return own
     value, arcs, flow = _maximum(flowG, _s, _t, capacity, engine, check)
     flows: Flows = {u: dict.fromkeys(flowG[u], 0) for u in flowG}
@@ -465,11 +474,10 @@ def minimum_cut_value(
     >>> minimum_cut_value(G, "a", "c")
     2
     """
-    _require_ends(flowG, _s, _t, flow_func, others)
-    if others:
-        own: Number = nx.algorithms.flow.minimum_cut_value(
-            flowG, _s, _t, capacity, flow_func, **others
-        )
+    own: Optional[Number] = _by_networkx(
+        "minimum_cut_value", (flowG, _s, _t), capacity, flow_func, others
+    )
+    if own is not None:
         return own
     return _maximum(flowG, _s, _t, capacity, engine, check).value
 
@@ -502,25 +510,13 @@ def minimum_cut(
     >>> value, sorted(source), sorted(sink)
     (2, ['a', 'b'], ['c'])
     """
-    _require_ends(flowG, _s, _t, flow_func, others)
-    if others:
-        own: Tuple[Number, Tuple[Set[Any], Set[Any]]] = nx.algorithms.flow.minimum_cut(
-            flowG, _s, _t, capacity, flow_func, **others
-        )
+    own: Optional[Tuple[Number, Tuple[Set[Any], Set[Any]]]] = _by_networkx(
+        "minimum_cut", (flowG, _s, _t), capacity, flow_func, others
+    )
+    if own is not None:
         return own
     value, arcs, flow = _maximum(flowG, _s, _t, capacity, engine, check)
-    into: Dict[Any, List[Any]] = {u: [] for u in flowG}
-    for (u, v, cap), f in zip(arcs, flow):
-        if exact(f) < cap:
-            into[v].append(u)
-        if f > 0:
-            into[u].append(v)
-    sink, stack = {_t}, [_t]
-    while stack:
-        for u in into[stack.pop()]:
-            if u not in sink:
-                sink.add(u)
-                stack.append(u)
+    sink = reached(arcs, map(exact, flow), _t, False)
     return value, (set(flowG) - sink, sink)
 
 

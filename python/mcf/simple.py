@@ -8,7 +8,7 @@ from ._errors import Infeasible, MCFError, NotAccepted, Refused
 from ._library import BLOCKED, CODES, FLOW, PairArrays, choice_of
 from ._limits import COST, NODES
 from ._numbers import limited
-from ._solving import Flow, flow_choice, solve_rows
+from ._solving import Flow, flow_choice, reached, solve_rows
 from ._types import Column
 
 # The greatest capacity. If one above 10^18 might bind, mcf refuses the problem.
@@ -242,7 +242,30 @@ class SimpleMinCostFlow:
         return [int(flow[arc]) for arc in arcs]
 
 
-class SimpleMaxFlow:
+class _Arcs:
+    """Arcs by number: two nodes, and a capacity or a cost."""
+
+    def __init__(self) -> None:
+        self._arcs: List[Tuple[int, int, int]] = []
+        self._nodes = 0
+
+    def _add(self, tails: Column, heads: Column, numbers: Column) -> List[int]:
+        """Adds arcs from columns of the same length and returns their numbers."""
+        arcs = [(_node(u), _node(v), index(c)) for u, v, c in _together(tails, heads, numbers)]
+        self._nodes = max([self._nodes] + [max(u, v) + 1 for u, v, _ in arcs])
+        self._arcs += arcs
+        return list(range(len(self._arcs) - len(arcs), len(self._arcs)))
+
+    def num_nodes(self) -> int:
+        """The number of nodes; in an assignment, on each side."""
+        return self._nodes
+
+    def num_arcs(self) -> int:
+        """The number of arcs; in an assignment, of allowed pairs."""
+        return len(self._arcs)
+
+
+class SimpleMaxFlow(_Arcs):
     """Collects arcs by number and finds a maximum flow, like
     ortools.graph.python.max_flow.SimpleMaxFlow. A call that raises adds nothing.
 
@@ -257,8 +280,7 @@ class SimpleMaxFlow:
     OPTIMAL, POSSIBLE_OVERFLOW, BAD_INPUT, BAD_RESULT = range(4)
 
     def __init__(self) -> None:
-        self._arcs: List[Tuple[int, int, int]] = []
-        self._nodes = 0
+        super().__init__()
         self._ends = 0, 0
         self._answer: Optional[Flow[Any, Any]] = None
         self.error: Optional[MCFError] = None
@@ -271,12 +293,7 @@ class SimpleMaxFlow:
 
     def add_arcs_with_capacity(self, tails: Column, heads: Column, capacities: Column) -> List[int]:
         """Adds arcs from columns of the same length and returns their numbers."""
-        arcs = [
-            (_node(u), _node(v), index(cap)) for u, v, cap in _together(tails, heads, capacities)
-        ]
-        self._nodes = max([self._nodes] + [max(u, v) + 1 for u, v, _ in arcs])
-        self._arcs += arcs
-        return list(range(len(self._arcs) - len(arcs), len(self._arcs)))
+        return self._add(tails, heads, capacities)
 
     def set_arc_capacity(self, arc: SupportsIndex, capacity: SupportsIndex) -> None:
         """Sets the capacity of an arc."""
@@ -286,14 +303,6 @@ class SimpleMaxFlow:
         """Sets the capacities of arcs from columns of the same length."""
         for k, cap in _capacities(arcs, capacities, len(self._arcs)):
             self._arcs[k] = self._arcs[k][:2] + (cap,)
-
-    def num_nodes(self) -> int:
-        """The number of nodes."""
-        return self._nodes
-
-    def num_arcs(self) -> int:
-        """The number of arcs."""
-        return len(self._arcs)
 
     def tail(self, arc: int) -> int:
         """The node where an arc begins."""
@@ -346,31 +355,14 @@ class SimpleMaxFlow:
 
     def get_source_side_min_cut(self) -> List[int]:
         """The nodes that a residual path reaches from the source, ascending."""
-        return self._reached(self._ends[0], True)
+        return sorted(reached(self._arcs, self._flow(), self._ends[0], True))
 
     def get_sink_side_min_cut(self) -> List[int]:
         """The nodes from which a residual path leads to the sink, ascending."""
-        return self._reached(self._ends[1], False)
-
-    def _reached(self, start: int, is_onward: bool) -> List[int]:
-        """The nodes of residual paths from a node, or to it."""
-        flow = self._flow()
-        near: List[List[int]] = [[] for _ in range(max(self._nodes, *[e + 1 for e in self._ends]))]
-        for (u, v, cap), f in zip(self._arcs, flow):
-            if f < cap:
-                near[u if is_onward else v].append(v if is_onward else u)
-            if f > 0:
-                near[v if is_onward else u].append(u if is_onward else v)
-        found, stack = {start}, [start]
-        while stack:
-            for node in near[stack.pop()]:
-                if node not in found:
-                    found.add(node)
-                    stack.append(node)
-        return sorted(found)
+        return sorted(reached(self._arcs, self._flow(), self._ends[1], False))
 
 
-class SimpleLinearSumAssignment:
+class SimpleLinearSumAssignment(_Arcs):
     """Collects the costs of allowed pairs and finds a least-cost perfect matching, like
     ortools.graph.python.linear_sum_assignment.SimpleLinearSumAssignment. A call that raises adds
     nothing.
@@ -386,8 +378,7 @@ class SimpleLinearSumAssignment:
     OPTIMAL, INFEASIBLE, POSSIBLE_OVERFLOW = range(3)
 
     def __init__(self) -> None:
-        self._arcs: List[Tuple[int, int, int]] = []
-        self._nodes = 0
+        super().__init__()
         self._mates: Optional[List[int]] = None
         self._costs: List[int] = []
         self._prices: Tuple[List[int], List[int]] = ([], [])
@@ -403,20 +394,7 @@ class SimpleLinearSumAssignment:
         self, left_nodes: Column, right_nodes: Column, costs: Column
     ) -> List[int]:
         """Allows pairs from columns of the same length and returns their numbers."""
-        arcs = [
-            (_node(u), _node(v), index(c)) for u, v, c in _together(left_nodes, right_nodes, costs)
-        ]
-        self._nodes = max([self._nodes] + [max(u, v) + 1 for u, v, _ in arcs])
-        self._arcs += arcs
-        return list(range(len(self._arcs) - len(arcs), len(self._arcs)))
-
-    def num_nodes(self) -> int:
-        """The number of nodes on each side."""
-        return self._nodes
-
-    def num_arcs(self) -> int:
-        """The number of allowed pairs."""
-        return len(self._arcs)
+        return self._add(left_nodes, right_nodes, costs)
 
     def left_node(self, arc: int) -> int:
         """The left node of a pair."""

@@ -2,11 +2,22 @@
 import math
 import sys
 from array import array
-from operator import index
-from typing import Any, List, NamedTuple, Sequence, Tuple, Union
+from fractions import Fraction
+from operator import index, mul
+from typing import Any, List, NamedTuple, Sequence, Tuple, Type, Union
 
 from ._errors import Cell, Infeasible, Refused
-from ._library import BLOCKED, FLOW, FORBIDDEN, INVALID_INPUT, SIDES, Costs, TransportArrays, marked
+from ._library import (
+    BLOCKED,
+    FLOW,
+    FORBIDDEN,
+    INVALID_INPUT,
+    SIDES,
+    Costs,
+    DoubleTransportArrays,
+    TransportArrays,
+    marked,
+)
 from ._limits import ARCS, COST
 from ._numbers import exact, is_float, limited
 from ._solving import solve
@@ -21,11 +32,12 @@ class Plan:
 
     Attributes
     ----------
-    cost : int
-        The total cost: the sum of cost times amount.
+    cost : int or Fraction
+        The total cost: the sum of cost times amount. It is a Fraction if a cost isn't whole, or is
+        a float beyond 10^15.
     shipments : list of (row, column, amount)
         What goes from which row to which column, by row and column. No amount is 0.
-    row_prices, column_prices : list of int
+    row_prices, column_prices : list of int or of Fraction
         The dual certificate: each allowed pair costs at least the sum of its prices, and each pair
         that the plan uses exactly that sum. So no plan costs less.
     """
@@ -34,10 +46,10 @@ class Plan:
 
     def __init__(
         self,
-        cost: int,
+        cost: Any,
         shipments: Shipments,
-        row_prices: List[int],
-        column_prices: List[int],
+        row_prices: List[Any],
+        column_prices: List[Any],
         numpy: Any = None,
     ):
         self.cost, self.shipments, self._numpy = cost, shipments, numpy
@@ -49,7 +61,7 @@ class Plan:
         Returns
         -------
         array or list of lists
-            A numpy array of 64-bit integers if the costs are one, and otherwise lists.
+            A numpy array of 64-bit integers if the costs are a numpy array, and otherwise lists.
 
         Examples
         --------
@@ -96,9 +108,12 @@ def transport(
 ) -> Plan:
     """Finds a least-cost transport plan: how much each row of a cost matrix sends to each column.
 
-    Each row sends its supply, and each column receives its demand. All numbers are whole. A numpy
-    array of 64-bit integers whose rows are contiguous is read where it is, without a copy: no other
-    thread may change it during the call.
+    Each row sends its supply, and each column receives its demand. Supplies and demands are whole.
+    Costs are whole, too, or they are floats, as the numbers that their bits stand for; the cost is
+    exactly the least. If a float isn't whole, or is beyond 10^15, the cost and the prices are
+    fractions. A numpy array of 64-bit integers, or of 64-bit floats that aren't all whole, whose
+    rows are contiguous, is read where it is, without a copy: no other thread may change it during
+    the call.
 
     Parameters
     ----------
@@ -125,11 +140,13 @@ def transport(
         'send', its rows may send to its columns alone, and supply more than these demand; by
         'take', its columns may receive from its rows alone, and demand more than these supply.
     Refused
-        A cost is beyond 10^15, or a supply or a demand doesn't fit 64 bits; or the search shows no
-        answer, and there are too many pairs to solve them as arcs.
+        A whole cost is beyond 10^15, or a supply or a demand doesn't fit 64 bits; or floats that
+        aren't whole have bits that span more than 118; or the search shows no answer,
+        and there are too many pairs to solve them as arcs.
     ValueError
-        A number isn't whole; or `costs` isn't a matrix with a row for each supply and a column for
-        each demand.
+        A supply, a demand, or a cost that isn't a float, isn't whole; a cost is a NaN or
+        -infinity; or `costs` isn't a matrix with a row for each supply and a column for each
+        demand.
     TypeError
         An entry isn't a number.
 
@@ -140,25 +157,47 @@ def transport(
     (11, [(0, 0, 3), (1, 0, 2), (1, 1, 2)])
     >>> plan.row_prices, plan.column_prices
     ([0, 2], [1, -1])
+    >>> transport([[0.5, 0.75], [1.25, 1.5]], [3, 4], [5, 2]).cost
+    Fraction(7, 1)
     >>> transport([[1, None], [1, None]], [3, 4], [5, 2])
     Traceback (most recent call last):
       ..
     mcf.Infeasible: 3 node(s) must send 2 and can send 0
     """
     given_supplies, given_demands = _masses(supplies, 0), _masses(demands, len(supplies))
-    matrix, numpy = _matrix(costs, len(given_supplies), len(given_demands))
-    problem = TransportArrays(matrix, given_supplies, given_demands)
+    matrix, numpy = matrix_of(costs, len(given_supplies), len(given_demands))
+    problem = arrays_of(matrix)(matrix, given_supplies, given_demands)
     status = problem.solve()
     if status == BLOCKED:
-        rows, columns = marked(problem.row_prices), marked(problem.column_prices)
-        raise _infeasible(given_supplies, given_demands, (rows, columns), SIDES[problem.told.side])
+        raise infeasible(problem, given_supplies, given_demands)
     if status == INVALID_INPUT:
-        raise _refused(matrix)
+        raise refused_cost(matrix)
+    if status != FLOW and matrix.are_doubles:
+        raise Refused(None, None, "bits")
     if status != FLOW:
         return _by_arcs(matrix, given_supplies, given_demands, numpy, check)
-    shipments = problem.entries()
-    cost = sum(_cost_at(matrix, i, j) * amount for i, j, amount in shipments)
-    return Plan(cost, shipments, problem.row_prices.tolist(), problem.column_prices.tolist(), numpy)
+    prices = problem.row_prices, problem.column_prices
+    cost = total_of(prices, given_supplies, given_demands)
+    if not matrix.are_doubles:
+        return Plan(cost, problem.entries(), prices[0], prices[1], numpy)
+    unit = unit_of(problem)
+    rows, columns = ([unit * price for price in line] for line in prices)
+    return Plan(unit * cost, problem.entries(), rows, columns, numpy)
+
+
+def arrays_of(matrix: Costs) -> Type[TransportArrays]:
+    """The call for a matrix."""
+    return DoubleTransportArrays if matrix.are_doubles else TransportArrays
+
+
+def unit_of(problem: TransportArrays) -> Fraction:
+    """The number that a unit of the prices of doubles stands for."""
+    return Fraction(2) ** int(problem.told.unit - 1074)
+
+
+def total_of(prices: Tuple[List[int], List[int]], supplies: Any, demands: Any) -> int:
+    """The cost of a plan that prices show to be least, in their unit."""
+    return int(sum(map(mul, prices[0], supplies)) + sum(map(mul, prices[1], demands)))
 
 
 def whole(value: Any) -> int:
@@ -189,7 +228,26 @@ def _entry(value: Any) -> int:
     return number if number == FORBIDDEN else limited(number, COST)
 
 
-def _matrix(costs: Any, rows: int, columns: int) -> Tuple[Costs, Any]:
+def _is_whole(value: Any) -> bool:
+    """Whether an entry is no float, or one that `_entry` takes."""
+    return not is_float(value) or value == math.inf or abs(value) <= COST and value % 1 == 0
+
+
+def _double(value: Any) -> float:
+    """A cost as a double, which it has to be exactly."""
+    if value is None:
+        return math.inf
+    number = value
+    if not is_float(value):
+        number = limited(whole(value), 2**1000)
+        if number == FORBIDDEN:
+            return math.inf
+    if float(number) != number and number == number:
+        raise Refused(None, None, "cost", 1, number)
+    return float(number)
+
+
+def matrix_of(costs: Any, rows: int, columns: int) -> Tuple[Costs, Any]:
     """The costs in memory, and the module numpy if they are its array."""
     numpy = sys.modules.get("numpy") if hasattr(costs, "__array__") else None
     if numpy is not None:
@@ -198,7 +256,9 @@ def _matrix(costs: Any, rows: int, columns: int) -> Tuple[Costs, Any]:
             raise ValueError("costs aren't a matrix: %d dimensions" % table.ndim)
         _compare(table.shape, rows, columns)
         if table.dtype.kind == "i" and table.dtype.itemsize <= 8:
-            return _in_place(table, numpy), numpy
+            return in_place(table, numpy.int64), numpy
+        if table.dtype.kind == "f" and table.dtype.itemsize <= 8:
+            return _floats(table), numpy
         costs = table.tolist()
     elif hasattr(costs, "tolist"):
         costs = costs.tolist()
@@ -206,8 +266,22 @@ def _matrix(costs: Any, rows: int, columns: int) -> Tuple[Costs, Any]:
     _compare((len(lists), len(lists[0]) if lists else columns), rows, columns)
     if any(len(row) != columns for row in lists):
         raise ValueError("costs aren't a matrix: their rows have different lengths")
-    numbers = array("q", [_entry(value) for row in lists for value in row])
-    return Costs(numbers, len(numbers), rows, columns, columns), numpy
+    flat = [value for row in lists for value in row]
+    are_doubles = not all(map(_is_whole, flat))
+    numbers: Any = array("d", map(_double, flat)) if are_doubles else array("q", map(_entry, flat))
+    return Costs(numbers, len(numbers), rows, columns, columns, are_doubles), numpy
+
+
+def _floats(table: Any) -> Costs:
+    """A numpy array of floats: as integers if all are whole and within the limit, or infinite."""
+    import numpy
+
+    finite = table < math.inf
+    if not ((abs(table) <= COST) & (table == numpy.rint(table)) | (table == math.inf)).all():
+        return in_place(table, numpy.float64)
+    numbers = numpy.full(table.shape, FORBIDDEN)
+    numbers[finite] = table[finite]
+    return in_place(numbers, numpy.int64)
 
 
 def _compare(shape: Tuple[int, ...], rows: int, columns: int) -> None:
@@ -216,34 +290,48 @@ def _compare(shape: Tuple[int, ...], rows: int, columns: int) -> None:
         raise ValueError("costs are %d x %d, for %d supplies and %d demands" % words)
 
 
-def _in_place(table: Any, numpy: Any) -> Costs:
-    """A numpy array of integers where it is, or a copy if its rows aren't contiguous 64-bit
-    numbers in ascending order."""
+def in_place(table: Any, dtype: Any) -> Costs:
+    """A numpy array of 64-bit integers or of doubles where it is, or a copy if its rows aren't
+    contiguous numbers of that type in ascending order."""
+    import numpy
+
     rows, columns = table.shape
     down, right = table.strides
     fits = right == 8 and down >= 8 * columns and down % 8 == 0 and table.flags.aligned
-    if table.dtype != numpy.int64 or rows < 2 or columns < 2 or not fits:
-        table = numpy.ascontiguousarray(table, dtype=numpy.int64)
+    if table.dtype != dtype or rows < 2 or columns < 2 or not fits:
+        table = numpy.ascontiguousarray(table, dtype=dtype)
         down = 8 * columns
     length = (rows - 1) * (down // 8) + columns if rows else 0
-    return Costs(table, length, rows, columns, down // 8)
+    return Costs(table, length, rows, columns, down // 8, dtype == numpy.float64)
 
 
-def _cost_at(matrix: Costs, row: int, column: int) -> int:
+def cost_at(matrix: Costs, row: int, column: int) -> Any:
     if isinstance(matrix.buffer, array):
         return matrix.buffer[row * matrix.stride + column]
-    return int(matrix.buffer[row, column])
+    return matrix.buffer[row, column].item()
 
 
-def _refused(matrix: Costs) -> Refused:
-    """The exception for the first cost beyond the limit."""
+def refused_cost(matrix: Costs, sign: int = 1) -> ValueError:
+    """The exception for the first cost that is beyond the limit, or isn't a number. The caller's
+    costs have a sign before them."""
     for row in range(matrix.rows):
         for column in range(matrix.columns):
-            cost, place = _cost_at(matrix, row, column), row * matrix.columns + column
-            if abs(cost) > COST and cost != FORBIDDEN:
-                return Refused(place, None, "cost", 1, cost, Cell(row, column))
+            cost, place = cost_at(matrix, row, column), row * matrix.columns + column
+            if matrix.are_doubles and not cost > -math.inf:
+                words = (sign * cost, row, column)
+                return ValueError("%r isn't a cost: row %d, column %d" % words)
+            if not matrix.are_doubles and abs(cost) > COST and cost != FORBIDDEN:
+                return Refused(place, None, "cost", 1, sign * cost, Cell(row, column))
     # Another thread has changed the matrix since.
     return Refused(None, None, "cost")
+
+
+def infeasible(
+    problem: TransportArrays, supplies: Sequence[int], demands: Sequence[int]
+) -> Infeasible:
+    """The exception for the cut that an infeasible problem marks."""
+    cut = marked(problem.row_prices), marked(problem.column_prices)
+    return _infeasible(supplies, demands, cut, SIDES[problem.told.side])
 
 
 def _infeasible(
@@ -267,7 +355,7 @@ def _pairs(matrix: Costs) -> _Pairs:
     found = _Pairs([], [])
     for i in range(matrix.rows):
         for j in range(matrix.columns):
-            cost = _cost_at(matrix, i, j)
+            cost = cost_at(matrix, i, j)
             if cost != FORBIDDEN:
                 found.places.append((i, j))
                 found.arcs.append((i, matrix.rows + j, None, cost))

@@ -2,7 +2,6 @@
 matrices for `mcf.solve`. Numpy, scipy and pandas serve if they are installed. MCF_LIBRARY names the
 library."""
 import doctest
-import importlib
 import os
 import pickle
 import random
@@ -16,22 +15,18 @@ from fractions import Fraction
 sys.path.insert(0, os.path.dirname(os.path.dirname(os.path.abspath(__file__))))
 import mcf
 import mcf._arrays
+import mcf._judging
+from optional import installed
 
 
 def load_tests(loader, tests, pattern):
     """Adds the examples of the docstrings as tests."""
-    tests.addTests(doctest.DocTestSuite(mcf._arrays))
+    for module in (mcf._arrays, mcf._judging):
+        tests.addTests(doctest.DocTestSuite(module))
     return tests
 
 
-def _installed(name):
-    try:
-        return importlib.import_module(name)
-    except ImportError:
-        return None
-
-
-numpy, scipy, pandas = map(_installed, ("numpy", "scipy", "pandas"))
+numpy, scipy, pandas = map(installed, ("numpy", "scipy", "pandas"))
 
 
 def outcome(call, *words, **options):
@@ -191,6 +186,85 @@ class ByColumns(unittest.TestCase):
         for engine in ("auto", "cancel", "simplex", "scaling", "sap", "fast"):
             r = mcf.solve_arrays([5, -5], [0, 0], [1, 1], [3, 9], [1, 2], engine=engine)
             self.assertEqual((r.cost, r.flow), (7, [3, 2]))
+
+
+class Judging(unittest.TestCase):
+    """Flows that anybody made."""
+
+    problem = ([4, 0, -4], [0, 0, 1], [1, 2, 2], [2, 9, 3], [1, 5, 1])
+
+    def test_verdicts(self):
+        for flow, prices, kind in (
+            ([2, 2, 2], [0, -4, -5], "accepted flow"),
+            ([2, 2, 2], [7, 3, 2], "accepted flow"),
+            ([0, 4, 0], [0, -4, -5], "rejected price"),
+            ([2, 2, 2], [0, 0, 0], "rejected price"),
+            ([2, 2, 1], [0, -4, -5], "rejected node"),
+            ([3, 1, 3], [0, -4, -5], "rejected arc"),
+            ([2, 2, -2], [0, -4, -5], "rejected arc"),
+        ):
+            for kind_of in kinds():
+                made = [kind_of(column) for column in (*self.problem, flow, prices)]
+                verdict = mcf.check_arrays(*made)
+                self.assertEqual((verdict.kind, bool(verdict)), (kind, kind == "accepted flow"))
+        self.assertEqual(mcf.check_arrays(*self.problem, [2, 2, 2], [0, -4, -5]).number, 14)
+
+    def test_fractions(self):
+        """All numbers may be fractions, and a capacity may be missing."""
+        problem = ([1, -1], [0, 0], [1, 1], [None, 0.25], [Fraction(1, 3), 0.1])
+        flow, prices = [0.75, 0.25], [0, Fraction(-1, 3)]
+        verdict = mcf.check_arrays(*problem, flow, prices)
+        self.assertEqual((verdict.kind, verdict.number), ("accepted flow", 0.275))
+        self.assertEqual(mcf.check_arrays(*problem, flow, [0, 0]).kind, "rejected price")
+        self.assertEqual(mcf.check_arrays(*problem, [0.5, 0.5], prices).kind, "rejected arc")
+        # An arc without capacity is never full.
+        free = ([10**17, -(10**17)], [0], [1], [float("inf")], [5])
+        self.assertTrue(mcf.check_arrays(*free, [10**17], [0, -5]))
+        self.assertFalse(mcf.check_arrays(*free, [10**17], [0, -6]))
+
+    def test_refusals(self):
+        flow, prices = [2, 2, 2], [0, -4, -5]
+        for place, value, reason in (
+            (0, [4, 0, -(10**19)], "supply"),
+            (2, [1, 2, 7], "node"),
+            (3, [2, 10**19, 3], "bound"),
+            (3, [2, -1, 3], "order"),
+            (4, [1, 5, 10**15 + 1], "cost"),
+        ):
+            words = [*self.problem[:place], value, *self.problem[place + 1 :]]
+            with self.assertRaises(mcf.Refused) as c:
+                mcf.check_arrays(*words, flow, prices)
+            self.assertEqual(c.exception.reason, reason)
+        for words, error in (
+            ((*self.problem, flow, prices[:2]), ValueError),
+            ((*self.problem, flow[:2], prices), ValueError),
+            ((*self.problem, {0: 1}, prices), TypeError),
+            ((*self.problem, None, prices), TypeError),
+            ((*self.problem, flow, None), TypeError),
+            ((*self.problem, flow, ["0", "1", "2"]), TypeError),
+            ((*self.problem, flow, [0, 0, 10**19]), OverflowError),
+        ):
+            self.assertRaises(error, mcf.check_arrays, *words)
+
+    def test_random(self):
+        """The checker accepts what `solve_arrays` finds, and no other flow of another cost."""
+        rng = random.Random(8)
+        for _ in range(60):
+            n, m = rng.randint(2, 6), rng.randint(1, 14)
+            ends = [[rng.randrange(n) for _ in range(m)] for _ in range(2)]
+            low = [rng.randint(-3, 2) for _ in range(m)]
+            cap = [bound + rng.randint(0, 6) for bound in low]
+            cost = [rng.randint(-9, 9) for _ in range(m)]
+            flow = [rng.randint(*bounds) for bounds in zip(low, cap)]
+            supplies = [0] * n
+            for u, v, f in zip(*ends, flow):
+                supplies[u] += f
+                supplies[v] -= f
+            words = (supplies, *ends, cap, cost)
+            r = mcf.solve_arrays(*words, low)
+            self.assertEqual(mcf.check_arrays(*words, r.flow, r.prices, low), r.verdict)
+            is_least = sum(map(lambda c, f: c * f, cost, flow)) == r.cost
+            self.assertEqual(bool(mcf.check_arrays(*words, flow, r.prices, low)), is_least)
 
 
 class Frame:

@@ -2,7 +2,7 @@
 functions of mcf in place of theirs. Prints how many passed and which did not, and what it skips
 because a package isn't installed. Needs pytest.
 
-The status is 0 if exactly the tests that `DIFFERS` names fail, and otherwise 1. MCF_LIBRARY names
+The status is 0 if exactly the tests that `differing` names fail, and otherwise 1. MCF_LIBRARY names
 the library.
 
     foreign.py networkx|scipy
@@ -40,7 +40,20 @@ ANOTHER_LEAST_FLOW = {
     "test_mincost.py TestMinCostFlow.test_digraph1",
     "test_networksimplex.py test_digraph1",
 }
-DIFFERS = {"by auto": ANOTHER_LEAST_FLOW, "as a backend": ANOTHER_LEAST_FLOW}
+# Before version 3, networkx' capacity_scaling refuses a graph without nodes, and this test wants
+# that. The minimum-cost flow of such a graph is empty, which networkx returns since.
+EMPTY_GRAPH = {"test_mincost.py TestMinCostFlow.test_exceptions"}
+
+
+def differing(way):
+    """The tests that fail, each with the reason."""
+    found = {}
+    if way in ("by auto", "as a backend"):
+        found.update(dict.fromkeys(ANOTHER_LEAST_FLOW, "it wants another of the least flows"))
+    networkx = sys.modules.get("networkx")
+    if networkx is not None and way != "assignments" and int(networkx.__version__[0]) < 3:
+        found.update(dict.fromkeys(EMPTY_GRAPH, "it wants a graph without nodes to be refused"))
+    return found
 
 
 class Outcomes:
@@ -70,8 +83,8 @@ class Counted:
 
 
 def run(way, modules):
-    """Runs the tests of some modules. Returns how many passed, and whether exactly the tests of
-    `DIFFERS` failed."""
+    """Runs the tests of some modules. Returns how many passed, and whether exactly those of
+    `differing` failed."""
     import pytest
 
     outcomes = Outcomes()
@@ -82,15 +95,10 @@ def run(way, modules):
     passed = sum(outcome == "passed" for outcome in outcomes.ended.values())
     said = "%d of %d %s" % (passed, len(outcomes.ended), way)
     print("%s, %d calls of mcf" % (said, Counted.calls))
+    differs = differing(way)
     for name in sorted(failed):
-        print(
-            "  %s: %s"
-            % (
-                name,
-                "it wants another of the least flows" if name in DIFFERS.get(way, ()) else "FAILED",
-            )
-        )
-    return said, passed > 0 and Counted.calls > 0 and failed == DIFFERS.get(way, set())
+        print("  %s: %s" % (name, differs.get(name, "FAILED")))
+    return said, passed > 0 and Counted.calls > 0 and failed == differs.keys()
 
 
 def networkx_ways():

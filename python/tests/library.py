@@ -2,7 +2,6 @@
 they are installed. MCF_LIBRARY names the library."""
 import copy
 import doctest
-import importlib
 import itertools
 import multiprocessing
 import os
@@ -32,6 +31,7 @@ import mcf._solving
 import mcf.assignment
 import mcf.simple
 import mcf.transportation
+from optional import installed
 
 # Calls of networkx with mcf as a backend; what mcf refuses, networkx answers.
 FALLING_BACK = """
@@ -63,25 +63,26 @@ print(nx.minimum_cut_value(G, "a", "b", backend="mcf"))
 
 def load_tests(loader, tests, pattern):
     """Adds the examples of the docstrings, and the tests of transport problems."""
-    tests.addTests(loader.loadTestsFromName("transports"))
-    for module in (mcf, mcf._solving, mcf.assignment, mcf.simple, mcf.transportation):
+    for name in ("assignments", "edited", "small", "transports"):
+        tests.addTests(loader.loadTestsFromName(name))
+    for module in (
+        mcf,
+        mcf._solving,
+        mcf.assigning,
+        mcf.assignment,
+        mcf.simple,
+        mcf.transportation,
+    ):
         tests.addTests(
             doctest.DocTestSuite(
                 module, optionflags=doctest.ELLIPSIS | doctest.IGNORE_EXCEPTION_DETAIL
             )
         )
-    if _installed("networkx"):
+    if installed("networkx"):
         tests.addTests(doctest.DocTestSuite("mcf.nx"))
-    if _installed("numpy"):
+    if installed("numpy"):
         tests.addTests(doctest.DocTestSuite("mcf.earth_mover"))
     return tests
-
-
-def _installed(name):
-    try:
-        return importlib.import_module(name)
-    except ImportError:
-        return None
 
 
 INF = float("inf")
@@ -171,6 +172,17 @@ class Raised(unittest.TestCase):
             self.assertEqual((c.exception.node, c.exception.reason), (0, "supply"))
 
 
+def _greatest_prices(n, arcs, flow):
+    """The greatest prices that aren't above 0 and leave no residual arc a reduced cost below 0."""
+    residual = [(u, v, c) for (u, v, _, cap, c), f in zip(arcs, flow) if f < cap]
+    residual += [(v, u, -c) for (u, v, low, _, c), f in zip(arcs, flow) if f > low]
+    prices = [0] * n
+    for _ in range(n):
+        for u, v, c in residual:
+            prices[u] = min(prices[u], prices[v] + c)
+    return prices
+
+
 class Solving(unittest.TestCase):
     def test_flow(self):
         r = mcf.solve({"s": 4, "t": -4}, [("s", "a", 2, 1), ("s", "t", None, 5), ("a", "t", 3, -1)])
@@ -241,6 +253,32 @@ class Solving(unittest.TestCase):
         )
         self.assertEqual((r.flow, r.cost), ([0.1, 0.2, 0], 0.55))
 
+    def test_prices_of_engines(self):
+        """All engines end with the greatest prices that aren't above 0, as a plain relaxation finds
+        them in the residual network."""
+        rng, flows = random.Random(7), 0
+        for _ in range(300):
+            n = rng.randint(2, 8)
+            supplies = [rng.randint(0, 8)] + [0] * (n - 1)
+            supplies[-1] -= supplies[0]
+            arcs = []
+            for _ in range(14):
+                low = rng.randint(-3, 0)
+                ends = rng.randrange(n), rng.randrange(n)
+                arcs.append((*ends, low, low + rng.randint(0, 9), rng.randint(-5, 20)))
+            found = set()
+            for engine in ("cancel", "scaling", "simplex", "fast"):
+                try:
+                    r = mcf.solve(supplies, arcs, engine=engine)
+                except mcf.Infeasible:
+                    found.add(None)
+                    continue
+                found.add((r.cost, tuple(r.prices)))
+                self.assertEqual(list(r.prices), _greatest_prices(n, arcs, r.flow))
+            self.assertEqual(len(found), 1)
+            flows += None not in found
+        self.assertGreater(flows, 100)
+
     def test_engines(self):
         for engine in ("auto", "cancel", "simplex", "scaling", "sap", "fast"):
             for pricing in ("first", "best", "block", "wide"):
@@ -307,9 +345,9 @@ class Solving(unittest.TestCase):
             mcf.linear_sum_assignment([[1, 2], [10**20, 3]])
         self.assertEqual((c.exception.arc, c.exception.reason), (2, "cost"))
 
-    @unittest.skipUnless(_installed("numpy"), "numpy isn't installed")
+    @unittest.skipUnless(installed("numpy"), "numpy isn't installed")
     def test_doubles(self):
-        numpy = _installed("numpy")
+        numpy = installed("numpy")
         inf = float("inf")
         # scipy 1.10 takes the diagonal, and so 1.0 where 0.75 is left.
         C = numpy.array([[1e16, 1e16, 1e16], [0.75, 1.0, 0.75], [1e16, 5.0, 3.0]])
@@ -326,9 +364,9 @@ class Solving(unittest.TestCase):
         with self.assertRaises(mcf.Refused):
             mcf.linear_sum_assignment(numpy.array([[5e-324, 1.0], [1.0, 5e-324]]))
 
-    @unittest.skipUnless(_installed("numpy"), "numpy isn't installed")
+    @unittest.skipUnless(installed("numpy"), "numpy isn't installed")
     def test_hostile_doubles(self):
-        numpy = _installed("numpy")
+        numpy = installed("numpy")
         chance = random.Random(7)
         for kind in HOSTILE:
             for _ in range(40):
@@ -494,9 +532,9 @@ class Solving(unittest.TestCase):
 
     def test_wrong_answers_are_not_accepted(self):
         problem = mcf._library.ArcArrays(
-            mcf._solving._supplied([2, -2]),
+            mcf._solving.supplied([2, -2]),
             2,
-            mcf._solving._packed([(0, 1, 0, 3, 5), (0, 1, 0, 1, 1)]),
+            mcf._solving.packed([(0, 1, 0, 3, 5), (0, 1, 0, 1, 1)]),
             2,
         )
         self.assertEqual(
@@ -620,7 +658,7 @@ class Series:
 
 
 class BySeries(unittest.TestCase):
-    kinds = [Series] + ([_installed("pandas").Series] if _installed("pandas") else [])
+    kinds = [Series] + ([installed("pandas").Series] if installed("pandas") else [])
 
     def test_labels(self):
         for kind in self.kinds:
@@ -635,9 +673,9 @@ class BySeries(unittest.TestCase):
             self.assertEqual(c.exception.nodes, ["a"])
             self.assertRaisesRegex(ValueError, "'a'", mcf.solve, kind([1, -1], ["a", "a"]), [])
 
-    @unittest.skipUnless(_installed("pandas"), "pandas isn't installed")
+    @unittest.skipUnless(installed("pandas"), "pandas isn't installed")
     def test_narrow_floats(self):
-        supplies = _installed("pandas").Series([0.1, -0.1], ["a", "b"], dtype="float32")
+        supplies = installed("pandas").Series([0.1, -0.1], ["a", "b"], dtype="float32")
         self.assertEqual(mcf.solve(supplies, [("a", "b", 1, 1)]).flow, [0.1])
 
 
@@ -698,7 +736,7 @@ def _orders(n):
     return itertools.permutations(range(n))
 
 
-@unittest.skipUnless(_installed("numpy"), "numpy isn't installed")
+@unittest.skipUnless(installed("numpy"), "numpy isn't installed")
 class WithNumpy(unittest.TestCase):
     def test_arrays(self):
         import numpy as np
@@ -709,7 +747,7 @@ class WithNumpy(unittest.TestCase):
         self.assertEqual((rows.tolist(), columns.tolist()), ([0, 1, 2], [1, 0, 2]))
 
 
-@unittest.skipUnless(_installed("networkx"), "networkx isn't installed")
+@unittest.skipUnless(installed("networkx"), "networkx isn't installed")
 class WithNetworkx(unittest.TestCase):
     def test_graph(self):
         import mcf.nx
@@ -917,10 +955,12 @@ class WithNetworkx(unittest.TestCase):
 
 
 class Examples(unittest.TestCase):
-    """The scripts of examples/matrices/, beside the outputs that are stored there."""
+    """The scripts of examples/matrices/ and examples/networks/, beside the outputs that are stored
+    there."""
 
     def test_examples(self):
-        scripts = sorted((TOP / "examples" / "matrices").glob("*.py"))
+        folders = [TOP / "examples" / name for name in ("matrices", "networks")]
+        scripts = sorted(script for folder in folders for script in folder.glob("*.py"))
         self.assertTrue(scripts)
         for script in scripts:
             with self.subTest(script=script.name):

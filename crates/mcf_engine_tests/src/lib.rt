@@ -22,8 +22,6 @@ mod prices;
 #[cfg(test)]
 mod raising;
 #[cfg(test)]
-mod random_prices;
-#[cfg(test)]
 mod runs;
 #[cfg(test)]
 mod scaling;

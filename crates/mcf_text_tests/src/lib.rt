@@ -1,7 +1,7 @@
 #![tactic(auto)]
 
-//! The tests of texts, instances, answers and the checker: what no clause says, and each public
-//! call with ample memory.
+//! The tests of texts, numbers of tables, instances, answers and the checker: what no clause says,
+//! and each public call with ample memory.
 //!
 //! They stand in a crate of their own, since a crate with tests is proved twice, and apart from
 //! those of the solver, so that their proofs wait for no engine. It has no other function.
@@ -17,13 +17,9 @@ mod checking;
 #[cfg(test)]
 mod cut_answers;
 #[cfg(test)]
-mod edited_texts;
-#[cfg(test)]
 mod feeding;
 #[cfg(test)]
 mod instances;
-#[cfg(test)]
-mod plain;
 #[cfg(test)]
 mod sets;
 #[cfg(test)]
