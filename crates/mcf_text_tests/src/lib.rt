@@ -17,6 +17,8 @@ mod checking;
 #[cfg(test)]
 mod cut_answers;
 #[cfg(test)]
+mod decimals;
+#[cfg(test)]
 mod feeding;
 #[cfg(test)]
 mod instances;

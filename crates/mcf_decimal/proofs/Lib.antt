@@ -1,0 +1,9 @@
+pub mod CutLemmas
+pub mod DigitLemmas
+pub mod GroupLemmas
+pub mod ValueLemmas
+pub mod WholeCells
+pub mod Spelled
+pub mod Pointed
+pub mod ReadBack
+pub mod Settling

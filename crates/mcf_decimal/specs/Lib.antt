@@ -1,0 +1,10 @@
+pub mod Cuts
+pub mod Decimals
+pub mod Exponents
+pub mod Groups
+pub mod Laws
+pub mod Marks
+pub mod Numbers
+pub mod Settled
+pub mod Signs
+pub mod Written
