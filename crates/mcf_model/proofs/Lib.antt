@@ -1,5 +1,5 @@
 mod Ways
-mod Lists
+pub mod Lists
 mod Routes
 mod Plans
 mod Cuts
@@ -12,7 +12,7 @@ mod Filling
 mod Reading
 mod RowSteps
 mod Reaches
-mod FaultTests
-mod Proper
+pub mod FaultTests
+pub mod Proper
 mod Capped
 pub mod Planners

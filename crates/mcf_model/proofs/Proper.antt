@@ -38,13 +38,13 @@ module _ (test : RouteRow → Option RouteFault) where
 
 module _ (places : ℕ) (steps : List Step) (earning : Bool) (row : RouteRow) where
   -- what a route without a fault keeps
-  record IsFaultless : Type 0 where
-    sound : IsSoundRoute places (route_of steps row)
-    listed : (row.first_step + row.step_count) ≤ length steps
-    takes : StepsTake (route_of steps row)
-    limited : (earning && is_none row.last_most) ≡ false
+  pub record IsFaultless : Type 0 where
+    pub sound : IsSoundRoute places (route_of steps row)
+    pub listed : (row.first_step + row.step_count) ≤ length steps
+    pub takes : StepsTake (route_of steps row)
+    pub limited : (earning && is_none row.last_most) ≡ false
 
-  faultless : row_fault places steps earning row ≡ None → IsFaultless
+  pub faultless : row_fault places steps earning row ≡ None → IsFaultless
   faultless e =
       let all = find_none (applies places steps earning row) route_faults e in
       let own = own_steps steps row in
@@ -67,7 +67,7 @@ module _ (places : ℕ) (steps : List Step) (earning : Bool) (row : RouteRow) wh
       fits : (x y : ℕ) → nat_le x y ≡ true → x ≤ y
       fits x y h = grind arith
 
-  passes : IsFaultless → row_fault places steps earning row ≡ None
+  pub passes : IsFaultless → row_fault places steps earning row ≡ None
   passes h =
       let own = own_steps steps row in
       let q = applies places steps earning row in
@@ -95,7 +95,7 @@ module _ (supplies : List ℤ) (steps : List Step) (rows : List RouteRow) where
   abbrev row_earns : RouteRow → Bool
   row_earns row = earns (own_steps steps row) row.last_cost
 
-  unmap : (P : Route → Type 0) (rows : List RouteRow) → All P (map (route_of steps) rows) → All (λ row. P (route_of steps row)) rows
+  pub unmap : (P : Route → Type 0) (rows : List RouteRow) → All P (map (route_of steps) rows) → All (λ row. P (route_of steps row)) rows
   unmap P [] h = λ k d z. absurd (omega arith)
   unmap P (row ∷ rows) h =
       All-cons (λ row. P (route_of steps row)) row rows (All-head P (route_of steps row) (map (route_of steps) rows) h)

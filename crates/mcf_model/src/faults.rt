@@ -1,6 +1,6 @@
 //! Faults of models.
 ghost use Rattle.std.specs.Prelude.{◌≡◌, ◌≤◌, Some, None, int_lt, pos, drop, length, not, ◌&&◌, ◌||◌};
-ghost use Rattle.mcf_model.specs.Faults.{applies, earns, falls, first_cost, is_below, is_place, is_wrong_both_ways, model_fault, row_fault, some_earn, takes_below};
+ghost use Rattle.mcf_model.specs.Faults.{applies, earns, falls, fault_from, first_cost, is_below, is_place, is_wrong_both_ways, model_fault, row_fault, some_earn, takes_below};
 ghost use Rattle.mcf_model.specs.Tables.{own_steps, route_of};
 
 use crate::rows::{RouteRow, Step, own_steps};
@@ -164,8 +164,8 @@ fn row_earns(steps: &[Step], row: RouteRow) -> bool
     earns(own, row.last_cost)
 }
 
-// Returns whether any cost of any route is below 0.
-fn some_earn(steps: &[Step], rows: &[RouteRow]) -> bool
+/// Returns whether any cost of any route is below 0, in its steps or in its last step.
+pub fn some_earn(steps: &[Step], rows: &[RouteRow]) -> bool
     ensures { result ≡ some_earn steps.now rows.now }
 {
     for place in 0..rows.len() {
@@ -177,11 +177,17 @@ fn some_earn(steps: &[Step], rows: &[RouteRow]) -> bool
     false
 }
 
-// Returns the first route that has a fault, and its first fault.
-pub(crate) fn model_fault(places: usize, steps: &[Step], rows: &[RouteRow]) -> Option<ModelFault>
-    ensures { result ≡ model_fault places steps.now rows.now }
+/// Returns the first route that has a fault, and its first fault, in a model with this number of
+/// places and this table of steps. `earning` says whether some cost of the model is below 0: then
+/// each route needs a limit.
+pub fn first_fault(
+    places: usize,
+    steps: &[Step],
+    earning: bool,
+    rows: &[RouteRow],
+) -> Option<ModelFault>
+    ensures { result ≡ fault_from (row_fault places steps.now earning) 1 rows.now }
 {
-    let earning = some_earn(steps, rows);
     for place in 0..rows.len() {
         match row_fault(places, steps, earning, rows[place]) {
             Some(what) => {
@@ -194,4 +200,12 @@ pub(crate) fn model_fault(places: usize, steps: &[Step], rows: &[RouteRow]) -> O
         }
     }
     None
+}
+
+// Returns the first fault of a model of routes alone.
+pub(crate) fn model_fault(places: usize, steps: &[Step], rows: &[RouteRow]) -> Option<ModelFault>
+    ensures { result ≡ model_fault places steps.now rows.now }
+{
+    let earning = some_earn(steps, rows);
+    first_fault(places, steps, earning, rows)
 }

@@ -1,0 +1,10 @@
+mod PlaceSums
+mod MadeRoutes
+mod Sides
+mod Ends
+mod Exchange
+mod PlaceSteps
+mod ProperPlanners
+mod Listed
+mod ProperModels
+mod LeastPlans

@@ -1,0 +1,11 @@
+pub use Rattle.mcf_model.specs.Model
+pub use Rattle.mcf_model.specs.Tables
+pub use Rattle.mcf_model.specs.Bottlenecks
+pub use Rattle.mcf_model.specs.Faults
+pub use Rattle.mcf_model.specs.Laws
+pub mod Planners
+pub mod Models
+pub mod PlannerLaws
+pub mod PlannerFaults
+pub mod Kinds
+pub mod Planning

@@ -1,0 +1,21 @@
+//! Laws about planners' problems. Each is the contract of a function with an empty body.
+ghost use Rattle.mcf_places.specs.PlannerLaws.{LeastModelPlansAreLeast, PlannersAreModels, PlansMissNoMore};
+
+/// Each plan of a planner's problem in which no more than a given amount is missing is a plan of
+/// its model, at the same cost, and each plan of the model is such a plan.
+pub fn planners_are_models()
+    ensures { PlannersAreModels }
+{}
+
+/// A least plan of the model in which no more than a given amount is missing is a least plan of the
+/// problem: if no plan misses more, or, where demands may be missing and no penalty is named, if no
+/// plan misses less.
+pub fn least_model_plans_are_least()
+    ensures { LeastModelPlansAreLeast }
+{}
+
+/// No plan misses more than all that places want, and none misses anything if no demand may be
+/// missing.
+pub fn plans_miss_no_more()
+    ensures { PlansMissNoMore }
+{}

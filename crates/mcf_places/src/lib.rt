@@ -1,0 +1,24 @@
+#![tactic(auto)]
+
+//! Planners' problems: places with bounds on what passes through them, supplies that may stay, and
+//! demands that may be missing.
+//!
+//! It builds on `mcf_model`: each such problem is a model of that crate. The definitions are in
+//! `specs/`: `Planners` has problems and plans, `Models` their models, `PlannerLaws` the laws
+//! between both, and `PlannerFaults` the faults of a problem.
+
+mod faults;
+mod laws;
+mod making;
+mod places;
+mod problem;
+mod reading;
+mod rows;
+mod supplies;
+
+pub use faults::{PLACE_LIMIT, PlannerFault, SUM_LIMIT};
+pub use laws::{least_model_plans_are_least, planners_are_models, plans_miss_no_more};
+pub use making::model_of;
+pub use places::{Bounds, Place, Policy};
+pub use problem::Planner;
+pub use reading::{PlannerPlan, plan_of};

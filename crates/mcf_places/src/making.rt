@@ -1,0 +1,71 @@
+//! The model of a planner's problem.
+ghost use Rattle.std.specs.Prelude.{◌≡◌, ◌≤◌, ◌+ℤ◌, ◌≤ℤ◌, IfOk, List, length, map, pos, ◌+◌};
+ghost use Rattle.std.specs.List.{All};
+ghost use Rattle.mcf_flows.specs.Network.{IsNode};
+ghost use Rattle.mcf_model.specs.Faults.{AreListed};
+ghost use Rattle.mcf_model.specs.Tables.{route_of};
+ghost use Rattle.mcf_places.specs.Models.{gate_route, model_of};
+ghost use Rattle.mcf_places.specs.PlannerFaults.{IsProperPlanner, IsSmallPlace, planner_of};
+
+use crate::faults::{PLACE_LIMIT, unit_penalty};
+use crate::places::{Place, Policy};
+use crate::problem::{Parts, Planner};
+use crate::rows::{Kind, gate_of, hub_of, plain_row, push_exits, push_kind};
+use crate::supplies::supplies_of;
+use mcf_model::{PlanModel, RouteRow, Step};
+use mcf_text::NoMemory;
+use std::alloc::Global;
+
+// Returns the route of all that is missing.
+fn gate_row(most: i64, places: &[Place], policy: Policy) -> RouteRow
+    requires few { length places.now ≤ PLACE_LIMIT }
+    ensures route { (steps : List Step) → (rows : List RouteRow) → route_of steps result ≡ gate_route most (planner_of places.now steps rows policy) }
+    ensures plain { (result.first_step + result.step_count) ≡ 0 }
+{
+    let penalty = unit_penalty(policy.penalty);
+    plain_row(hub_of(places), gate_of(places), 0, Some(most), penalty)
+}
+
+// Returns the routes of the model in which no more than `most` units are missing.
+fn rows_of(alloc: Global, parts: Parts<'_>, most: i64) -> Result<Vec<RouteRow>, NoMemory>
+    requires few { length parts.places.now ≤ PLACE_LIMIT }
+    requires small { All IsSmallPlace parts.places.now }
+    requires inside { All (λ row. IsNode (length parts.places.now) row.tail) parts.rows.now }
+    ensures routes { IfOk result (λ made. map (route_of parts.entry.steps.now) made.items
+        ≡ (model_of most (planner_of parts.entry.places.now parts.entry.steps.now parts.entry.rows.now parts.entry.policy)).routes) }
+    ensures listed { IfOk result (λ made. AreListed parts.entry.steps.now parts.entry.rows.now → AreListed parts.entry.steps.now made.items) }
+{
+    let mut rows = Vec::new(alloc);
+    push_exits(parts.places, parts.rows, &mut rows)?;
+    push_kind(Kind::Through, parts.places, parts.policy, &mut rows)?;
+    push_kind(Kind::Stay, parts.places, parts.policy, &mut rows)?;
+    push_kind(Kind::Missing, parts.places, parts.policy, &mut rows)?;
+    let gate = gate_row(most, parts.places, parts.policy);
+    rows.push(gate)?;
+    Ok(rows)
+}
+
+// Returns a copy of steps.
+fn copied(alloc: Global, steps: &[Step]) -> Result<Vec<Step>, NoMemory>
+    ensures { IfOk result (λ made. made.items ≡ steps.now) }
+{
+    Ok(steps.iter().copied().collect(alloc)?)
+}
+
+/// Returns the model of a planner's problem in which no more than `most` units are missing in
+/// total. Its first places are those of the problem, and its first routes are those of the problem.
+///
+/// # Errors
+/// `NoMemory` if an allocation is refused. The model always has places, so it always allocates.
+pub fn model_of(alloc: Global, planner: &Planner, most: i64) -> Result<PlanModel, NoMemory>
+    ensures { IfOk result (λ made. made ≡ model_of most planner.now) }
+{
+    let parts = planner.parts();
+    let supplies = supplies_of(alloc, parts.places)?;
+    let rows = rows_of(alloc, parts, most)?;
+    let steps = copied(alloc, parts.steps)?;
+    match PlanModel::of(supplies, steps, rows) {
+        Ok(model) => Ok(model),
+        Err(_) => unreachable!(),
+    }
+}

@@ -1,0 +1,112 @@
+//! Planners' problems without faults.
+ghost use Rattle.std.specs.Prelude.{◌≡◌, IfOk, length, map};
+ghost use Rattle.mcf_model.specs.Tables.{route_of};
+ghost use Rattle.mcf_model.specs.Faults.{AreListed};
+ghost use Rattle.mcf_places.specs.PlannerFaults.{IsProperPlanner, made_of_places};
+
+use crate::faults::{PlannerFault, planner_fault};
+use crate::places::{Place, Policy};
+use mcf_model::{RouteRow, Step};
+use std::marker::Model;
+
+/// A planner's problem without faults: places with bounds on what passes through them, routes
+/// between them, and whether supplies may stay and demands may be missing. Each route is as
+/// `PlanModel` takes it, and there is a route or a place with bounds without a limit only if no
+/// cost is below 0. Where what passes through a place has bounds, its routes are used one way.
+///
+/// Places and routes count from 1. Clauses see the places and the routes in order, and the policy.
+#[derive(Drop)]
+pub struct Planner {
+    pub(crate) places: Vec<Place>,
+    pub(crate) steps: Vec<Step>,
+    pub(crate) rows: Vec<RouteRow>,
+    pub(crate) policy: Policy,
+}
+
+impl Model for Planner {
+    ghost use Rattle.mcf_model.specs.Faults.{AreListed};
+    ghost use Rattle.mcf_places.specs.PlannerFaults.{IsProperPlanner, planner_of};
+    ghost use Rattle.mcf_places.specs.Planners.{Planner as Problem};
+
+    ghost Value = { Problem };
+
+    ghost view = { λ m. planner_of m.places.items m.steps.items m.rows.items m.policy };
+
+    ghost invariant = { λ m. IsProperPlanner (planner_of m.places.items m.steps.items m.rows.items m.policy) × AreListed m.steps.items m.rows.items };
+}
+
+// What a problem is made of.
+#[derive(Clone, Copy)]
+pub(crate) struct Parts<'p> {
+    pub(crate) places: &'p [Place],
+    pub(crate) steps: &'p [Step],
+    pub(crate) rows: &'p [RouteRow],
+    pub(crate) policy: Policy,
+}
+
+impl Planner {
+    /// Makes a planner's problem from its places, the table of steps, the routes, in order, and
+    /// whether supplies may stay and demands may be missing.
+    ///
+    /// # Errors
+    /// The first fault, in the order of the cases of `PlannerFault`.
+    pub fn of(
+        places: Vec<Place>,
+        steps: Vec<Step>,
+        rows: Vec<RouteRow>,
+        policy: Policy,
+    ) -> Result<Planner, PlannerFault>
+        ensures exact { result ≡ made_of_places places.items steps.items rows.items policy }
+        ensures proper { IfOk result IsProperPlanner }
+    {
+        match planner_fault(&places, &steps, &rows, policy) {
+            Some(fault) => Err(fault),
+            None => Ok(Planner {
+                places,
+                steps,
+                rows,
+                policy,
+            }),
+        }
+    }
+
+    /// Returns the places, in order.
+    pub fn places(&self) -> &[Place]
+        ensures value { result.now ≡ self.now.places }
+        ensures proper { IsProperPlanner self.now }
+    {
+        &self.places
+    }
+
+    /// Returns the number of routes.
+    pub fn route_count(&self) -> usize
+        ensures value { result ≡ length self.now.routes }
+        ensures proper { IsProperPlanner self.now }
+    {
+        self.rows.len()
+    }
+
+    /// Returns whether supplies may stay, and demands may be missing.
+    pub fn policy(&self) -> Policy
+        ensures value { result ≡ self.now.policy }
+        ensures proper { IsProperPlanner self.now }
+    {
+        self.policy
+    }
+
+    // Returns what the problem is made of.
+    pub(crate) fn parts(&self) -> Parts<'_>
+        ensures places { result.places.now ≡ self.now.places }
+        ensures routes { map (route_of result.steps.now) result.rows.now ≡ self.now.routes }
+        ensures policy { result.policy ≡ self.now.policy }
+        ensures proper { IsProperPlanner self.now }
+        ensures listed { AreListed result.steps.now result.rows.now }
+    {
+        Parts {
+            places: &self.places,
+            steps: &self.steps,
+            rows: &self.rows,
+            policy: self.policy,
+        }
+    }
+}
