@@ -2,7 +2,7 @@
 # make test   runs the proofs and tests that a change must pass, besides make edits
 # make edits  tries every edit that must fail, and tests the script that does so; run make first
 # make memory-test   refuses each allocation of a few tests in turn; with ALL=1, of every test
-# make lint   runs the installed formatters and linters for Python, JavaScript, shell and C
+# make lint   runs the installed formatters and linters, and finds what rt ci refuses at sight
 # make quick  runs the fast checks, and rt check of the changed crates: under five minutes
 # make clean  removes what was proved and built: bin/, bench/out/, and out/ of each crate
 # make bench  runs the measurements of bench/

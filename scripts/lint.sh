@@ -1,8 +1,9 @@
 #!/bin/bash
-# Runs formatters, linters and type checkers over Python, JavaScript, shell and C, but not Rattle.
-# It reports each missing tool and skips it. Debian has all except ruff; black, isort and flake8
-# replace that, with the same rules. Settings: pyproject.toml, .flake8, jsconfig.json,
-# .eslintrc.json, .shellcheckrc, .clang-format. It changes nothing; `scripts/lint.sh --fix` formats.
+# Runs formatters, linters and type checkers over Python, JavaScript, shell and C, and looks for what
+# `rt ci` refuses of the crates' files before it proves anything. It reports each missing tool and
+# skips it. Debian has all except ruff and rt; black, isort and flake8 replace ruff, with the same
+# rules. Settings: pyproject.toml, .flake8, jsconfig.json, .eslintrc.json, .shellcheckrc,
+# .clang-format. It changes nothing; `scripts/lint.sh --fix` formats.
 set -uo pipefail
 cd "$(dirname "$0")/.." || exit 1
 fix=${1:-}
@@ -54,5 +55,6 @@ check "JavaScript" eslint eslint page/*.js
 check "JavaScript of tests" node modules_parse page/*.mjs
 check "types of JavaScript" tsc tsc -p jsconfig.json
 check "shell" shellcheck shellcheck --severity=warning "${shells[@]}"
+check "layout of Rattle, and edits" rt scripts/layout.py
 check "layout of C" clang-format clang-format --dry-run -Werror "${c[@]}"
 exit $failed
