@@ -38,6 +38,8 @@ struct mcf_choice {
     uint32_t block;   /* the arcs in a block of MCF_BLOCK: 1 to 1000000, or 0 for 256 */
     uint32_t form;    /* the form of an answer text: MCF_FULL or 0, or MCF_SPARSE, which names only
                          the arcs whose flow differs from their lower bound */
+    uint32_t check;   /* for arrays: unless 0, the checker judges a flow before the call returns it;
+                         this takes less time than to call mcf_check_arcs or mcf_check_pairs */
 };
 
 enum mcf_engine {
@@ -138,7 +140,8 @@ struct mcf_flow_problem {
 
    `flow` is unchanged for statuses 1 to 5, `prices` for 2 to 5, and `verdict` from 3 on. For
    MCF_PRICE_OVERFLOW the call writes both buffers, but they hold no answer. If a size or a supply
-   is beyond the limits, the status is never MCF_NO_MEMORY. */
+   is beyond the limits, the status is never MCF_NO_MEMORY. If the checker is asked and rejects the
+   flow, the status is MCF_NOT_SHOWN: it is proved that this doesn't happen. */
 uint32_t mcf_solve_arcs(const struct mcf_flow_problem *problem, const struct mcf_choice *choice,
                         int64_t *flow, size_t flow_length, int64_t *prices, size_t prices_length,
                         struct mcf_verdict *verdict);

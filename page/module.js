@@ -60,8 +60,8 @@ export class Instance {
    * @returns {{ status: Status } & Lent}
    */
   solve(text, engine = 'auto', form = 2, size = 0) {
-    const choice = this.room(16), room = size || text.size + 1024;
-    [ENGINES.indexOf(engine), 0, 0, form].forEach((number, k) =>
+    const choice = this.room(20), room = size || text.size + 1024;
+    [ENGINES.indexOf(engine), 0, 0, form, 0].forEach((number, k) =>
       this.view().setUint32(Number(choice) + 4 * k, number, true)
     );
     const at = this.room(room);

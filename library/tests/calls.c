@@ -14,7 +14,7 @@
         }                                                                          \
     } while (0)
 
-static const struct mcf_choice standard = {0, 0, 0, 0};
+static const struct mcf_choice standard = {0, 0, 0, 0, 0};
 
 static uint8_t *read_all(const char *path, size_t *length) {
     FILE *file = fopen(path, "rb");
@@ -81,6 +81,7 @@ static int check_arcs(void) {
                       verdict.high == 0 && verdict.negative == 0);
         CHECK(13, mcf_check_arcs(&problem, flow, 3, prices, 3, &verdict) == 0 &&
                       verdict.kind == MCF_ACCEPTED_FLOW);
+        choice.check = choice.engine & 1;
     }
     verdict.low = 6;
     CHECK(14, mcf_check_arcs(&problem, flow, 3, prices, 3, &verdict) == 1 &&

@@ -25,7 +25,7 @@ __extension__ typedef __int128 wide;
 enum { MANY = 6, SIZE = 1 << 20, ROOM = 1 << 26, PAGE = 1 << 16 };
 
 static const int64_t BOUND = INT64_C(1000000000000000000), COST = INT64_C(1000000000000000);
-static const struct mcf_choice standard = {0, 0, 0, 0};
+static const struct mcf_choice standard = {0, 0, 0, 0, 0};
 static long round_now, outcomes[12];
 
 static uint64_t chance(uint64_t below) {
@@ -62,7 +62,7 @@ static uint8_t text[SIZE], *input_end, *room_end, *answer_end;
  * answer, and judges changed ones. */
 static void answer_text(const uint8_t *input, size_t length) {
     const struct mcf_choice any = {(uint32_t)chance(6), (uint32_t)chance(4), (uint32_t)chance(3),
-                                   (uint32_t)chance(3)};
+                                   (uint32_t)chance(3), (uint32_t)chance(3)};
     struct mcf_verdict verdict;
     size_t used = 0, again = 0;
     uint8_t *buffer, *other;
@@ -402,7 +402,7 @@ static void try_arrays(void) {
     int64_t *flow = (int64_t *)(void *)(flow_end - now.arcs * sizeof(int64_t)),
             *prices = (int64_t *)(void *)(price_end - now.nodes * sizeof(int64_t));
     int64_t sevens[MANY];
-    struct mcf_choice choice = {0, 0, 0, 0};
+    struct mcf_choice choice = {0, 0, 0, 0, 0};
     struct mcf_verdict verdict;
     uint64_t place = 0;
     uint32_t fault = first_fault(&place), status;
@@ -414,6 +414,7 @@ static void try_arrays(void) {
     choice.engine = (uint32_t)chance(6);
     choice.pricing = (uint32_t)chance(4);
     choice.block = (uint32_t)chance(3);
+    choice.check = (uint32_t)chance(3);
     status = solve(&choice, flow, now.arcs, prices, now.nodes, &verdict);
     outcomes[3 + (status < 3 ? status : 3)]++;
     CHECK(status == MCF_FLOW || status == MCF_BLOCKED || status == MCF_INVALID_INPUT);
@@ -497,7 +498,7 @@ static void try_overlap(void) {
                          loops[3] = {{1, 1, 0, 1, 0}, {2, 3, 0, 1, 0}, {3, 2, 0, 1, 0}};
     const struct mcf_flow_problem once = {values, 4, &arc, 1}, whole = {none, 3, loops, 3};
     struct mcf_flow_problem twice = {NULL, 4, NULL, 1};
-    struct mcf_choice choice = {0, 0, 0, 0};
+    struct mcf_choice choice = {0, 0, 0, 0, 0};
     struct mcf_verdict verdict, other;
     int64_t flow[3], prices[4], again[3], others[4];
     void *both = at_edge(supply_end, &arc, sizeof arc);

@@ -194,6 +194,7 @@ int main(int count, char **words) {
     make_arrays();
     for (choice.engine = 0; choice.engine < 6; choice.engine++)
         for (choice.pricing = 0; choice.pricing < 4; choice.pricing++) {
+            choice.check = choice.pricing & 1;
             for (number = 2; number < 6; number++)
                 if (refuse_each(number)) return 1;
             /* The supply exceeds the capacities. */
@@ -210,7 +211,7 @@ int main(int count, char **words) {
     /* The masses differ in total. */
     masses[0] = -1;
     if (refuse_each(8) || refuse_each(12)) return 1;
-    choice.pricing = 0;
+    choice.pricing = choice.check = 0;
     for (place = 1; place < count; place++) {
         FILE *file = fopen(words[place], "rb");
         if (!file) return 90;

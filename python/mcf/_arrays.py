@@ -10,7 +10,7 @@ from typing import Any, List, Mapping, Optional, Sequence, Tuple, Union
 from ._library import BLOCKED, INVALID_INPUT, ArcArrays, Choice, Verdict
 from ._limits import Arc, Limits
 from ._numbers import listed
-from ._solving import NODE, Flow, as_node, blocked_by, flow_choice, judged, refused_by, solve_rows
+from ._solving import NODE, Flow, as_node, blocked_by, flow_choice, refused_by, solve_rows
 from ._types import Column, Numbers
 
 # The values of a column: an array of 8-byte integers, or a numpy array of them.
@@ -177,7 +177,7 @@ def _solve_whole(
         raise OverflowError
     rows = kind.rows((src, dst), (low, cap, cost))
     problem = ArcArrays(amounts, len(amounts), rows, len(src))
-    status = problem.solve(choice)
+    status = problem.solve(choice, check)
     if status in (INVALID_INPUT, BLOCKED):
         lows = repeat(0) if low is None else values_of(low)
         arcs: List[Arc] = list(
@@ -187,7 +187,7 @@ def _solve_whole(
         if status == INVALID_INPUT:
             raise refused_by(problem, values_of(amounts), limits)
         raise blocked_by(problem, values_of(amounts), arcs, limits, check)
-    return problem, judged(problem) if check else None
+    return problem, problem.accepted() if check else None
 
 
 def solve_arrays(

@@ -9,6 +9,8 @@ import threading
 from array import array
 from typing import Any, Callable, Dict, List, NamedTuple, Optional, Sequence, Tuple, Union
 
+from ._errors import NotAccepted
+
 (
     FLOW,
     BLOCKED,
@@ -78,6 +80,7 @@ class Choice(ctypes.Structure):
         ("pricing", ctypes.c_uint32),
         ("block", ctypes.c_uint32),
         ("form", ctypes.c_uint32),
+        ("check", ctypes.c_uint32),
     ]
 
 
@@ -251,7 +254,7 @@ def choice_of(
     if block is not None and not 1 <= block <= 1000000:
         raise ValueError("a block has 1 to 1000000 arcs")
     try:
-        return Choice(ENGINES[engine], PRICINGS[pricing], block or 0, FORMS[form])
+        return Choice(ENGINES[engine], PRICINGS[pricing], block or 0, FORMS[form], 0)
     except KeyError as error:
         raise ValueError("no such engine, pricing rule or form: %s" % error) from None
 
@@ -262,6 +265,8 @@ def failed(status: int) -> Exception:
         return MemoryError("mcf")
     if status == PRICE_OVERFLOW:
         return OverflowError("a price of the flow doesn't fit 64 bits")
+    if status == NOT_SHOWN:
+        return NotAccepted("the checker rejects the flow")
     return AssertionError("mcf: status %d" % status)
 
 
@@ -352,15 +357,20 @@ class Arrays:
     _solve: Any
     _check: Any
 
-    def solve(self, choice: Choice) -> int:
+    def solve(self, choice: Choice, check: bool) -> int:
         """Solves the problem and returns the status: FLOW, BLOCKED or INVALID_INPUT. `told` has
-        the details."""
+        the details. If `check` is true, the checker judges a flow before the call returns it."""
         size = len(self.flow) + 8 * len(self.prices)
+        choice.check = check
         words = (self.problem, choice, *self._rooms, self.told)
         status = self._call(self._solve, words, size)
         if status > INVALID_INPUT:
             raise failed(status)
         return int(status)
+
+    def accepted(self) -> Verdict:
+        """The checker's verdict on a flow that it judged before the call returned it."""
+        return Verdict(True, VERDICTS[0], self.told.number, "")
 
     def check(self) -> Verdict:
         """The checker's verdict on the flow, the prices and the cost in `told`."""

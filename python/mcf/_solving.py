@@ -305,12 +305,12 @@ def solve_whole(
     """
     limits = limited_arcs(supplies, arcs, beyond)
     problem = ArcArrays(supplied(supplies), len(supplies), packed(limits.arcs), len(arcs))
-    status = problem.solve(choice)
+    status = problem.solve(choice, check)
     if status == INVALID_INPUT:
         raise refused_by(problem, supplies, limits)
     if status == BLOCKED:
         raise blocked_by(problem, supplies, arcs, limits, check)
-    verdict = judged(problem) if check else None
+    verdict = problem.accepted() if check else None
     bound = binding(limits, problem.flow, problem.prices)
     if bound and not limits.short:
         raise _unbounded(limits, arcs, problem.flow, bound)

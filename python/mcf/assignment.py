@@ -7,7 +7,7 @@ from functools import lru_cache
 from itertools import chain
 from typing import Any, List, Optional, Sequence, Tuple, Union, overload
 
-from ._errors import Cell, Infeasible, NotAccepted, Refused
+from ._errors import Cell, Infeasible, Refused
 from ._library import (
     BLOCKED,
     CODES,
@@ -347,11 +347,9 @@ def _square(cells: Any, n: int, engine: str, check: bool) -> List[int]:
             ),
         )
     problem = PairArrays(n, n, pairs, len(pairs) // 2)
-    status = problem.solve(choice_of(engine, "block", None))
+    status = problem.solve(choice_of(engine, "block", None), check)
     if status != FLOW:
         raise _why(status, problem, n)
-    if check and not problem.check():
-        raise NotAccepted("an assignment isn't shown to be least")
     return _columns(problem.flow, where, n)
 
 

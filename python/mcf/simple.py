@@ -4,7 +4,7 @@ from array import array
 from operator import index
 from typing import Any, Iterable, List, Optional, Sequence, SupportsIndex, Tuple
 
-from ._errors import Infeasible, MCFError, NotAccepted, Refused
+from ._errors import Infeasible, MCFError, Refused
 from ._library import BLOCKED, CODES, FLOW, PairArrays, choice_of
 from ._limits import COST, NODES
 from ._numbers import limited
@@ -418,14 +418,12 @@ class SimpleLinearSumAssignment(_Arcs):
             pairs.frombytes(array("I", [u + 1, v + 1]).tobytes())
             pairs.append(limited(cost, COST))
         problem = PairArrays(n, n, pairs, len(self._arcs))
-        status = problem.solve(choice_of("auto", "block", None))
+        status = problem.solve(choice_of("auto", "block", None), True)
         if status == BLOCKED:
             return self.INFEASIBLE
         if status != FLOW:
             self.error = self._refused(CODES[problem.told.code], problem.told.number - 1)
             return self.POSSIBLE_OVERFLOW
-        if not problem.check():
-            raise NotAccepted("an assignment isn't shown to be least")
         chosen = sorted(self._arcs[k] for k, f in enumerate(problem.flow) if f)
         self._mates = [v for _, v, _ in chosen]
         self._costs = [cost for _, _, cost in chosen]

@@ -538,7 +538,7 @@ class Solving(unittest.TestCase):
             2,
         )
         self.assertEqual(
-            problem.solve(mcf._library.choice_of("auto", "block", None)), mcf._library.FLOW
+            problem.solve(mcf._library.choice_of("auto", "block", None), False), mcf._library.FLOW
         )
         self.assertTrue(problem.check())
         problem.told.low += 1

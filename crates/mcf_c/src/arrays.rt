@@ -8,7 +8,7 @@ ghost use Rattle.mcf_flows.specs.Limits.{limits};
 ghost use Rattle.mcf_flows.specs.Network.{node_count};
 ghost use Rattle.mcf_flows.specs.WellFormed.{IsWellFormed};
 
-use crate::choosing::{McfChoice, choice_of};
+use crate::choosing::{Asked, McfChoice, choice_of};
 use crate::handing::answer_instance;
 use crate::problems::{McfAssignment, McfFlowProblem, node_count};
 use crate::statuses::{BUFFER_TOO_SMALL, INVALID_CHOICE, INVALID_INPUT, NO_MEMORY};
@@ -21,7 +21,7 @@ use std::alloc::Global;
 fn answer_made(
     alloc: Global,
     made: Result<Instance, ArrayFault>,
-    choice: Choice,
+    asked: Asked,
     flow: &mut [i64],
     prices: &mut [i64],
     told: &mut McfVerdict,
@@ -30,21 +30,31 @@ fn answer_made(
     requires prices { IfOk made (λ g. length prices.old ≡ node_count g) }
     ensures statuses { (result ≤ 3) ⊎ (result ≡ 6) }
     ensures flow { result ≡ 0 → IfOk made (λ g. HandsFlow g flow.new prices.new told.new) × (is_ok made ≡ true) }
-    ensures made { result ≡ 0 → IfOk made (λ g. IsMadeFlow choice g flow.new) }
+    ensures made { result ≡ 0 → IfOk made (λ g. IsMadeFlow asked.choice g flow.new) }
     ensures set { result ≡ 1 → IfOk made (λ g. HandsSet g prices.new told.new) × (is_ok made ≡ true) }
     ensures fault { result ≡ 2 → IfErr made (λ fault. TellsFault fault told.new) × (is_ok made ≡ false) }
-    ensures memory { result ≡ 3 → IfOk made (λ g. TakesMemory choice.engine g) × (is_ok made ≡ true) }
+    ensures memory { result ≡ 3 → IfOk made (λ g. TakesMemory asked.choice.engine g) × (is_ok made ≡ true) }
     ensures wide { result ≡ 6 → IfOk made (λ g. HasWidePrice g) × (is_ok made ≡ true) }
     ensures flow_stays { (1 ≤ result) × (result ≤ 5) → flow.new ≡ flow.old }
     ensures prices_stay { (2 ≤ result) × (result ≤ 5) → prices.new ≡ prices.old }
     ensures told_stays { 3 ≤ result → told.new ≡ told.old }
 {
     match made {
-        Ok(instance) => answer_instance(alloc, &instance, choice, flow, prices, told),
+        Ok(instance) => answer_instance(alloc, &instance, asked, flow, prices, told),
         Err(fault) => {
             *told = fault_numbers(&fault);
             INVALID_INPUT
         }
+    }
+}
+
+// What a call is asked, by the choice that its numbers mean.
+fn asked(choice: Choice, numbers: &McfChoice) -> Asked
+    ensures { result.choice ≡ choice }
+{
+    Asked {
+        choice,
+        is_judged: numbers.check != 0,
     }
 }
 
@@ -55,7 +65,8 @@ fn answer_made(
 /// the length of the arrays; 5 if the numbers mean no choice; and 6 if a price doesn't fit 64 bits.
 /// `told` becomes the cost, the side and the number of nodes, or the fault; from 3 on it is
 /// unchanged. `flow` is unchanged from 1 to 5 and `prices` from 2 to 5: at 6 both buffers are
-/// written, and hold no answer. The form of the choice means nothing here.
+/// written, and hold no answer. The form of the choice means nothing here. If its `check` isn't 0,
+/// the checker judges a flow before the call returns it; that it accepts is proved.
 #[unsafe(no_mangle)]
 pub extern "C" fn mcf_solve_arcs(
     alloc: Global,
@@ -80,16 +91,17 @@ pub extern "C" fn mcf_solve_arcs(
     ensures prices_stay { (2 ≤ result) × (result ≤ 5) → prices.new ≡ prices.old }
     ensures told_stays { 3 ≤ result → told.new ≡ told.old }
 {
-    let Some(choice) = choice_of(choice) else {
+    let Some(chosen) = choice_of(choice) else {
         return INVALID_CHOICE;
     };
+    let asked = asked(chosen, choice);
     if !are_rooms(flow, problem.arcs.len(), prices, problem.supplies.len()) {
         return BUFFER_TOO_SMALL;
     }
     let Ok(made) = flow_problem(alloc, problem.supplies, problem.arcs) else {
         return NO_MEMORY;
     };
-    answer_made(alloc, made, choice, flow, prices, told)
+    answer_made(alloc, made, asked, flow, prices, told)
 }
 
 /// Whether arrays for the arcs and for the nodes have these lengths.
@@ -129,14 +141,15 @@ pub extern "C" fn mcf_solve_pairs(
     ensures prices_stay { (2 ≤ result) × (result ≤ 5) → prices.new ≡ prices.old }
     ensures told_stays { 3 ≤ result → told.new ≡ told.old }
 {
-    let Some(choice) = choice_of(choice) else {
+    let Some(chosen) = choice_of(choice) else {
         return INVALID_CHOICE;
     };
+    let asked = asked(chosen, choice);
     if !are_rooms(flow, problem.pairs.len(), prices, node_count(problem)) {
         return BUFFER_TOO_SMALL;
     }
     let Ok(made) = assignment_problem(alloc, problem.rows, problem.columns, problem.pairs) else {
         return NO_MEMORY;
     };
-    answer_made(alloc, made, choice, flow, prices, told)
+    answer_made(alloc, made, asked, flow, prices, told)
 }

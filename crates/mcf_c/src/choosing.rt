@@ -4,7 +4,8 @@ ghost use Rattle.mcf_c.specs.Choices.{block_of, choice_of, engine_of, form_of, p
 
 use mcf_solver::{BlockSize, Choice, EngineChoice, Form, PricingChoice};
 
-/// How to solve and answer an instance, in numbers. Each is 0 for the default.
+/// How to solve and answer an instance, in numbers. Each is 0 for the default. A `check` other than
+/// 0 has the checker judge a flow in arrays before the call returns it.
 #[repr(C)]
 #[derive(Clone, Copy)]
 pub struct McfChoice {
@@ -12,6 +13,15 @@ pub struct McfChoice {
     pub pricing: u32,
     pub block: u32,
     pub form: u32,
+    pub check: u32,
+}
+
+/// What a call for arrays is asked: how to solve the instance, and whether the checker judges the
+/// flow before the call returns it.
+#[derive(Clone, Copy)]
+pub(crate) struct Asked {
+    pub(crate) choice: Choice,
+    pub(crate) is_judged: bool,
 }
 
 // The engine with a number.

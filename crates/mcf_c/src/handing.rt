@@ -4,18 +4,21 @@ ghost use Rattle.std.specs.Int.{w64};
 ghost use Rattle.std.specs.List.{All};
 ghost use Rattle.mcf_c.specs.Handing.{FitWords, HandsFlow, HandsSet, HasWidePrice, IsMadeFlow, TakesMemory, in_one_form, mark_of};
 ghost use Rattle.mcf_c.specs.Verdicts.{Tells, TellsSet};
-ghost use Rattle.mcf_checker.specs.Correct.{amounts};
+ghost use Rattle.mcf_checker.specs.Correct.{IsRightSolution, amounts};
 ghost use Rattle.mcf_flows.specs.Blocking.{in_list, in_table};
 ghost use Rattle.mcf_flows.specs.Network.{IsNode, Network, node_count};
 ghost use Rattle.mcf_solver.specs.Answering.{IsNoFlowProof, IsOwed};
 
-use crate::statuses::{BLOCKED, FLOW, NO_MEMORY, PRICE_OVERFLOW};
+use crate::choosing::Asked;
+use crate::judging::accepts;
+use crate::statuses::{BLOCKED, FLOW, NO_MEMORY, NOT_SHOWN, PRICE_OVERFLOW};
 use crate::verdicts::{McfVerdict, numbers, set_numbers};
 use mcf_answer::{Answer, BlockedAnswer, FlowAnswer, Sent};
-use mcf_checker::Verdict;
+use mcf_checker::{Verdict, check_flow};
 use mcf_flows::NODE_LIMIT;
 use mcf_instance::{Instance, table_of};
 use mcf_solver::{Choice, Form, solve_instance};
+use mcf_text::NoMemory;
 use std::alloc::Global;
 
 // Whether a number fits 64 bits.
@@ -142,12 +145,30 @@ fn hand_set(
     BLOCKED
 }
 
+// Whether the checker accepts a right answer, if it is asked.
+fn is_accepted(
+    alloc: Global,
+    instance: &Instance,
+    answer: &FlowAnswer,
+    is_asked: bool,
+) -> Result<bool, NoMemory>
+    requires right { IsRightSolution instance.now answer.now }
+    ensures yes { IfOk result (λ yes. yes ≡ true) }
+    ensures wants { OnErr result (1 ≤ node_count instance.now) }
+{
+    if !is_asked {
+        return Ok(true);
+    }
+    let verdict = check_flow(alloc, instance, answer)?;
+    Ok(accepts(&verdict))
+}
+
 /// Answers an instance in arrays: its flow by arc and its prices by node, or, instead of the
 /// prices, the marks of a blocking set.
 pub(crate) fn answer_instance(
     alloc: Global,
     instance: &Instance,
-    choice: Choice,
+    asked: Asked,
     flow: &mut [i64],
     prices: &mut [i64],
     told: &mut McfVerdict,
@@ -156,21 +177,25 @@ pub(crate) fn answer_instance(
     requires prices { length prices.old ≡ node_count instance.now }
     ensures statuses { (result ≤ 1) ⊎ ((result ≡ 3) ⊎ (result ≡ 6)) }
     ensures flow { result ≡ 0 → HandsFlow instance.now flow.new prices.new told.new }
-    ensures made { result ≡ 0 → IsMadeFlow choice instance.now flow.new }
+    ensures made { result ≡ 0 → IsMadeFlow asked.choice instance.now flow.new }
     ensures set { result ≡ 1 → HandsSet instance.now prices.new told.new }
-    ensures memory { result ≡ 3 → TakesMemory choice.engine instance.now }
+    ensures memory { result ≡ 3 → TakesMemory asked.choice.engine instance.now }
     ensures wide { result ≡ 6 → HasWidePrice instance.now }
     ensures flow_stays { (result ≡ 1) ⊎ (result ≡ 3) → flow.new ≡ flow.old }
     ensures prices_stay { result ≡ 3 → prices.new ≡ prices.old }
     ensures told_stays { (result ≡ 3) ⊎ (result ≡ 6) → told.new ≡ told.old }
 {
     prove!(instance.node_count() <= NODE_LIMIT);
-    let choice = in_one_form(choice);
+    let choice = in_one_form(asked.choice);
     let Ok(answer) = solve_instance(alloc, instance, choice) else {
         return NO_MEMORY;
     };
     match &answer {
-        Answer::Flow(answer) => hand_flow(answer, flow, prices, told),
+        Answer::Flow(answer) => match is_accepted(alloc, instance, answer, asked.is_judged) {
+            Ok(true) => hand_flow(answer, flow, prices, told),
+            Ok(false) => NOT_SHOWN,
+            Err(_) => NO_MEMORY,
+        },
         Answer::Blocked(answer) => hand_set(alloc, instance, answer, prices, told),
         Answer::Sparse(_) | Answer::Refused(_) => unreachable!(),
     }

@@ -167,8 +167,8 @@ fn judge_instance(
     }
 }
 
-// Whether a verdict accepts.
-fn accepts(verdict: &Verdict) -> bool
+/// Whether a verdict accepts.
+pub(crate) fn accepts(verdict: &Verdict) -> bool
     ensures { result ≡ accepts verdict.now }
 {
     match verdict {

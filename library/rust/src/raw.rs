@@ -15,6 +15,7 @@ pub struct Choice {
     pub pricing: u32,
     pub block: u32,
     pub form: u32,
+    pub check: u32,
 }
 
 /// An arc, with nodes from 1.
