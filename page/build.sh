@@ -2,16 +2,14 @@
 # This script builds bin/mcf.wasm, the module of the page, from the proved crate mcf_c. Of the
 # crate's exports it keeps mcf_solve and mcf_check.
 #
-# The kit's compiler turns the crate and all crates below it into one LLVM module, and passes that
-# to clang for x86-64. This script keeps a copy of the module, refuses it if it has code that only
-# runs on x86-64, and compiles it for wasm64 with the same clang. Binaryen then lowers addresses to
-# 32 bits, so that browsers without memory64 run it. heap.c replaces the heap of the C library.
-# LLVM's own library has the functions that compiled code calls by name (the product of 128 bits and
-# the like).
+# scripts/module.sh gives the LLVM module of the crate and of all crates below it. This script
+# compiles it for wasm64 with the kit's clang. Binaryen then lowers addresses to 32 bits, so that
+# browsers without memory64 run it. heap.c replaces the heap of the C library. LLVM's own library has
+# the functions that compiled code calls by name (the product of 128 bits and the like).
 #
 # It needs rt on the path, wasm-opt (Debian: binaryen) and libclang_rt.builtins-wasm64.a (Debian:
 # libclang-rt-dev-wasm64; BUILTINS names another file). With --needs it only says which of these is
-# missing. It first proves and builds what isn't yet proved and built (scripts/static.sh).
+# missing. It first proves and builds what isn't yet proved and built.
 set -euo pipefail
 cd "$(dirname "$0")/.."
 stop() { echo "page: $1" >&2; exit 3; }
@@ -25,30 +23,14 @@ kit=$(dirname "$(rt doc)") scratch=$(mktemp -d)
 trap 'rm -rf "$scratch"' EXIT
 mkdir -p bin
 
-# This toolchain has a clang that keeps a copy of the LLVM module that it compiles.
-mkdir -p "$scratch/toolchain/bin"
-ln -s "$kit/toolchain/lib" "$scratch/toolchain/lib"
-for name in rattle-x64 ld.lld llvm-ar; do ln -s "$(realpath "$kit/toolchain/bin/$name")" "$scratch/toolchain/bin/$name"; done
-cat > "$scratch/toolchain/bin/clang" << END
-#!/bin/bash
-for word in "\$@"; do case "\$word" in *.bc) cp "\$word" "$scratch/module.bc" ;; esac; done
-exec -a clang "$kit/toolchain/bin/clang" "\$@"
-END
-chmod +x "$scratch/toolchain/bin/clang"
+scripts/module.sh "$scratch" || stop "there is no LLVM module"
 
-scripts/static.sh "$scratch/toolchain" "$scratch/libmcf_c.a" || stop "the crate isn't built"
-test -f "$scratch/module.bc" || stop "the kit's compiler handed no LLVM module to clang; see bin/mcf_c.log"
-
-# This step changes the module's target to wasm64: triple, layout and processor. It also removes the
-# stack probes, since the stack has the lowest addresses.
+# This step changes the module's target to wasm64: triple and layout. It also removes the stack
+# probes, since the stack has the lowest addresses.
 clang=$kit/toolchain/bin/clang
-"$clang" --target=x86_64-unknown-linux-gnu -S -emit-llvm -x ir -Xclang -disable-llvm-passes "$scratch/module.bc" -o "$scratch/module.ll"
-if grep -nE '@llvm\.x86\.|\basm (sideeffect|inteldialect|alignstack|")|x86_(fp80|amx)' "$scratch/module.ll" >&2; then
-    stop "these lines of the crate's LLVM module are for x86-64 alone"
-fi
 sed -i -e 's/^target datalayout = .*/target datalayout = "e-m:e-p:64:64-p10:8:8-p20:8:8-i64:64-i128:128-n32:64-S128-ni:1:10:20"/' \
     -e 's/^target triple = .*/target triple = "wasm64-unknown-unknown"/' \
-    -e '/^attributes/s/ "\(probe-stack\|stack-probe-size\|target-cpu\|target-features\|tune-cpu\)"="[^"]*"//g' "$scratch/module.ll"
+    -e '/^attributes/s/ "\(probe-stack\|stack-probe-size\)"="[^"]*"//g' "$scratch/module.ll"
 wasm=(--target=wasm64-unknown-unknown -mcpu=lime1 -mllvm -expand-div-rem-bits=64 -mllvm -expand-fp-convert-bits=64 -mllvm -trap-unreachable
     -ffunction-sections -fdata-sections --no-default-config -Werror)
 "$clang" "${wasm[@]}" -O3 -c -x ir "$scratch/module.ll" -o "$scratch/module.o"

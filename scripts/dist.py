@@ -1,6 +1,7 @@
 #!/usr/bin/env python3
 """Packs the results of `make` and `make library` in bin/ as a tar.gz, a .deb (if dpkg-deb is
-installed) and a wheel, with PROVENANCE and SHA256SUMS beside them.
+installed) and a wheel, with PROVENANCE and SHA256SUMS beside them; and a wheel for ARM, if its
+library is built.
 
 The script builds nothing. The packages contain what `make install` installs; packaging/ has their
 texts. The same commit with the same programs and the same tools gives the same bytes: times are
@@ -35,11 +36,15 @@ BUILT = {
     "mcfcheck": ("programs", "crates/"),
     "libmcf.so.1": ("library", "crates/"),
     "libmcf.a": ("library", "crates/"),
+    "libmcf-aarch64.so": ("library", "crates/", "library/heap.c"),
     "_small.abi3.so": ("library", "library/python/", "library/mcf.h"),
     "mcf.html": ("page", "crates/", "page/"),
 }
-# Those that may be missing: the page, and the Python module's extension for small matrices.
-OPTIONAL = ("_small.abi3.so", "mcf.html")
+# Those that may be missing: the library for ARM, the Python module's extension for small matrices,
+# and the page.
+OPTIONAL = ("libmcf-aarch64.so", "_small.abi3.so", "mcf.html")
+# The library and the extension of the wheel for each machine.
+WHEELS = {"x86_64": ("libmcf.so.1", "_small.abi3.so"), "aarch64": ("libmcf-aarch64.so",)}
 
 
 def stop(why):
@@ -208,19 +213,21 @@ def pack_deb(tree, path, version, at):
     )
 
 
-def pack_wheel(folder, version, provenance, at):
-    """Packs a wheel of the module with the library beside it. Returns its path."""
-    needed = libc(BIN / "libmcf.so.1")
-    tag = f"py3-none-{'manylinux2014' if needed <= 17 else f'manylinux_2_{needed}'}_x86_64"
+def pack_wheel(folder, version, provenance, at, machine):
+    """Packs a wheel of the module for a machine, with the library beside it. Returns its path."""
+    library, *extensions = WHEELS[machine]
+    needed = libc(BIN / library)
+    tag = f"py3-none-{'manylinux2014' if needed <= 17 else f'manylinux_2_{needed}'}_{machine}"
     about = f"yokdelm-{version}.dist-info"
     files = {
         f"mcf/{file.name}": file.read_bytes()
         for file in sorted((TOP / "python/mcf").glob("*.*"))
         if file.suffix != ".so"
     }
-    if (BIN / "_small.abi3.so").is_file():
-        files["mcf/_small.abi3.so"] = (BIN / "_small.abi3.so").read_bytes()
-    files["mcf/libmcf.so"] = (BIN / "libmcf.so.1").read_bytes()
+    for name in extensions:
+        if (BIN / name).is_file():
+            files[f"mcf/{name}"] = (BIN / name).read_bytes()
+    files["mcf/libmcf.so"] = (BIN / library).read_bytes()
     for name in ("METADATA", "WHEEL", "entry_points.txt"):
         files[f"{about}/{name}"] = filled(f"python/{name}", VERSION=version, TAG=tag).encode()
     files[f"{about}/PROVENANCE"] = provenance.encode()
@@ -268,7 +275,11 @@ def main(folder):
         pack_deb(tree, folder / f"yokdelm_{version}_amd64.deb", version, at)
     else:
         print("dist: skipped: the .deb: there is no dpkg-deb")
-    pack_wheel(folder, version, provenance, at)
+    for machine, (library, *_) in WHEELS.items():
+        if (BIN / library).is_file():
+            pack_wheel(folder, version, provenance, at, machine)
+        else:
+            print(f"dist: skipped: the wheel for {machine}: bin/{library} isn't built")
     shutil.rmtree(tree)
     put(folder / "PROVENANCE", provenance)
     made = sorted(folder.iterdir())

@@ -78,7 +78,7 @@ assert any(e.name == 'mcf' for e in importlib.metadata.entry_points()['networkx.
 wheel() {
     venv=$scratch/venv
     step "a virtual environment" python3 -m venv "$venv" || return 1
-    step "the wheel installed" "$venv/bin/pip" install --no-index "$dist"/*.whl || return 1
+    step "the wheel installed" "$venv/bin/pip" install --no-index "$dist"/*_x86_64.whl || return 1
     step "its module" sh -c 'cd / && "$@"' sh "$venv/bin/python" -c "$module"
     grep -q "$venv.*$venv" "$scratch/log" || { echo "dist-test: the module or its library is another: $(cat "$scratch/log")"; failed=1; }
     step "its RECORD" "$venv/bin/python" -c "

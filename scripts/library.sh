@@ -1,15 +1,16 @@
 #!/bin/sh
 # Proves and builds the crate mcf_c and all crates below it, if that isn't done, and links them into
 # bin/libmcf.so and bin/libmcf.a, with the header bin/mcf.h, and builds an extension of the Python
-# module. It needs rt and a C compiler. The allocator comes from the kit. The libraries export only
-# the names of mcf.h.
+# module, and the library for ARM. It needs rt and a C compiler. The allocator comes from the kit. The
+# libraries export only the names of mcf.h.
 set -eu
 cd "$(dirname "$0")/.."
-kit=$(dirname "$(rt doc)")
-built=bin/libmcf_c.a
+kit=$(dirname "$(rt doc)") scratch=$(mktemp -d)
+trap 'rm -rf "$scratch"' EXIT
+built=$scratch/libmcf_c.a
 mkdir -p bin
 
-scripts/static.sh "$kit/toolchain" "$PWD/$built"
+scripts/module.sh "$scratch"
 cc -shared -o bin/libmcf.so.1 -Wl,-soname,libmcf.so.1 -Wl,-z,text,-z,defs,-z,relro,-z,now -Wl,--version-script=library/libmcf.map \
     -Wl,--whole-archive "$built" -Wl,--no-whole-archive "$kit/c/liblibc_c.a"
 # Copy the file instead of linking it, because the gate accepts no links in the repository.
@@ -34,4 +35,12 @@ print(sysconfig.get_path("include"))' 2> /dev/null) || continue
     break
 done
 [ -f bin/_small.abi3.so ] || echo "library: skipped: the Python module's extension for small matrices: there is no Python.h"
+
+# The library for ARM, if there is a compiler for it.
+rm -f bin/libmcf-aarch64.so
+if command -v aarch64-linux-gnu-gcc > /dev/null; then
+    scripts/arm.sh "$scratch/module.ll" bin/libmcf-aarch64.so
+else
+    echo "library: skipped: the library for ARM: there is no aarch64-linux-gnu-gcc"
+fi
 rt version > bin/library.kit

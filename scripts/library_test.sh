@@ -65,6 +65,17 @@ if has cc C; then
     step "names of the static library" sh -c "nm -g --defined-only bin/libmcf.a | awk 'NF == 3 && \$3 !~ /^mcf_[a-z_]*\$/ {print; bad = 1} END {exit bad}'"
     step "exported names" sh -c "nm -D --defined-only bin/libmcf.so | awk '\$2 != \"A\" && \$3 !~ /^mcf_[a-z_]*@@MCF_1\$/ {print; bad = 1} END {exit bad}'"
 fi
+if [ ! -f bin/libmcf-aarch64.so ]; then
+    echo "library-test: skipped: the library for ARM: it isn't built"
+elif has aarch64-linux-gnu-gcc "the library for ARM" && has qemu-aarch64 "the library for ARM"; then
+    mkdir -p "$out/arm" && cp bin/libmcf-aarch64.so "$out/arm/libmcf.so" && ln -sf libmcf.so "$out/arm/libmcf.so.1"
+    for name in calls hostile; do
+        aarch64-linux-gnu-gcc -std=c99 $flags -o "$out/arm/$name" "library/tests/$name.c" -L"$out/arm" -lmcf || failed=1
+    done
+    export QEMU_LD_PREFIX=/usr/aarch64-linux-gnu
+    step "calls from C on ARM, emulated" qemu-aarch64 -E LD_LIBRARY_PATH="$out/arm" "$out/arm/calls" "${texts[@]}"
+    step "hostile calls on ARM, emulated" qemu-aarch64 -E LD_LIBRARY_PATH="$out/arm" "$out/arm/hostile" 300 examples/*.min examples/*.asn
+fi
 has c++ C++ && step "the header in C++" c++ -std=c++98 -Wall -Wextra -Werror -Wno-long-long -x c++ -fsyntax-only library/mcf.h
 has cargo Rust && step "Rust" env MCF_LIB_DIR="$top/bin" CARGO_TARGET_DIR="$out/rust" cargo test --offline --quiet --manifest-path library/rust/Cargo.toml
 has python3 Python && { step "commands of docs/LIBRARY.md" scripts/documents.py run docs/LIBRARY.md; grep '^documents: skipped: ' "$out/log" | sed 's/^documents/library-test/'; }
