@@ -8,3 +8,5 @@ mod ProperPlanners
 mod Listed
 mod ProperModels
 mod LeastPlans
+mod Shortages
+mod Stages

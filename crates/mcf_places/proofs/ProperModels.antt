@@ -157,7 +157,7 @@ module _ (most : ℤ) (P : Planner) where
 
 -- ---- the model that is made of lists
 
-planner_is : (P : Planner) (places : List Place) (routes : List Route) (policy : Policy) → places ≡ P.places → routes ≡ P.routes → policy ≡ P.policy
+pub planner_is : (P : Planner) (places : List Place) (routes : List Route) (policy : Policy) → places ≡ P.places → routes ≡ P.routes → policy ≡ P.policy
     → record { places = places; routes = routes; policy = policy } ≡ P
 planner_is P places routes policy e f g =
     ap (λ (z : List Place). record { places = z; routes = routes; policy = policy }) e

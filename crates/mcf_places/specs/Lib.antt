@@ -3,9 +3,14 @@ pub use Rattle.mcf_model.specs.Tables
 pub use Rattle.mcf_model.specs.Bottlenecks
 pub use Rattle.mcf_model.specs.Faults
 pub use Rattle.mcf_model.specs.Laws
+pub use Rattle.mcf_model.specs.Arcs
+pub use Rattle.mcf_instance.specs.Arrays
+pub use Rattle.mcf_flows.specs.Limits
 pub mod Planners
 pub mod Models
 pub mod PlannerLaws
 pub mod PlannerFaults
 pub mod Kinds
 pub mod Planning
+pub mod Shortage
+pub mod Answers

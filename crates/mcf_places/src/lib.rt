@@ -3,10 +3,13 @@
 //! Planners' problems: places with bounds on what passes through them, supplies that may stay, and
 //! demands that may be missing.
 //!
-//! It builds on `mcf_model`: each such problem is a model of that crate. The definitions are in
-//! `specs/`: `Planners` has problems and plans, `Models` their models, `PlannerLaws` the laws
-//! between both, and `PlannerFaults` the faults of a problem.
+//! It builds on `mcf_model`: each such problem is a model of that crate, and `least` uses any
+//! solver that it takes. The definitions are in `specs/`: `Planners` has problems and plans,
+//! `Models` their models, `PlannerLaws` the laws between both, `PlannerFaults` the faults of a
+//! problem, `Shortage` the problem in which only what is missing costs something, and `Answers` the
+//! answers.
 
+mod answering;
 mod faults;
 mod laws;
 mod making;
@@ -14,8 +17,10 @@ mod places;
 mod problem;
 mod reading;
 mod rows;
+mod shortage;
 mod supplies;
 
+pub use answering::{LeastPlannerPlan, PlannerAnswer, least};
 pub use faults::{PLACE_LIMIT, PlannerFault, SUM_LIMIT};
 pub use laws::{least_model_plans_are_least, planners_are_models, plans_miss_no_more};
 pub use making::model_of;

@@ -1,0 +1,182 @@
+-- The stages in which the least plan of a problem is found.
+use Rattle.std.proofs.Common.{◌≡◌, ℕ, suc, ◌-◌, Bool, true, false, List, [], ◌∷◌, ◌++◌, length, get_or, ap, sym, ◌∙◌, subst, arith, ℤ, pos, ◌≤ℤ◌}
+use Rattle.std.specs.Prelude.{Option, Some, None}
+use Rattle.std.proofs.Common.{length-append}
+use Rattle.std.proofs.Math.Seq.{get_or-append_seam}
+use Rattle.std.proofs.lemmas.Int.{ints, clamps}
+use Rattle.std.proofs.lemmas.List.{append_assoc}
+use Rattle.mcf_flows.specs.Network.{at_node, when}
+use Rattle.mcf_model.specs.declared.planning.Bottleneck.{Bottleneck}
+use Rattle.mcf_model.specs.declared.planning.LeastPlan.{LeastPlan}
+use Rattle.mcf_model.specs.declared.planning.Planned.{Planned}
+use Rattle.mcf_model.specs.declared.planning.Planned.TheVariants.{Plan as Found}
+use Rattle.mcf_model.specs.Model.{Model}
+use Rattle.mcf_model.specs.Planning.{HasNoPlan, IsBestPlan, IsPlanned}
+use Rattle.mcf_places.specs.declared.faults.TheConstants.{SUM_LIMIT}
+use Rattle.mcf_places.specs.declared.answering.LeastPlannerPlan.{LeastPlannerPlan}
+use Rattle.mcf_places.specs.declared.places.Place.{Place}
+use Rattle.mcf_places.specs.Answers.{IsBestPlannerPlan, IsLeastMissing, StandsFor, has_stages}
+use Rattle.mcf_places.specs.Models.{amounts_by, model_of, plan_of, routes_of}
+use Rattle.mcf_places.specs.PlannerFaults.{IsProperPlanner}
+use Rattle.mcf_places.specs.PlannerLaws.{LeavesEnough}
+use Rattle.mcf_places.specs.Planners.{EachPlace, IsBalancedAt, IsLeastPlan, IsPlan, Plan, Planner, all_wanted, cost, given, passes, place_sum, total_missing, wanted}
+use Rattle.mcf_places.specs.Planning.{plan_in}
+use Rattle.mcf_places.specs.Shortage.{shortage_of}
+use Rattle.mcf_places.proofs.Ends.{M, S, T}
+use Rattle.mcf_places.proofs.Exchange.{model_plan_is_plan, plans_are_model_plans_lem}
+use Rattle.mcf_places.proofs.LeastPlans.{least_model_plans_are_least_lem, misses_no_more}
+use Rattle.mcf_places.proofs.Shortages.{free_cost, misses_least, plan_free, plan_unfree, proper_free}
+
+-- the last of a list
+pub last_is : (before : List ℤ) (last d : ℤ) → get_or (before ++ last ∷ []) (length (before ++ last ∷ []) - 1) d ≡ last
+last_is before last d =
+    let long : length (before ++ last ∷ []) - 1 ≡ length before = omega (arith, length-append before (last ∷ [])) in
+    ap (λ k. get_or (before ++ last ∷ []) k d) long ∙ get_or-append_seam before last [] d
+
+pub no_last : (xs before : List ℤ) (last : ℤ) → xs ≡ before ++ last ∷ [] → length xs ≡ 0 → ⊥
+no_last xs before last e h = omega (arith, ap length e, length-append before (last ∷ []), h)
+
+module _ (P : Planner) (x : Plan) where
+  -- what a plan of the model carries before the route to the gate
+  abbrev pub before_gate : List ℤ
+  before_gate =
+      x.carries
+      ++ (amounts_by (T P) (passes P x) 1 P.places
+      ++ (amounts_by (S P) (λ v p. at_node x.stays v) 1 P.places ++ amounts_by (M P) (λ v p. at_node x.missing v) 1 P.places))
+
+  gate_last : before_gate ++ total_missing P x ∷ [] ≡ routes_of P x
+  gate_last =
+      let a = x.carries in
+      let b = amounts_by (T P) (passes P x) 1 P.places in
+      let c = amounts_by (S P) (λ v p. at_node x.stays v) 1 P.places in
+      let d = amounts_by (M P) (λ v p. at_node x.missing v) 1 P.places in
+      let z = total_missing P x ∷ [] in
+      append_assoc a (b ++ (c ++ d)) z ∙ ap (λ ys. a ++ ys) (append_assoc b (c ++ d) z ∙ ap (λ ys. b ++ ys) (append_assoc c d z))
+
+  -- what is missing in total is no less than 0, and no more than the sums may be
+  pub missing_low : IsPlan P x → pos 0 ≤ℤ total_missing P x
+  missing_low h = go 1 P.places h.balanced
+    where
+      go : (v : ℕ) (ps : List Place) → EachPlace (IsBalancedAt P x) v ps → pos 0 ≤ℤ place_sum (λ j p. at_node x.missing j) v ps
+      go v [] k = omega (arith, ints)
+      go v (p ∷ ps) k = omega (arith, ints, (k.0).misses_some, go (suc v) ps k.1)
+
+given_low : (v : ℕ) (ps : List Place) → pos 0 ≤ℤ place_sum (λ j p. given p) v ps
+given_low v [] = omega (arith, ints)
+given_low v (p ∷ ps) = let low : pos 0 ≤ℤ given p = omega (arith, ints, clamps) in omega (arith, ints, low, given_low (suc v) ps)
+
+pub wanted_low : (v : ℕ) (ps : List Place) → pos 0 ≤ℤ place_sum (λ j p. wanted p) v ps
+wanted_low v [] = omega (arith, ints)
+wanted_low v (p ∷ ps) = let low : pos 0 ≤ℤ wanted p = omega (arith, ints, clamps) in omega (arith, ints, low, wanted_low (suc v) ps)
+
+pub wanted_high : (P : Planner) → IsProperPlanner P → all_wanted P.places ≤ℤ pos SUM_LIMIT
+wanted_high P h = omega (arith, ints, h.small, given_low 1 P.places)
+
+pub missing_high : (P : Planner) (x : Plan) → IsProperPlanner P → IsPlan P x → total_missing P x ≤ℤ pos SUM_LIMIT
+missing_high P x proper h = go P.policy.short (misses_no_more P x h)
+  where
+    go : (b : Bool) → total_missing P x ≤ℤ when b (all_wanted P.places) → total_missing P x ≤ℤ pos SUM_LIMIT
+    go true k = omega (arith, ints, k, wanted_high P proper)
+    go false k = omega (arith, ints, k)
+
+-- what is least missing is within the sums
+pub missing_within : (most : ℤ) (P : Planner) → IsProperPlanner P → IsLeastMissing most P → (pos 0 ≤ℤ most) × (most ≤ℤ pos SUM_LIMIT)
+missing_within most P proper m = (
+  omega (arith, ints, m.misses, missing_low P m.plan m.is_plan),
+  omega (arith, ints, m.misses, missing_high P m.plan proper m.is_plan),
+)
+
+-- the answers of a model that is equal
+pub planned_of : (m n : Model) (a b : Planned) → m ≡ n → a ≡ b → IsPlanned m a → IsPlanned n b
+planned_of m n a b e f h = subst (λ k. IsPlanned k b) e (subst (IsPlanned m) f h)
+
+-- ---- from an answer for the model
+
+module _ (most : ℤ) (P : Planner) (proper : IsProperPlanner P) (stands : StandsFor most P) where
+  pub best_planner_plan : (found : LeastPlan) (made : LeastPlannerPlan) → IsBestPlan (model_of most P) found
+      → plan_in made.plan ≡ plan_of P found.carries.items → made.cost ≡ found.cost
+      → ((before : List ℤ) (last : ℤ) → found.carries.items ≡ before ++ last ∷ [] → made.missing ≡ last) → IsBestPlannerPlan P made
+  best_planner_plan found made best e f g =
+      let plan = found.carries.items in
+      let mine = model_plan_is_plan most P plan proper.sound.routes best.least.is_plan in
+      record {
+        least = subst (IsLeastPlan P) (sym e) (least_model_plans_are_least_lem most P plan proper.sound stands.enough best.least);
+        cost_is = f ∙ best.cost_is ∙ sym mine.same_cost ∙ ap (cost P) (sym e);
+        missing_is = g (before_gate P (plan_of P plan)) (total_missing P (plan_of P plan)) (sym mine.back_again ∙ sym (gate_last P (plan_of P plan)))
+            ∙ ap (total_missing P) (sym e);
+      }
+
+  pub no_planner_plan : (b : Bottleneck) → HasNoPlan (model_of most P) b → (x : Plan) → IsPlan P x → ⊥
+  no_planner_plan b h = stands.none h.none
+
+-- ---- one stage
+
+pub stands_at_once : (most : ℤ) (P : Planner) → IsProperPlanner P → has_stages P.policy.short P.policy.penalty ≡ false
+    → most ≡ when P.policy.short (all_wanted P.places) → StandsFor most P
+stands_at_once most P proper one is =
+    record {
+      enough = go P.policy.short P.policy.penalty one no_more;
+      none = λ none x h. none (routes_of P x) (plans_are_model_plans_lem most P x proper.sound.routes h (no_more x h)).is_plan;
+    }
+  where
+    no_more : (x : Plan) → IsPlan P x → total_missing P x ≤ℤ most
+    no_more x h = subst (λ z. total_missing P x ≤ℤ z) (sym is) (misses_no_more P x h)
+
+    go : (b : Bool) (o : Option ℤ) → has_stages b o ≡ false → ((x : Plan) → IsPlan P x → total_missing P x ≤ℤ most) → LeavesEnough most P b o
+    go true None bad k = cc bad
+    go true (Some penalty) e k = k
+    go false o e k = k
+
+-- ---- two stages
+
+pub stands_for_least : (most : ℤ) (P : Planner) → IsProperPlanner P → has_stages P.policy.short P.policy.penalty ≡ true → IsLeastMissing most P → StandsFor most P
+stands_for_least most P proper two m =
+    record {
+      enough = go P.policy.short P.policy.penalty two m.least;
+      none = λ none x h. absurd (none (routes_of P m.plan)
+          (plans_are_model_plans_lem most P m.plan proper.sound.routes m.is_plan (omega (arith, ints, m.misses))).is_plan);
+    }
+  where
+    go : (b : Bool) (o : Option ℤ) → has_stages b o ≡ true → ((x : Plan) → IsPlan P x → most ≤ℤ total_missing P x) → LeavesEnough most P b o
+    go true None e k = k
+    go true (Some penalty) bad k = cc bad
+    go false o bad k = cc bad
+
+module _ (most : ℤ) (P : Planner) (proper : IsProperPlanner P)
+    (is : most ≡ when (shortage_of P).policy.short (all_wanted (shortage_of P).places)) where
+  -- no plan misses more than the model of the first stage allows
+  no_more_short : (x : Plan) → IsPlan (shortage_of P) x → total_missing (shortage_of P) x ≤ℤ most
+  no_more_short x h = subst (λ z. total_missing (shortage_of P) x ≤ℤ z) (sym is) (misses_no_more (shortage_of P) x h)
+
+  enough_short : (b : Bool) → LeavesEnough most (shortage_of P) b (Some (pos 1))
+  enough_short true = no_more_short
+  enough_short false = no_more_short
+
+  pub least_missing_is : (found : LeastPlan) → IsBestPlan (model_of most (shortage_of P)) found → IsLeastMissing found.cost P
+  least_missing_is found best =
+      let Q = shortage_of P in
+      let plan = found.carries.items in
+      let sound = (proper_free P proper).sound in
+      let mine = model_plan_is_plan most Q plan sound.routes best.least.is_plan in
+      let least = least_model_plans_are_least_lem most Q plan sound (enough_short P.policy.short) best.least in
+      let misses : total_missing P (plan_of Q plan) ≡ found.cost = sym (free_cost P (plan_of Q plan)) ∙ mine.same_cost ∙ sym best.cost_is in
+      record {
+        plan = plan_of Q plan;
+        is_plan = plan_unfree P (plan_of Q plan) mine.is_plan;
+        misses = misses;
+        least = λ other h. omega (arith, ints, misses, misses_least P (plan_of Q plan) least other h);
+      }
+
+  pub none_short : (b : Bottleneck) → HasNoPlan (model_of most (shortage_of P)) b → (x : Plan) → IsPlan P x → ⊥
+  none_short b h x k =
+      let free = plan_free P x k in
+      h.none (routes_of (shortage_of P) x)
+      (plans_are_model_plans_lem most (shortage_of P) x (proper_free P proper).sound.routes free (no_more_short x free)).is_plan
+
+-- the first stage, from what its calls answer
+pub stage_one : (P short : Planner) (most sent : ℤ) (model : Model) (planned : Planned) (found : LeastPlan) → IsProperPlanner P → short ≡ shortage_of P
+    → most ≡ when short.policy.short (all_wanted short.places) → sent ≡ most → model ≡ model_of sent short → planned ≡ Found found → IsPlanned model planned
+    → IsLeastMissing found.cost P
+stage_one P short most sent model planned found proper is most_is sent_is model_is planned_is h =
+    least_missing_is most P proper (most_is ∙ ap (λ R. when R.policy.short (all_wanted R.places)) is) found
+    (planned_of model (model_of most (shortage_of P)) planned (Found found) (model_is ∙ ap (λ z. model_of z short) sent_is ∙ ap (model_of most) is) planned_is h)

@@ -1,0 +1,6 @@
+use Rattle.std.proofs.Common.{◌≡◌, map, take}
+use Rattle.mcf_places.specs.Shortage.{free_place}
+use Rattle.mcf_places.proofs.shortage.free_places.Given as goal
+
+abbrev pub invariant-loop-place : goal.invariant-loop-place
+invariant-loop-place l = l.made.items ≡ map free_place (take l.place l.places)

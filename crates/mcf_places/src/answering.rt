@@ -1,0 +1,164 @@
+//! The least plan of a planner's problem, or the reason why it has no plan.
+ghost use Rattle.std.specs.Prelude.{◌≡◌, ◌++◌, ◌∷◌, [], ◌≤ℤ◌, ℤ, IfOk, List, pos};
+ghost use Rattle.mcf_flows.specs.Network.{when};
+ghost use Rattle.mcf_places.specs.Answers.{IsMissed, IsPlannerAnswer, StandsFor, has_stages};
+ghost use Rattle.mcf_places.specs.PlannerFaults.{IsProperPlanner};
+ghost use Rattle.mcf_places.specs.Planners.{all_wanted};
+
+use crate::faults::{SUM_LIMIT, sums};
+use crate::making::model_of;
+use crate::places::Policy;
+use crate::problem::Planner;
+use crate::reading::{PlannerPlan, plan_of};
+use crate::shortage::shortage_of;
+use mcf_instance::ArrayFault;
+use mcf_model::{Planned, Solves, plan};
+use mcf_text::NoMemory;
+use std::alloc::Global;
+
+/// A least plan of a planner's problem, its cost, and what is missing in total.
+#[derive(Drop)]
+pub struct LeastPlannerPlan {
+    pub plan: PlannerPlan,
+    pub cost: i128,
+    pub missing: i128,
+}
+
+/// The answer for a planner's problem.
+#[derive(Drop)]
+pub enum PlannerAnswer {
+    /// A least plan.
+    Least(LeastPlannerPlan),
+    /// There is no plan.
+    NoPlan,
+    /// The first fault of the network of a model of the problem: a number beyond the limits.
+    Beyond(ArrayFault),
+}
+
+// What the first stage finds.
+#[derive(Clone, Copy)]
+enum Missed {
+    // the least that is missing in a plan
+    Missing(i64),
+    // there is no plan
+    Unplanned,
+    // the first number beyond the limits
+    TooGreat(ArrayFault),
+}
+
+// Returns the last of some amounts, or 0 if there is none.
+fn last_of(amounts: &[i128]) -> i128
+    ensures { (before : List ℤ) → (last : ℤ) → amounts.now ≡ before ++ (last ∷ []) → result ≡ last }
+{
+    let count = amounts.len();
+    if count == 0 { 0 } else { amounts[count - 1] }
+}
+
+// Returns whether the least that may be missing has to be found first.
+fn has_stages(policy: Policy) -> bool
+    ensures { result ≡ has_stages policy.short policy.penalty }
+{
+    if !policy.short {
+        return false;
+    }
+    match policy.penalty {
+        Some(_) => false,
+        None => true,
+    }
+}
+
+// Returns what all places want, or 0 if no demand may be missing.
+fn most_missing(planner: &Planner) -> i64
+    ensures { result ≡ when planner.now.policy.short (all_wanted planner.now.places) }
+{
+    let parts = planner.parts();
+    if parts.policy.short {
+        sums(parts.places).wanted as i64
+    } else {
+        0
+    }
+}
+
+// Returns what is missing in 64 bits.
+fn narrowed(missing: i128) -> i64
+    requires low { pos 0 ≤ℤ missing }
+    requires high { missing ≤ℤ pos SUM_LIMIT }
+    ensures { result ≡ missing }
+{
+    missing as i64
+}
+
+// Returns the answer for a problem from its model in which no more than `most` is missing.
+fn in_one_stage<S: Solves>(
+    alloc: Global,
+    solver: &mut S,
+    planner: &Planner,
+    most: i64,
+) -> Result<PlannerAnswer, NoMemory>
+    requires proper { IsProperPlanner planner.now }
+    requires stands { StandsFor most planner.now }
+    ensures { IfOk result (IsPlannerAnswer planner.now) }
+{
+    let model = model_of(alloc, planner, most)?;
+    let planned = plan(alloc, solver, &model)?;
+    match planned {
+        Planned::Plan(found) => {
+            let missing = last_of(&found.carries);
+            let plan = plan_of(alloc, planner, &found.carries)?;
+            Ok(PlannerAnswer::Least(LeastPlannerPlan {
+                plan,
+                cost: found.cost,
+                missing,
+            }))
+        }
+        Planned::NoPlan(_) => Ok(PlannerAnswer::NoPlan),
+        Planned::Beyond(fault) => Ok(PlannerAnswer::Beyond(fault)),
+    }
+}
+
+// Returns the least that is missing in a plan of a problem.
+fn least_missing<S: Solves>(
+    alloc: Global,
+    solver: &mut S,
+    planner: &Planner,
+) -> Result<Missed, NoMemory>
+    requires { IsProperPlanner planner.now }
+    ensures { IfOk result (IsMissed planner.now) }
+{
+    let shortage = shortage_of(alloc, planner)?;
+    let most = most_missing(&shortage);
+    let model = model_of(alloc, &shortage, most)?;
+    let planned = plan(alloc, solver, &model)?;
+    match planned {
+        Planned::Plan(found) => Ok(Missed::Missing(narrowed(found.cost))),
+        Planned::NoPlan(_) => Ok(Missed::Unplanned),
+        Planned::Beyond(fault) => Ok(Missed::TooGreat(fault)),
+    }
+}
+
+/// Returns a least plan of a planner's problem, with its cost and what is missing in total; or that
+/// the problem has no plan; or the first fault of the network of a model of the problem: a number
+/// beyond the limits, or a least amount above a limit.
+///
+/// Where demands may be missing and no penalty is named, no plan misses less than the plan
+/// returned, and of those that miss as much none costs less.
+///
+/// # Errors
+/// `NoMemory` if an allocation is refused. The model always has places, so it always allocates.
+pub fn least<S: Solves>(
+    alloc: Global,
+    solver: &mut S,
+    planner: &Planner,
+) -> Result<PlannerAnswer, NoMemory>
+    ensures { IfOk result (IsPlannerAnswer planner.now) }
+{
+    if !has_stages(planner.policy()) {
+        let most = most_missing(planner);
+        return in_one_stage(alloc, solver, planner, most);
+    }
+    match least_missing(alloc, solver, planner)? {
+        Missed::Missing(most) => in_one_stage(alloc, solver, planner, most),
+        Missed::Unplanned => Ok(PlannerAnswer::NoPlan),
+        Missed::TooGreat(fault) => Ok(PlannerAnswer::Beyond(fault)),
+    }
+}
