@@ -9,4 +9,8 @@ mod Listed
 mod ProperModels
 mod LeastPlans
 mod Shortages
+mod PlaceCuts
+mod ToldSets
+mod PlannerCuts
+mod ToldAnswers
 mod Stages

@@ -47,7 +47,7 @@ mapped Q f R g (r ∷ rs) h = All-cons Q (f r) (map f rs) (g r (All-head R r rs 
 
 module _ (most : ℤ) (P : Planner) where
   -- a fact of all routes of the model, from one of each kind
-  all_routes : (Q R : Route → Type 0) → ((r : Route) → R r → Q (from_exit P.places r)) → All R P.routes
+  pub all_routes : (Q R : Route → Type 0) → ((r : Route) → R r → Q (from_exit P.places r)) → All R P.routes
       → ((w : ℕ) → 1 ≤ w → w < 1 + length P.places → IfRoute (T P w (place_at P.places w)) Q)
       → ((w : ℕ) → 1 ≤ w → w < 1 + length P.places → IfRoute (S P w (place_at P.places w)) Q)
       → ((w : ℕ) → 1 ≤ w → w < 1 + length P.places → IfRoute (M P w (place_at P.places w)) Q)
@@ -63,7 +63,7 @@ module _ (most : ℤ) (P : Planner) where
       (all_made Q (M P) 1 P.places (each_from (λ j p. IfRoute (M P j p) Q) 1 P.places no_place m))
       (All-cons Q (gate_route most P) [] g (λ k d l. absurd (omega arith))))))
 
-  exit_is_place : (w : ℕ) → IsNode (length P.places) w → IsNode (length (supplies_of P.places)) (exit_of P.places w)
+  pub exit_is_place : (w : ℕ) → IsNode (length P.places) w → IsNode (length (supplies_of P.places)) (exit_of P.places w)
   exit_is_place w n = go (place_at P.places w).through (has_exit P.places w n)
     where
       go : (o : Option Bounds) → (is_some o ≡ true → length (with_exits (some_bounds P.places) P.places) ≡ length P.places)
@@ -87,7 +87,7 @@ module _ (most : ℤ) (P : Planner) where
   gate_is_place : IsNode (length (supplies_of P.places)) (gate_of P.places)
   gate_is_place = (omega arith, omega (arith, supplies_long P.places))
 
-  sound_model : AreSoundRoutes P → IsSoundModel (model_of most P)
+  pub sound_model : AreSoundRoutes P → IsSoundModel (model_of most P)
   sound_model sound =
       all_routes Sound (IsSoundRoute (length P.places))
       (λ r s. record {

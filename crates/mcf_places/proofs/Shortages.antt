@@ -58,7 +58,7 @@ zip_unmapped f g (r ∷ rs) (x ∷ xs) h = (g r x h.0, zip_unmapped f g rs xs h.
 
 -- ---- routes
 
-free_room : (steps : List Step) (m : ℤ) → room (map free_step steps) m ≡ room steps m
+pub free_room : (steps : List Step) (m : ℤ) → room (map free_step steps) m ≡ room steps m
 free_room [] m = refl
 free_room (s ∷ steps) m = ap (λ z. s.most +ℤ z) (free_room steps m)
 

@@ -1,11 +1,12 @@
 -- The stages in which the least plan of a problem is found.
-use Rattle.std.proofs.Common.{◌≡◌, ℕ, suc, ◌-◌, Bool, true, false, List, [], ◌∷◌, ◌++◌, length, get_or, ap, sym, ◌∙◌, subst, arith, ℤ, pos, ◌≤ℤ◌}
-use Rattle.std.specs.Prelude.{Option, Some, None}
+use Rattle.std.proofs.Common.{◌≡◌, ℕ, suc, ◌-◌, Bool, true, false, List, [], ◌∷◌, ◌++◌, length, get_or, ap, sym, ◌∙◌, subst, arith, ℤ, pos, ◌≤ℤ◌, inl, inr}
+use Rattle.std.specs.Prelude.{◌⊎◌, Option, Some, None}
+use Rattle.std.specs.List.{All}
 use Rattle.std.proofs.Common.{length-append}
 use Rattle.std.proofs.Math.Seq.{get_or-append_seam}
 use Rattle.std.proofs.lemmas.Int.{ints, clamps}
 use Rattle.std.proofs.lemmas.List.{append_assoc}
-use Rattle.mcf_flows.specs.Network.{at_node, when}
+use Rattle.mcf_flows.specs.Network.{IsNode, at_node, when}
 use Rattle.mcf_model.specs.declared.planning.Bottleneck.{Bottleneck}
 use Rattle.mcf_model.specs.declared.planning.LeastPlan.{LeastPlan}
 use Rattle.mcf_model.specs.declared.planning.Planned.{Planned}
@@ -15,8 +16,9 @@ use Rattle.mcf_model.specs.Planning.{HasNoPlan, IsBestPlan, IsPlanned}
 use Rattle.mcf_places.specs.declared.faults.TheConstants.{SUM_LIMIT}
 use Rattle.mcf_places.specs.declared.answering.LeastPlannerPlan.{LeastPlannerPlan}
 use Rattle.mcf_places.specs.declared.places.Place.{Place}
-use Rattle.mcf_places.specs.Answers.{IsBestPlannerPlan, IsLeastMissing, StandsFor, has_stages}
-use Rattle.mcf_places.specs.Models.{amounts_by, model_of, plan_of, routes_of}
+use Rattle.mcf_places.specs.declared.told.PlannerBottleneck.{PlannerBottleneck}
+use Rattle.mcf_places.specs.Answers.{HasNoPlannerPlan, IsBestPlannerPlan, IsLeastMissing, IsToldBottleneck, StandsFor, has_stages}
+use Rattle.mcf_places.specs.Models.{amounts_by, supplies_of, model_of, plan_of, routes_of}
 use Rattle.mcf_places.specs.PlannerFaults.{IsProperPlanner}
 use Rattle.mcf_places.specs.PlannerLaws.{LeavesEnough}
 use Rattle.mcf_places.specs.Planners.{EachPlace, IsBalancedAt, IsLeastPlan, IsPlan, Plan, Planner, all_wanted, cost, given, passes, place_sum, total_missing, wanted}
@@ -25,7 +27,8 @@ use Rattle.mcf_places.specs.Shortage.{shortage_of}
 use Rattle.mcf_places.proofs.Ends.{M, S, T}
 use Rattle.mcf_places.proofs.Exchange.{model_plan_is_plan, plans_are_model_plans_lem}
 use Rattle.mcf_places.proofs.LeastPlans.{least_model_plans_are_least_lem, misses_no_more}
-use Rattle.mcf_places.proofs.Shortages.{free_cost, misses_least, plan_free, plan_unfree, proper_free}
+use Rattle.mcf_places.proofs.Shortages.{free_cost, misses_least, plan_unfree, proper_free}
+use Rattle.mcf_places.proofs.ToldAnswers.{no_plan_unfree, told_bottleneck}
 
 -- the last of a list
 pub last_is : (before : List ℤ) (last d : ℤ) → get_or (before ++ last ∷ []) (length (before ++ last ∷ []) - 1) d ≡ last
@@ -90,7 +93,24 @@ missing_within most P proper m = (
 pub planned_of : (m n : Model) (a b : Planned) → m ≡ n → a ≡ b → IsPlanned m a → IsPlanned n b
 planned_of m n a b e f h = subst (λ k. IsPlanned k b) e (subst (IsPlanned m) f h)
 
+-- the places of a bottleneck are places of the model
+pub found_places : (most : ℤ) (P : Planner) (b : Bottleneck) → HasNoPlan (model_of most P) b → All (IsNode (length (supplies_of P.places))) b.places.items
+found_places most P b h = h.are_places
+
 -- ---- from an answer for the model
+
+-- a model that has all plans
+pub no_plan_told : (most : ℤ) (P : Planner) → IsProperPlanner P → most ≡ when P.policy.short (all_wanted P.places) → (b : Bottleneck)
+    (made : PlannerBottleneck) → HasNoPlan (model_of most P) b → IsToldBottleneck P b made → HasNoPlannerPlan P made
+no_plan_told most P proper all b made h told =
+    record {
+      entry_by_place = told.entry_by_place;
+      exit_by_place = told.exit_by_place;
+      is_bottleneck = told_bottleneck most P b made proper.sound all h.is_bottleneck told;
+      none = λ x is.
+          h.none (routes_of P x)
+          (plans_are_model_plans_lem most P x proper.sound.routes is (subst (λ z. total_missing P x ≤ℤ z) (sym all) (misses_no_more P x is))).is_plan;
+    }
 
 module _ (most : ℤ) (P : Planner) (proper : IsProperPlanner P) (stands : StandsFor most P) where
   pub best_planner_plan : (found : LeastPlan) (made : LeastPlannerPlan) → IsBestPlan (model_of most P) found
@@ -106,8 +126,14 @@ module _ (most : ℤ) (P : Planner) (proper : IsProperPlanner P) (stands : Stand
             ∙ ap (total_missing P) (sym e);
       }
 
-  pub no_planner_plan : (b : Bottleneck) → HasNoPlan (model_of most P) b → (x : Plan) → IsPlan P x → ⊥
-  no_planner_plan b h = stands.none h.none
+  pub no_planner_plan : (b : Bottleneck) (made : PlannerBottleneck) → HasNoPlan (model_of most P) b → IsToldBottleneck P b made → HasNoPlannerPlan P made
+  no_planner_plan b made h told = go stands.all_or_least
+    where
+      go : (most ≡ when P.policy.short (all_wanted P.places)) ⊎ IsLeastMissing most P → HasNoPlannerPlan P made
+      go (inl all) = no_plan_told most P proper all b made h told
+      go (inr m) =
+          absurd (h.none (routes_of P m.plan)
+          (plans_are_model_plans_lem most P m.plan proper.sound.routes m.is_plan (omega (arith, ints, m.misses))).is_plan)
 
 -- ---- one stage
 
@@ -116,7 +142,7 @@ pub stands_at_once : (most : ℤ) (P : Planner) → IsProperPlanner P → has_st
 stands_at_once most P proper one is =
     record {
       enough = go P.policy.short P.policy.penalty one no_more;
-      none = λ none x h. none (routes_of P x) (plans_are_model_plans_lem most P x proper.sound.routes h (no_more x h)).is_plan;
+      all_or_least = inl is;
     }
   where
     no_more : (x : Plan) → IsPlan P x → total_missing P x ≤ℤ most
@@ -133,8 +159,7 @@ pub stands_for_least : (most : ℤ) (P : Planner) → IsProperPlanner P → has_
 stands_for_least most P proper two m =
     record {
       enough = go P.policy.short P.policy.penalty two m.least;
-      none = λ none x h. absurd (none (routes_of P m.plan)
-          (plans_are_model_plans_lem most P m.plan proper.sound.routes m.is_plan (omega (arith, ints, m.misses))).is_plan);
+      all_or_least = inr m;
     }
   where
     go : (b : Bool) (o : Option ℤ) → has_stages b o ≡ true → ((x : Plan) → IsPlan P x → most ≤ℤ total_missing P x) → LeavesEnough most P b o
@@ -167,11 +192,9 @@ module _ (most : ℤ) (P : Planner) (proper : IsProperPlanner P)
         least = λ other h. omega (arith, ints, misses, misses_least P (plan_of Q plan) least other h);
       }
 
-  pub none_short : (b : Bottleneck) → HasNoPlan (model_of most (shortage_of P)) b → (x : Plan) → IsPlan P x → ⊥
-  none_short b h x k =
-      let free = plan_free P x k in
-      h.none (routes_of (shortage_of P) x)
-      (plans_are_model_plans_lem most (shortage_of P) x (proper_free P proper).sound.routes free (no_more_short x free)).is_plan
+  pub none_short : (b : Bottleneck) (made : PlannerBottleneck) → HasNoPlan (model_of most (shortage_of P)) b → IsToldBottleneck (shortage_of P) b made
+      → HasNoPlannerPlan P made
+  none_short b made h told = no_plan_unfree P made (no_plan_told most (shortage_of P) (proper_free P proper) is b made h told)
 
 -- the first stage, from what its calls answer
 pub stage_one : (P short : Planner) (most sent : ℤ) (model : Model) (planned : Planned) (found : LeastPlan) → IsProperPlanner P → short ≡ shortage_of P

@@ -1,21 +1,26 @@
 -- The answers for a planner's problem.
 -- Source: own
-use Rattle.std.specs.Prelude.{◌≡◌, Bool, true, false, ℤ, ◌≤ℤ◌, ◌⊎◌, Option, Some, None, List}
+use Rattle.std.specs.Prelude.{◌≡◌, ℕ, Bool, true, false, ℤ, ◌≤ℤ◌, ◌⊎◌, Option, Some, None, length}
+use Rattle.mcf_flows.specs.Blocking.{in_list, in_table}
 use Rattle.mcf_flows.specs.Limits.{limits}
+use Rattle.mcf_flows.specs.Network.{IsNode, when}
 use Rattle.mcf_instance.specs.declared.arrays.ArrayFault.{ArrayFault}
 use Rattle.mcf_instance.specs.Arrays.{array_fault}
+use Rattle.mcf_model.specs.declared.planning.Bottleneck.{Bottleneck}
 use Rattle.mcf_model.specs.Arcs.{network_of, reach_of}
-use Rattle.mcf_model.specs.Model.{IsPlan as IsModelPlan}
 use Rattle.mcf_places.specs.declared.answering.LeastPlannerPlan.{LeastPlannerPlan}
 use Rattle.mcf_places.specs.declared.answering.Missed.{Missed}
 use Rattle.mcf_places.specs.declared.answering.Missed.TheVariants.{Missing, Unplanned, TooGreat}
 use Rattle.mcf_places.specs.declared.answering.PlannerAnswer.{PlannerAnswer}
 use Rattle.mcf_places.specs.declared.answering.PlannerAnswer.TheVariants.{Least, NoPlan, Beyond}
-use Rattle.mcf_places.specs.Models.{model_of}
+use Rattle.mcf_places.specs.declared.told.PlannerBottleneck.{PlannerBottleneck}
+use Rattle.mcf_places.specs.Models.{exit_of, hub_of, model_of}
+use Rattle.mcf_places.specs.PlannerBottlenecks.{IsPlannerBottleneck, PlaceSet}
 use Rattle.mcf_places.specs.PlannerLaws.{LeavesEnough}
-use Rattle.mcf_places.specs.Planners.{IsLeastPlan, IsPlan, Plan, Planner, cost, total_missing}
+use Rattle.mcf_places.specs.Planners.{IsLeastPlan, IsPlan, Plan, Planner, all_wanted, cost, total_missing}
 use Rattle.mcf_places.specs.Planning.{plan_in}
 use Rattle.mcf_places.specs.Shortage.{shortage_of}
+use Rattle.mcf_places.specs.Told.{side_told, turned_if}
 
 -- a least plan, its cost, and what is missing in total
 pub record IsBestPlannerPlan (P : Planner) (p : LeastPlannerPlan) : Type 0 where
@@ -23,15 +28,26 @@ pub record IsBestPlannerPlan (P : Planner) (p : LeastPlannerPlan) : Type 0 where
   pub cost_is : p.cost ≡ cost P (plan_in p.plan)
   pub missing_is : p.missing ≡ total_missing P (plan_in p.plan)
 
+-- the set of places of a bottleneck
+abbrev pub set_in : PlannerBottleneck → PlaceSet
+set_in b = record { entries = in_table b.entries.items; exits = in_table b.exits.items }
+
+-- places that must send, or take, more than they can, and so no plan
+pub record HasNoPlannerPlan (P : Planner) (b : PlannerBottleneck) : Type 0 where
+  pub entry_by_place : length b.entries.items ≡ length P.places
+  pub exit_by_place : length b.exits.items ≡ length P.places
+  pub is_bottleneck : IsPlannerBottleneck P (set_in b) b.side
+  pub none : (x : Plan) → ¬ IsPlan P x
+
 -- the first fault of the network of a model of the problem
 pub record IsBeyond (P : Planner) (fault : ArrayFault) : Type 0 where
   pub most : ℤ
   pub beyond : array_fault limits (network_of (reach_of (model_of most P)) (model_of most P)) ≡ Some fault
 
--- a least plan; or no plan; or the first number beyond the limits
+-- a least plan; or places that are a bottleneck; or the first number beyond the limits
 abbrev pub IsPlannerAnswer : Planner → PlannerAnswer → Type 0
 IsPlannerAnswer P (Least p) = IsBestPlannerPlan P p
-IsPlannerAnswer P NoPlan = (x : Plan) → ¬ IsPlan P x
+IsPlannerAnswer P (NoPlan b) = HasNoPlannerPlan P b
 IsPlannerAnswer P (Beyond fault) = IsBeyond P fault ⊎ IsBeyond (shortage_of P) fault
 
 -- ---- the two stages
@@ -42,12 +58,6 @@ has_stages true None = true
 has_stages true (Some penalty) = false
 has_stages false penalty = false
 
--- a model in which no more than `most` is missing stands for the problem: its least plans are least
--- plans of the problem, and if it has no plan, then the problem has none
-pub record StandsFor (most : ℤ) (P : Planner) : Type 0 where
-  pub enough : LeavesEnough most P P.policy.short P.policy.penalty
-  pub none : ((plan : List ℤ) → ¬ IsModelPlan (model_of most P) plan) → (x : Plan) → ¬ IsPlan P x
-
 -- the least that is missing in a plan
 pub record IsLeastMissing (most : ℤ) (P : Planner) : Type 0 where
   pub plan : Plan
@@ -55,8 +65,25 @@ pub record IsLeastMissing (most : ℤ) (P : Planner) : Type 0 where
   pub misses : total_missing P plan ≡ most
   pub least : (other : Plan) → IsPlan P other → most ≤ℤ total_missing P other
 
+-- a model in which no more than `most` is missing stands for the problem: its least plans are least
+-- plans of the problem; and it has all plans, or it has the one that misses the least
+pub record StandsFor (most : ℤ) (P : Planner) : Type 0 where
+  pub enough : LeavesEnough most P P.policy.short P.policy.penalty
+  pub all_or_least : (most ≡ when P.policy.short (all_wanted P.places)) ⊎ IsLeastMissing most P
+
 -- what the first stage finds
 abbrev pub IsMissed : Planner → Missed → Type 0
 IsMissed P (Missing most) = IsLeastMissing most P
-IsMissed P Unplanned = (x : Plan) → ¬ IsPlan P x
+IsMissed P (Unplanned b) = HasNoPlannerPlan P b
 IsMissed P (TooGreat fault) = IsBeyond (shortage_of P) fault
+
+-- a bottleneck of a model of the problem, as one of the problem: where the hub is one of the
+-- places, all others are meant, and the other side
+pub record IsToldBottleneck (P : Planner) (found : Bottleneck) (made : PlannerBottleneck) : Type 0 where
+  pub entry_by_place : length made.entries.items ≡ length P.places
+  pub exit_by_place : length made.exits.items ≡ length P.places
+  pub entries : (v : ℕ) → IsNode (length P.places) v
+      → in_table made.entries.items v ≡ turned_if (in_list found.places.items (hub_of P.places)) (in_list found.places.items v)
+  pub exits : (v : ℕ) → IsNode (length P.places) v
+      → in_table made.exits.items v ≡ turned_if (in_list found.places.items (hub_of P.places)) (in_list found.places.items (exit_of P.places v))
+  pub side : made.side ≡ side_told (in_list found.places.items (hub_of P.places)) found.side

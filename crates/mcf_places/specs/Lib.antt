@@ -13,4 +13,6 @@ pub mod PlannerFaults
 pub mod Kinds
 pub mod Planning
 pub mod Shortage
+pub mod PlannerBottlenecks
+pub mod Told
 pub mod Answers

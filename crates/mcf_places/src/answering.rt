@@ -11,6 +11,7 @@ use crate::places::Policy;
 use crate::problem::Planner;
 use crate::reading::{PlannerPlan, plan_of};
 use crate::shortage::shortage_of;
+use crate::told::{PlannerBottleneck, told};
 use mcf_instance::ArrayFault;
 use mcf_model::{Planned, Solves, plan};
 use mcf_text::NoMemory;
@@ -29,19 +30,19 @@ pub struct LeastPlannerPlan {
 pub enum PlannerAnswer {
     /// A least plan.
     Least(LeastPlannerPlan),
-    /// There is no plan.
-    NoPlan,
+    /// There is no plan, since these places must send, or take, more than they can.
+    NoPlan(PlannerBottleneck),
     /// The first fault of the network of a model of the problem: a number beyond the limits.
     Beyond(ArrayFault),
 }
 
 // What the first stage finds.
-#[derive(Clone, Copy)]
+#[derive(Drop)]
 enum Missed {
     // the least that is missing in a plan
     Missing(i64),
-    // there is no plan
-    Unplanned,
+    // there is no plan, since these places must send, or take, more than they can
+    Unplanned(PlannerBottleneck),
     // the first number beyond the limits
     TooGreat(ArrayFault),
 }
@@ -111,7 +112,10 @@ fn in_one_stage<S: Solves>(
                 missing,
             }))
         }
-        Planned::NoPlan(_) => Ok(PlannerAnswer::NoPlan),
+        Planned::NoPlan(found) => {
+            let bottleneck = told(alloc, planner, &found)?;
+            Ok(PlannerAnswer::NoPlan(bottleneck))
+        }
         Planned::Beyond(fault) => Ok(PlannerAnswer::Beyond(fault)),
     }
 }
@@ -131,14 +135,18 @@ fn least_missing<S: Solves>(
     let planned = plan(alloc, solver, &model)?;
     match planned {
         Planned::Plan(found) => Ok(Missed::Missing(narrowed(found.cost))),
-        Planned::NoPlan(_) => Ok(Missed::Unplanned),
+        Planned::NoPlan(found) => {
+            let bottleneck = told(alloc, &shortage, &found)?;
+            Ok(Missed::Unplanned(bottleneck))
+        }
         Planned::Beyond(fault) => Ok(Missed::TooGreat(fault)),
     }
 }
 
-/// Returns a least plan of a planner's problem, with its cost and what is missing in total; or that
-/// the problem has no plan; or the first fault of the network of a model of the problem: a number
-/// beyond the limits, or a least amount above a limit.
+/// Returns a least plan of a planner's problem, with its cost and what is missing in total; or
+/// places that must send, or take, more than they can, if the problem has no plan; or the first
+/// fault of the network of a model of the problem: a number beyond the limits, or a least amount
+/// above a limit.
 ///
 /// Where demands may be missing and no penalty is named, no plan misses less than the plan
 /// returned, and of those that miss as much none costs less.
@@ -158,7 +166,7 @@ pub fn least<S: Solves>(
     }
     match least_missing(alloc, solver, planner)? {
         Missed::Missing(most) => in_one_stage(alloc, solver, planner, most),
-        Missed::Unplanned => Ok(PlannerAnswer::NoPlan),
+        Missed::Unplanned(found) => Ok(PlannerAnswer::NoPlan(found)),
         Missed::TooGreat(fault) => Ok(PlannerAnswer::Beyond(fault)),
     }
 }

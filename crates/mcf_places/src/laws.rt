@@ -1,5 +1,8 @@
 //! Laws about planners' problems. Each is the contract of a function with an empty body.
+ghost use Rattle.mcf_places.specs.PlannerBottlenecks.{PlannerBottlenecksHaveNoPlan};
 ghost use Rattle.mcf_places.specs.PlannerLaws.{LeastModelPlansAreLeast, PlannersAreModels, PlansMissNoMore};
+
+use mcf_model::bottlenecks_have_no_plan;
 
 /// Each plan of a planner's problem in which no more than a given amount is missing is a plan of
 /// its model, at the same cost, and each plan of the model is such a plan.
@@ -19,3 +22,10 @@ pub fn least_model_plans_are_least()
 pub fn plans_miss_no_more()
     ensures { PlansMissNoMore }
 {}
+
+/// If some places are a bottleneck, the problem has no plan.
+pub fn planner_bottlenecks_have_no_plan()
+    ensures { PlannerBottlenecksHaveNoPlan }
+{
+    bottlenecks_have_no_plan();
+}

@@ -6,8 +6,8 @@
 //! It builds on `mcf_model`: each such problem is a model of that crate, and `least` uses any
 //! solver that it takes. The definitions are in `specs/`: `Planners` has problems and plans,
 //! `Models` their models, `PlannerLaws` the laws between both, `PlannerFaults` the faults of a
-//! problem, `Shortage` the problem in which only what is missing costs something, and `Answers` the
-//! answers.
+//! problem, `PlannerBottlenecks` the reasons why it has no plan, `Shortage` the problem in which
+//! only what is missing costs something, and `Answers` the answers.
 
 mod answering;
 mod faults;
@@ -19,11 +19,16 @@ mod reading;
 mod rows;
 mod shortage;
 mod supplies;
+mod told;
 
 pub use answering::{LeastPlannerPlan, PlannerAnswer, least};
 pub use faults::{PLACE_LIMIT, PlannerFault, SUM_LIMIT};
-pub use laws::{least_model_plans_are_least, planners_are_models, plans_miss_no_more};
+pub use laws::{
+    least_model_plans_are_least, planner_bottlenecks_have_no_plan, planners_are_models,
+    plans_miss_no_more,
+};
 pub use making::model_of;
 pub use places::{Bounds, Place, Policy};
 pub use problem::Planner;
 pub use reading::{PlannerPlan, plan_of};
+pub use told::PlannerBottleneck;

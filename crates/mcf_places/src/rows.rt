@@ -72,7 +72,7 @@ fn exit_by(places: &[Place], place: u32, through: Option<Bounds>) -> u32
 }
 
 // Returns the number of the exit of the place with a number.
-fn exit_of(places: &[Place], place: u32) -> u32
+pub(crate) fn exit_of(places: &[Place], place: u32) -> u32
     requires few { length places.now ≤ PLACE_LIMIT }
     requires inside { IsNode (length places.now) place }
     ensures { result ≡ exit_of places.now place }

@@ -52,7 +52,7 @@ fn push_exits(places: &[Place], supplies: &mut Vec<i64>) -> Result<(), NoMemory>
 }
 
 // Returns whether some place has bounds.
-fn some_bounds(places: &[Place]) -> bool
+pub(crate) fn some_bounds(places: &[Place]) -> bool
     ensures { result ≡ some_bounds places.now }
 {
     for place in 0..places.len() {

@@ -10,6 +10,8 @@ mod faults;
 #[cfg(test)]
 mod places;
 #[cfg(test)]
+mod places_planned;
+#[cfg(test)]
 mod plans;
 #[cfg(test)]
 mod tried;

@@ -1,7 +1,7 @@
 use Rattle.std.proofs.Common.{rules, ◌≡◌, ◌∙◌, ap, to_z, of_z, w64}
 use Rattle.std.specs.Int.{w128}
 use Rattle.mcf_places.specs.Models.{model_of, plan_of}
-use Rattle.mcf_places.proofs.Stages.{best_planner_plan, no_planner_plan, planned_of}
+use Rattle.mcf_places.proofs.Stages.{best_planner_plan, found_places, no_planner_plan, planned_of}
 use Rattle.mcf_places.proofs.answering.in_one_stage.Goals as goal
 
 pub returns-in-Plan : goal.returns-in-Plan
@@ -18,10 +18,20 @@ returns-in-Plan g c =
     (c.in_ok-plan-in-Plan.ensures.value ∙ ap (plan_of P) c.deref-in-Plan.ensures.value) cost
     (λ before last e. missing ∙ c.last_of-missing.ensures before last (c.deref.ensures.value ∙ e))
 
+pub told-requires : goal.told-requires
+told-requires g c =
+    let P = c.args.planner.now in
+    let kept : to_z w64 (of_z w64 c.args.most) ≡ c.args.most = search rules in
+    record {
+      nodes = found_places c.args.most P c.in-NoPlan.found
+          (planned_of c.in_ok-model.model (model_of c.args.most P) c.in_ok-planned.planned _ (c.in_ok-model.ensures ∙ ap (λ z. model_of z P) kept) c.in-NoPlan.is
+          c.in_ok-planned.ensures.planned);
+    }
+
 pub returns-in-NoPlan : goal.returns-in-NoPlan
 returns-in-NoPlan g c =
     let P = c.args.planner.now in
     let kept : to_z w64 (of_z w64 c.args.most) ≡ c.args.most = search rules in
-    no_planner_plan c.args.most P c.requires.proper c.requires.stands c.in-NoPlan.field-0
+    no_planner_plan c.args.most P c.requires.proper c.requires.stands c.in-NoPlan.found c.in_ok-bottleneck-in-NoPlan.bottleneck
     (planned_of c.in_ok-model.model (model_of c.args.most P) c.in_ok-planned.planned _ (c.in_ok-model.ensures ∙ ap (λ z. model_of z P) kept) c.in-NoPlan.is
-    c.in_ok-planned.ensures.planned)
+    c.in_ok-planned.ensures.planned) c.in_ok-bottleneck-in-NoPlan.ensures

@@ -1,12 +1,14 @@
-use Rattle.std.proofs.Common.{rules, ◌≡◌, ◌∙◌, sym, subst, ap, arith, to_z, of_z, w64}
+use Rattle.std.proofs.Common.{rules, ◌≡◌, ◌∙◌, sym, subst, ap, arith, length, to_z, of_z, w64}
 use Rattle.std.specs.Int.{w128}
 use Rattle.std.proofs.lemmas.Int.{ints}
-use Rattle.mcf_flows.specs.Network.{when}
-use Rattle.mcf_places.specs.Answers.{IsLeastMissing}
-use Rattle.mcf_places.specs.Models.{model_of}
+use Rattle.std.specs.List.{All}
+use Rattle.mcf_flows.specs.Network.{IsNode, when}
+use Rattle.mcf_model.specs.declared.planning.Planned.TheVariants.{NoPlan}
+use Rattle.mcf_places.specs.Answers.{IsLeastMissing, IsToldBottleneck}
+use Rattle.mcf_places.specs.Models.{model_of, supplies_of}
 use Rattle.mcf_places.specs.Planners.{all_wanted}
 use Rattle.mcf_places.specs.Shortage.{shortage_of}
-use Rattle.mcf_places.proofs.Stages.{missing_within, none_short, planned_of, stage_one}
+use Rattle.mcf_places.proofs.Stages.{found_places, missing_within, none_short, planned_of, stage_one}
 use Rattle.mcf_places.proofs.answering.least_missing.Goals as goal
 
 pub narrowed-requires-clause-low : goal.narrowed-requires-clause-low
@@ -34,14 +36,30 @@ returns-in-Plan g c =
     let narrow : to_z w64 (of_z w64 c.narrowed.result) ≡ c.narrowed.result = search rules in
     subst (λ z. IsLeastMissing z c.args.planner.now) (sym (narrow ∙ c.narrowed.ensures ∙ cost)) least
 
+pub told-requires : goal.told-requires
+told-requires g c =
+    let P = c.args.planner.now in
+    let Q = shortage_of P in
+    let most = c.most_missing-most.result in
+    let kept : to_z w64 (of_z w64 most) ≡ most = search rules in
+    let none = planned_of c.in_ok-model.model (model_of most Q) c.in_ok-planned.planned (NoPlan c.in-NoPlan.found)
+    (c.in_ok-model.ensures ∙ ap (λ z. model_of z c.in_ok-shortage.shortage) kept ∙ ap (model_of most) c.in_ok-shortage.ensures) c.in-NoPlan.is
+    c.in_ok-planned.ensures.planned in
+    record {
+      nodes = subst (λ R. All (IsNode (length (supplies_of R.places))) c.in-NoPlan.found.places.items) (sym c.in_ok-shortage.ensures)
+          (found_places most Q c.in-NoPlan.found none);
+    }
+
 pub returns-in-NoPlan : goal.returns-in-NoPlan
 returns-in-NoPlan g c =
     let P = c.args.planner.now in
     let Q = shortage_of P in
     let most = c.most_missing-most.result in
     let kept : to_z w64 (of_z w64 most) ≡ most = search rules in
-    none_short most P c.requires
-    (c.most_missing-most.ensures ∙ ap (λ R. when R.policy.short (all_wanted R.places)) c.in_ok-shortage.ensures) c.in-NoPlan.field-0
-    (planned_of c.in_ok-model.model (model_of most Q) c.in_ok-planned.planned _
+    let none = planned_of c.in_ok-model.model (model_of most Q) c.in_ok-planned.planned (NoPlan c.in-NoPlan.found)
     (c.in_ok-model.ensures ∙ ap (λ z. model_of z c.in_ok-shortage.shortage) kept ∙ ap (model_of most) c.in_ok-shortage.ensures) c.in-NoPlan.is
-    c.in_ok-planned.ensures.planned)
+    c.in_ok-planned.ensures.planned in
+    none_short most P c.requires
+    (c.most_missing-most.ensures ∙ ap (λ R. when R.policy.short (all_wanted R.places)) c.in_ok-shortage.ensures) c.in-NoPlan.found
+    c.in_ok-bottleneck-in-NoPlan.bottleneck none
+    (subst (λ R. IsToldBottleneck R c.in-NoPlan.found c.in_ok-bottleneck-in-NoPlan.bottleneck) c.in_ok-shortage.ensures c.in_ok-bottleneck-in-NoPlan.ensures)

@@ -1,0 +1,227 @@
+//! Least plans of planners' problems, by the engine of the suite.
+use mcf_choice::Choice;
+use mcf_flows::{Code, Side};
+use mcf_instance::ArrayFault;
+use mcf_model::{RouteRow, Step};
+use mcf_places::{Bounds, LeastPlannerPlan, Place, Planner, PlannerAnswer, Policy, least};
+use mcf_planner::Planner as Engine;
+use mcf_text::{ArcId, NoMemory};
+use std::alloc::Global;
+use std::test::Fail;
+
+// Returns a route of one step, one way.
+const PLAIN: RouteRow = RouteRow {
+    tail: 1,
+    head: 2,
+    first_step: 0,
+    step_count: 0,
+    least: 0,
+    last_most: None,
+    last_cost: 0,
+    both: false,
+};
+
+// A factory, a depot and two shops: at most six units pass through the depot, at cost 1 each. One
+// route goes from the factory to the second shop, past the depot.
+#[derive(Clone, Copy)]
+struct PlannedRow {
+    wants: [i64; 2],
+    policy: Policy,
+    carries: [i128; 4],
+    stays: i128,
+    missing: [i128; 2],
+    cost: i128,
+}
+
+const ROWS: [PlannedRow; 3] = [
+    // as little as possible is missing: nine units can go, six of them through the depot
+    PlannedRow {
+        wants: [8, 5],
+        policy: Policy {
+            unused: true,
+            short: true,
+            penalty: None,
+        },
+        carries: [6, 6, 0, 3],
+        stays: 1,
+        missing: [2, 2],
+        cost: 51,
+    },
+    // a missing unit costs 5: less than a unit to the second shop, more than one to the first
+    PlannedRow {
+        wants: [8, 5],
+        policy: Policy {
+            unused: true,
+            short: true,
+            penalty: Some(5),
+        },
+        carries: [6, 6, 0, 0],
+        stays: 4,
+        missing: [2, 5],
+        cost: 59,
+    },
+    // nothing may be missing
+    PlannedRow {
+        wants: [5, 4],
+        policy: Policy {
+            unused: true,
+            short: false,
+            penalty: None,
+        },
+        carries: [6, 5, 1, 3],
+        stays: 1,
+        missing: [0, 0],
+        cost: 54,
+    },
+];
+
+// Returns the four routes, of which the last has a limit.
+fn routes_of(alloc: Global, limit: i64) -> Result<Vec<RouteRow>, NoMemory> {
+    let to_depot = RouteRow {
+        last_cost: 2,
+        ..PLAIN
+    };
+    let to_first = RouteRow {
+        tail: 2,
+        head: 3,
+        last_cost: 1,
+        ..PLAIN
+    };
+    let to_second = RouteRow {
+        tail: 2,
+        head: 4,
+        last_cost: 4,
+        ..PLAIN
+    };
+    let past = RouteRow {
+        head: 4,
+        last_most: Some(limit),
+        last_cost: 9,
+        ..PLAIN
+    };
+    Ok(vec![in alloc; to_depot, to_first, to_second, past]?)
+}
+
+// Returns the problem, if nothing is wrong with it.
+fn problem_of(
+    alloc: Global,
+    wants: &[i64; 2],
+    limit: i64,
+    policy: Policy,
+) -> Result<Option<Planner>, NoMemory> {
+    let factory = Place {
+        supply: 10,
+        through: None,
+    };
+    let depot = Place {
+        supply: 0,
+        through: Some(Bounds {
+            least: 0,
+            most: Some(6),
+            cost: 1,
+        }),
+    };
+    let first = Place {
+        supply: -wants[0].clamp(0, 100),
+        through: None,
+    };
+    let second = Place {
+        supply: -wants[1].clamp(0, 100),
+        through: None,
+    };
+    let places = vec![in alloc; factory, depot, first, second]?;
+    let steps: Vec<Step> = Vec::new(alloc);
+    let routes = routes_of(alloc, limit)?;
+    match Planner::of(places, steps, routes, policy) {
+        Ok(planner) => Ok(Some(planner)),
+        Err(_) => Ok(None),
+    }
+}
+
+// Returns the answer for a problem.
+fn answer_of(
+    alloc: Global,
+    wants: &[i64; 2],
+    limit: i64,
+    policy: Policy,
+) -> Result<Option<PlannerAnswer>, NoMemory> {
+    let Some(planner) = problem_of(alloc, wants, limit, policy)? else {
+        return Ok(None);
+    };
+    let mut engine = Engine {
+        choice: Choice::default(),
+    };
+    Ok(Some(least(alloc, &mut engine, &planner)?))
+}
+
+// Returns whether a plan is the expected one.
+fn is_plan(found: &LeastPlannerPlan, row: &PlannedRow) -> bool {
+    let stays = [row.stays, 0, 0, 0];
+    let missing = [0, 0, row.missing[0], row.missing[1]];
+    found.plan.carries.as_slice() == row.carries.as_slice()
+        && found.plan.stays.as_slice() == stays.as_slice()
+        && found.plan.missing.as_slice() == missing.as_slice()
+        && found.cost == row.cost
+}
+
+// Returns whether the answer of a row is the expected one.
+fn is_as_said(alloc: Global, row: &PlannedRow, missing: i128) -> Result<bool, NoMemory> {
+    match answer_of(alloc, &row.wants, 3, row.policy)? {
+        Some(PlannerAnswer::Least(found)) => {
+            let planned = is_plan(&found, row);
+            Ok(planned && found.missing == missing)
+        }
+        _ => Ok(false),
+    }
+}
+
+#[test]
+fn as_little_as_possible_is_missing(rt: HostRuntime) -> Result<(), Fail> {
+    let rows = ROWS;
+    let fits = is_as_said(rt.alloc(), &rows[0], 4)?;
+    assert!(rt; fits);
+    Ok(())
+}
+
+#[test]
+fn a_penalty_says_what_is_missing(rt: HostRuntime) -> Result<(), Fail> {
+    let rows = ROWS;
+    let fits = is_as_said(rt.alloc(), &rows[1], 7)?;
+    assert!(rt; fits);
+    Ok(())
+}
+
+#[test]
+fn nothing_is_missing(rt: HostRuntime) -> Result<(), Fail> {
+    let rows = ROWS;
+    let fits = is_as_said(rt.alloc(), &rows[2], 0)?;
+    assert!(rt; fits);
+    Ok(())
+}
+
+// The shops want seven units of the depot, through which six pass.
+#[test]
+fn places_that_take_too_much_are_named(rt: HostRuntime) -> Result<(), Fail> {
+    let policy = ROWS[2].policy;
+    let Some(PlannerAnswer::NoPlan(found)) = answer_of(rt.alloc(), &[7, 0], 3, policy)? else {
+        assert!(rt; false);
+        return Ok(());
+    };
+    assert!(rt; found.side == Side::Take);
+    let (entries, exits) = ([false, false, true, false], [false, true, true, false]);
+    assert!(rt; found.entries.as_slice() == entries.as_slice());
+    assert!(rt; found.exits.as_slice() == exits.as_slice());
+    Ok(())
+}
+
+#[test]
+fn a_number_beyond_the_limits_is_named(rt: HostRuntime) -> Result<(), Fail> {
+    let policy = ROWS[2].policy;
+    let want = ArrayFault::Arc(ArcId::new(4), Code::Bound);
+    let named = match answer_of(rt.alloc(), &[5, 4], i64::MAX, policy)? {
+        Some(PlannerAnswer::Beyond(fault)) => fault == want,
+        _ => false,
+    };
+    assert!(rt; named);
+    Ok(())
+}
