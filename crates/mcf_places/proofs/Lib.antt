@@ -13,4 +13,5 @@ mod PlaceCuts
 mod ToldSets
 mod PlannerCuts
 mod ToldAnswers
+mod FinerModels
 mod Stages

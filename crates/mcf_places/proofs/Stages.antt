@@ -1,23 +1,26 @@
 -- The stages in which the least plan of a problem is found.
-use Rattle.std.proofs.Common.{◌≡◌, ℕ, suc, ◌-◌, Bool, true, false, List, [], ◌∷◌, ◌++◌, length, get_or, ap, sym, ◌∙◌, subst, arith, ℤ, pos, ◌≤ℤ◌, inl, inr}
+use Rattle.std.proofs.Common.{◌≡◌, ℕ, suc, ◌-◌, Bool, true, false, List, [], ◌∷◌, ◌++◌, length, map, get_or, refl, ap, sym, ◌∙◌, subst, arith, ℤ, pos, ◌≤ℤ◌, inl, inr}
 use Rattle.std.specs.Prelude.{◌⊎◌, Option, Some, None}
 use Rattle.std.specs.List.{All}
 use Rattle.std.proofs.Common.{length-append}
 use Rattle.std.proofs.Math.Seq.{get_or-append_seam}
+use Rattle.std.proofs.Math.IntN.{◌*ℤ◌}
 use Rattle.std.proofs.lemmas.Int.{ints, clamps}
 use Rattle.std.proofs.lemmas.List.{append_assoc}
 use Rattle.mcf_flows.specs.Network.{IsNode, at_node, when}
+use Rattle.mcf_flows.proofs.IntLaws.{mul-zero}
 use Rattle.mcf_model.specs.declared.planning.Bottleneck.{Bottleneck}
 use Rattle.mcf_model.specs.declared.planning.LeastPlan.{LeastPlan}
 use Rattle.mcf_model.specs.declared.planning.Planned.{Planned}
 use Rattle.mcf_model.specs.declared.planning.Planned.TheVariants.{Plan as Found}
-use Rattle.mcf_model.specs.Model.{Model}
+use Rattle.mcf_model.specs.Model.{IsLeastPlan as IsLeastModelPlan, Model}
 use Rattle.mcf_model.specs.Planning.{HasNoPlan, IsBestPlan, IsPlanned}
 use Rattle.mcf_places.specs.declared.faults.TheConstants.{SUM_LIMIT}
 use Rattle.mcf_places.specs.declared.answering.LeastPlannerPlan.{LeastPlannerPlan}
 use Rattle.mcf_places.specs.declared.places.Place.{Place}
 use Rattle.mcf_places.specs.declared.told.PlannerBottleneck.{PlannerBottleneck}
 use Rattle.mcf_places.specs.Answers.{HasNoPlannerPlan, IsBestPlannerPlan, IsLeastMissing, IsToldBottleneck, StandsFor, has_stages}
+use Rattle.mcf_places.specs.FinerPlanners.{finer, finer_plan}
 use Rattle.mcf_places.specs.Models.{amounts_by, supplies_of, model_of, plan_of, routes_of}
 use Rattle.mcf_places.specs.PlannerFaults.{IsProperPlanner}
 use Rattle.mcf_places.specs.PlannerLaws.{LeavesEnough}
@@ -26,6 +29,7 @@ use Rattle.mcf_places.specs.Planning.{plan_in}
 use Rattle.mcf_places.specs.Shortage.{shortage_of}
 use Rattle.mcf_places.proofs.Ends.{M, S, T}
 use Rattle.mcf_places.proofs.Exchange.{model_plan_is_plan, plans_are_model_plans_lem}
+use Rattle.mcf_places.proofs.FinerModels.{all_wanted_finer, missing_times, model_finer, plan_finer, shortage_finer, sound_finer}
 use Rattle.mcf_places.proofs.LeastPlans.{least_model_plans_are_least_lem, misses_no_more}
 use Rattle.mcf_places.proofs.Shortages.{free_cost, misses_least, plan_unfree, proper_free}
 use Rattle.mcf_places.proofs.ToldAnswers.{no_plan_unfree, told_bottleneck}
@@ -122,6 +126,11 @@ module _ (most : ℤ) (P : Planner) (proper : IsProperPlanner P) (stands : Stand
       record {
         least = subst (IsLeastPlan P) (sym e) (least_model_plans_are_least_lem most P plan proper.sound stands.enough best.least);
         cost_is = f ∙ best.cost_is ∙ sym mine.same_cost ∙ ap (cost P) (sym e);
+        least_in_finer_units = λ k k1.
+            subst (IsLeastPlan (finer k P)) (plan_finer k k1 P plan ∙ ap (finer_plan k) (sym e))
+            (least_model_plans_are_least_lem (k *ℤ most) (finer k P) (map (λ z. k *ℤ z) plan) (sound_finer k k1 P proper.sound)
+            (stands.enough_in_finer_units k k1)
+            (subst (λ m. IsLeastModelPlan m (map (λ z. k *ℤ z) plan)) (sym (model_finer k k1 P most)) (best.least_in_finer_units k k1)));
         missing_is = g (before_gate P (plan_of P plan)) (total_missing P (plan_of P plan)) (sym mine.back_again ∙ sym (gate_last P (plan_of P plan)))
             ∙ ap (total_missing P) (sym e);
       }
@@ -135,6 +144,19 @@ module _ (most : ℤ) (P : Planner) (proper : IsProperPlanner P) (stands : Stand
           absurd (h.none (routes_of P m.plan)
           (plans_are_model_plans_lem most P m.plan proper.sound.routes m.is_plan (omega (arith, ints, m.misses))).is_plan)
 
+-- ---- finer units
+
+times_when : (k : ℤ) (b : Bool) (z : ℤ) → k *ℤ when b z ≡ when b (k *ℤ z)
+times_when k true z = refl
+times_when k false z = mul-zero k
+
+finer_no_more : (k : ℤ) → pos 1 ≤ℤ k → (most : ℤ) (P : Planner) → most ≡ when P.policy.short (all_wanted P.places)
+    → (x : Plan) → IsPlan (finer k P) x → total_missing (finer k P) x ≤ℤ (k *ℤ most)
+finer_no_more k k1 most P is x h =
+    let same : when P.policy.short (all_wanted (finer k P).places) ≡ k *ℤ most =
+    ap (when P.policy.short) (all_wanted_finer k k1 P) ∙ sym (times_when k P.policy.short (all_wanted P.places)) ∙ ap (λ z. k *ℤ z) (sym is) in
+    subst (λ z. total_missing (finer k P) x ≤ℤ z) same (misses_no_more (finer k P) x h)
+
 -- ---- one stage
 
 pub stands_at_once : (most : ℤ) (P : Planner) → IsProperPlanner P → has_stages P.policy.short P.policy.penalty ≡ false
@@ -142,9 +164,16 @@ pub stands_at_once : (most : ℤ) (P : Planner) → IsProperPlanner P → has_st
 stands_at_once most P proper one is =
     record {
       enough = go P.policy.short P.policy.penalty one no_more;
+      enough_in_finer_units = λ k k1. go_finer k P.policy.short P.policy.penalty one (finer_no_more k k1 most P is);
       all_or_least = inl is;
     }
   where
+    go_finer : (k : ℤ) (b : Bool) (o : Option ℤ) → has_stages b o ≡ false → ((x : Plan) → IsPlan (finer k P) x → total_missing (finer k P) x ≤ℤ (k *ℤ most))
+        → LeavesEnough (k *ℤ most) (finer k P) b o
+    go_finer k true None bad h = cc bad
+    go_finer k true (Some penalty) e h = h
+    go_finer k false o e h = h
+
     no_more : (x : Plan) → IsPlan P x → total_missing P x ≤ℤ most
     no_more x h = subst (λ z. total_missing P x ≤ℤ z) (sym is) (misses_no_more P x h)
 
@@ -159,9 +188,16 @@ pub stands_for_least : (most : ℤ) (P : Planner) → IsProperPlanner P → has_
 stands_for_least most P proper two m =
     record {
       enough = go P.policy.short P.policy.penalty two m.least;
+      enough_in_finer_units = λ k k1. go_finer k P.policy.short P.policy.penalty two (λ other. m.least_in_finer_units k other k1);
       all_or_least = inr m;
     }
   where
+    go_finer : (k : ℤ) (b : Bool) (o : Option ℤ) → has_stages b o ≡ true → ((x : Plan) → IsPlan (finer k P) x → (k *ℤ most) ≤ℤ total_missing (finer k P) x)
+        → LeavesEnough (k *ℤ most) (finer k P) b o
+    go_finer k true None e h = h
+    go_finer k true (Some penalty) bad h = cc bad
+    go_finer k false o bad h = cc bad
+
     go : (b : Bool) (o : Option ℤ) → has_stages b o ≡ true → ((x : Plan) → IsPlan P x → most ≤ℤ total_missing P x) → LeavesEnough most P b o
     go true None e k = k
     go true (Some penalty) bad k = cc bad
@@ -177,6 +213,10 @@ module _ (most : ℤ) (P : Planner) (proper : IsProperPlanner P)
   enough_short true = no_more_short
   enough_short false = no_more_short
 
+  enough_finer : (k : ℤ) → pos 1 ≤ℤ k → (b : Bool) → LeavesEnough (k *ℤ most) (finer k (shortage_of P)) b (Some (pos 1))
+  enough_finer k k1 true = finer_no_more k k1 most (shortage_of P) is
+  enough_finer k k1 false = finer_no_more k k1 most (shortage_of P) is
+
   pub least_missing_is : (found : LeastPlan) → IsBestPlan (model_of most (shortage_of P)) found → IsLeastMissing found.cost P
   least_missing_is found best =
       let Q = shortage_of P in
@@ -190,6 +230,19 @@ module _ (most : ℤ) (P : Planner) (proper : IsProperPlanner P)
         is_plan = plan_unfree P (plan_of Q plan) mine.is_plan;
         misses = misses;
         least = λ other h. omega (arith, ints, misses, misses_least P (plan_of Q plan) least other h);
+        least_in_finer_units = λ k other k1 h.
+            let finest = least_model_plans_are_least_lem (k *ℤ most) (finer k Q) (map (λ z. k *ℤ z) plan) (sound_finer k k1 Q sound)
+            (enough_finer k k1 P.policy.short)
+            (subst (λ m. IsLeastModelPlan m (map (λ z. k *ℤ z) plan)) (sym (model_finer k k1 Q most)) (best.least_in_finer_units k k1)) in
+            let same = subst (λ R. IsLeastPlan R (finer_plan k (plan_of Q plan))) (shortage_finer k P)
+            (subst (IsLeastPlan (finer k Q)) (plan_finer k k1 Q plan) finest) in
+            omega (
+              arith,
+              ints,
+              misses_least (finer k P) (finer_plan k (plan_of Q plan)) same other h,
+              missing_times k k1 P (plan_of Q plan),
+              ap (λ z. k *ℤ z) misses,
+            );
       }
 
   pub none_short : (b : Bottleneck) (made : PlannerBottleneck) → HasNoPlan (model_of most (shortage_of P)) b → IsToldBottleneck (shortage_of P) b made

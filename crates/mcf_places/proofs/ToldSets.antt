@@ -1,5 +1,5 @@
 -- Sets that cut a problem's model, told as sets of the problem's places.
-use Rattle.std.proofs.Common.{◌≡◌, ℕ, suc, ◌+◌, ◌-◌, ◌<◌, ◌≤◌, Bool, true, false, ◌&&◌, List, [], ◌∷◌, IsTrue, length, refl, ap, sym, ◌∙◌, subst, arith, ℤ, pos, ◌+ℤ◌, ◌≤ℤ◌}
+use Rattle.std.proofs.Common.{◌≡◌, ℕ, suc, ◌+◌, ◌<◌, ◌≤◌, Bool, true, false, ◌&&◌, List, [], ◌∷◌, IsTrue, length, refl, ap, sym, ◌∙◌, subst, arith, ℤ, pos, ◌+ℤ◌, ◌≤ℤ◌}
 use Rattle.std.specs.Prelude.{◌||◌, Option, Some, None, not, option_map, int_lt}
 use Rattle.std.specs.List.{All}
 use Rattle.std.specs.Option.{is_some}

@@ -1,6 +1,6 @@
 -- The answers for a planner's problem.
 -- Source: own
-use Rattle.std.specs.Prelude.{◌≡◌, ℕ, Bool, true, false, ℤ, ◌≤ℤ◌, ◌⊎◌, Option, Some, None, length}
+use Rattle.std.specs.Prelude.{◌≡◌, ℕ, Bool, true, false, ℤ, pos, ◌*ℤ◌, ◌≤ℤ◌, ◌⊎◌, Option, Some, None, length}
 use Rattle.mcf_flows.specs.Blocking.{in_list, in_table}
 use Rattle.mcf_flows.specs.Limits.{limits}
 use Rattle.mcf_flows.specs.Network.{IsNode, when}
@@ -14,6 +14,7 @@ use Rattle.mcf_places.specs.declared.answering.Missed.TheVariants.{Missing, Unpl
 use Rattle.mcf_places.specs.declared.answering.PlannerAnswer.{PlannerAnswer}
 use Rattle.mcf_places.specs.declared.answering.PlannerAnswer.TheVariants.{Least, NoPlan, Beyond}
 use Rattle.mcf_places.specs.declared.told.PlannerBottleneck.{PlannerBottleneck}
+use Rattle.mcf_places.specs.FinerPlanners.{finer, finer_plan}
 use Rattle.mcf_places.specs.Models.{exit_of, hub_of, model_of}
 use Rattle.mcf_places.specs.PlannerBottlenecks.{IsPlannerBottleneck, PlaceSet}
 use Rattle.mcf_places.specs.PlannerLaws.{LeavesEnough}
@@ -22,11 +23,12 @@ use Rattle.mcf_places.specs.Planning.{plan_in}
 use Rattle.mcf_places.specs.Shortage.{shortage_of}
 use Rattle.mcf_places.specs.Told.{side_told, turned_if}
 
--- a least plan, its cost, and what is missing in total
+-- a least plan, its cost, and what is missing in total; no plan in finer units is better either
 pub record IsBestPlannerPlan (P : Planner) (p : LeastPlannerPlan) : Type 0 where
   pub least : IsLeastPlan P (plan_in p.plan)
   pub cost_is : p.cost ≡ cost P (plan_in p.plan)
   pub missing_is : p.missing ≡ total_missing P (plan_in p.plan)
+  pub least_in_finer_units : (k : ℤ) → pos 1 ≤ℤ k → IsLeastPlan (finer k P) (finer_plan k (plan_in p.plan))
 
 -- the set of places of a bottleneck
 abbrev pub set_in : PlannerBottleneck → PlaceSet
@@ -58,17 +60,20 @@ has_stages true None = true
 has_stages true (Some penalty) = false
 has_stages false penalty = false
 
--- the least that is missing in a plan
+-- the least that is missing in a plan; none in finer units misses less either
 pub record IsLeastMissing (most : ℤ) (P : Planner) : Type 0 where
   pub plan : Plan
   pub is_plan : IsPlan P plan
   pub misses : total_missing P plan ≡ most
   pub least : (other : Plan) → IsPlan P other → most ≤ℤ total_missing P other
+  pub least_in_finer_units : (k : ℤ) (other : Plan) → pos 1 ≤ℤ k → IsPlan (finer k P) other → (k *ℤ most) ≤ℤ total_missing (finer k P) other
 
 -- a model in which no more than `most` is missing stands for the problem: its least plans are least
--- plans of the problem; and it has all plans, or it has the one that misses the least
+-- plans of the problem, in finer units, too; and it has all plans, or it has the one that misses
+-- the least
 pub record StandsFor (most : ℤ) (P : Planner) : Type 0 where
   pub enough : LeavesEnough most P P.policy.short P.policy.penalty
+  pub enough_in_finer_units : (k : ℤ) → pos 1 ≤ℤ k → LeavesEnough (k *ℤ most) (finer k P) P.policy.short P.policy.penalty
   pub all_or_least : (most ≡ when P.policy.short (all_wanted P.places)) ⊎ IsLeastMissing most P
 
 -- what the first stage finds

@@ -14,5 +14,6 @@ pub mod Kinds
 pub mod Planning
 pub mod Shortage
 pub mod PlannerBottlenecks
+pub mod FinerPlanners
 pub mod Told
 pub mod Answers

@@ -149,7 +149,8 @@ fn least_missing<S: Solves>(
 /// above a limit.
 ///
 /// Where demands may be missing and no penalty is named, no plan misses less than the plan
-/// returned, and of those that miss as much none costs less.
+/// returned, and of those that miss as much none costs less. That holds of plans in finer units,
+/// too.
 ///
 /// # Errors
 /// `NoMemory` if an allocation is refused. The model always has places, so it always allocates.

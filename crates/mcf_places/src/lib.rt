@@ -6,8 +6,9 @@
 //! It builds on `mcf_model`: each such problem is a model of that crate, and `least` uses any
 //! solver that it takes. The definitions are in `specs/`: `Planners` has problems and plans,
 //! `Models` their models, `PlannerLaws` the laws between both, `PlannerFaults` the faults of a
-//! problem, `PlannerBottlenecks` the reasons why it has no plan, `Shortage` the problem in which
-//! only what is missing costs something, and `Answers` the answers.
+//! problem, `PlannerBottlenecks` the reasons why it has no plan, `FinerPlanners` problems in finer
+//! units, `Shortage` the problem in which only what is missing costs something, and `Answers` the
+//! answers.
 
 mod answering;
 mod faults;

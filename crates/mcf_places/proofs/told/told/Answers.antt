@@ -1,4 +1,4 @@
-use Rattle.std.proofs.Common.{◌-◌, ◌∙◌, ap, length, sym, subst}
+use Rattle.std.proofs.Common.{◌∙◌, ap, length, sym, subst}
 use Rattle.std.specs.List.{All}
 use Rattle.mcf_flows.specs.Blocking.{in_list, in_table}
 use Rattle.mcf_flows.specs.Network.{IsNode}
