@@ -1,0 +1,6 @@
+pub mod Blanks
+pub mod Laws
+pub mod LineEnds
+pub mod Private
+pub mod Rows
+pub mod Texts

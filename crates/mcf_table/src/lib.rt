@@ -1,0 +1,23 @@
+#![tactic(auto)]
+
+//! Texts as tables: the rows of a text with their lines, and their cells.
+//!
+//! It builds on `mcf_text`. The definitions are in `specs/`: `Rows` says what a field and a row
+//! are, `Texts` which records a text says and which fault it has, `LineEnds` and `Blanks` what
+//! doesn't count.
+
+mod blanks;
+mod cells;
+mod cuts;
+mod fault;
+mod fields;
+mod laws;
+mod line_ends;
+mod reading;
+mod records;
+mod rows;
+
+pub use fault::{FieldFault, TextFault};
+pub use laws::texts_are_unambiguous;
+pub use reading::records_of;
+pub use records::Records;

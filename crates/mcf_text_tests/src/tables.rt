@@ -1,0 +1,141 @@
+//! Texts of tables: `python/mcf_plan/tables.py`, which reads them by Python's module csv, gives the
+//! same rows, lines and faults.
+use mcf_table::{FieldFault, Records, TextFault, records_of, texts_are_unambiguous};
+use mcf_text::NoMemory;
+use std::alloc::Global;
+use std::test::Fail;
+
+// A row: its line, and its cells.
+type Row = (usize, &'static [&'static [u8]]);
+
+// Texts, what separates their fields, and their rows.
+static TEXTS: [(&[u8], u8, &[Row]); 11] = [
+    (
+        b"name,supply\nMill A,20\n\nMill B,10\n",
+        b',',
+        &[
+            (1, &[b"name", b"supply"]),
+            (2, &[b"Mill A", b"20"]),
+            (4, &[b"Mill B", b"10"]),
+        ],
+    ),
+    (
+        b"a;b\r\n\"x;y\"; 1 \r\n\"say \"\"hi\"\"\";\r\n",
+        b';',
+        &[
+            (1, &[b"a", b"b"]),
+            (2, &[b"x;y", b"1"]),
+            (3, &[b"say \"hi\"", b""]),
+        ],
+    ),
+    (
+        b"  \"two\nlines\",z\nx,y",
+        b',',
+        &[(1, &[b"two\nlines", b"z"]), (3, &[b"x", b"y"])],
+    ),
+    (
+        b"a\tb\rc\t\r\t\r\"d\"\te",
+        b'\t',
+        &[(1, &[b"a", b"b"]), (2, &[b"c", b""]), (4, &[b"d", b"e"])],
+    ),
+    (b"\xEF\xBB\xBF\"a\",b\n", b',', &[(1, &[b"a", b"b"])]),
+    (
+        b"\xC2\xA0a\xE3\x80\x80,\xE2\x80\x83b \xE2\x80\xAF,\xEF\xBB\xBFc",
+        b',',
+        &[(1, &[b"a", b"b", b"c"])],
+    ),
+    (
+        b"a\"b,c\"\"d\n x \"y\",\"\"\n",
+        b',',
+        &[(1, &[b"a\"b", b"c\"\"d"]), (2, &[b"x \"y\"", b""])],
+    ),
+    (
+        b"\"line\r\nend\",1\r\n,,\r\n2,,\r\n",
+        b',',
+        &[(1, &[b"line\nend", b"1"]), (4, &[b"2", b"", b""])],
+    ),
+    (b"", b',', &[]),
+    (b"\n \n;\n", b';', &[]),
+    (
+        b"\"a\"\"\",\"\"\"\"\n\"b,c\"",
+        b',',
+        &[(1, &[b"a\"", b"\""]), (2, &[b"b,c"])],
+    ),
+];
+
+// Texts, what separates their fields, and their faults with the lines.
+static FAULTS: [(&[u8], u8, usize, FieldFault); 5] = [
+    (b"  \"two\nlines\" \n", b',', 1, FieldFault::AfterQuote),
+    (b"a,b\nc,\"open\nd,e\n", b',', 2, FieldFault::Unclosed),
+    (b"a\n\"b\" ,c\n", b',', 2, FieldFault::AfterQuote),
+    (b"a\r\n\r\n\"x\r\ny\"z\r\n", b',', 3, FieldFault::AfterQuote),
+    (b"\"a\"b\"", b',', 1, FieldFault::AfterQuote),
+];
+
+// The rows of a text, whose fields a semicolon, a tab or a comma separates.
+fn read(alloc: Global, text: &[u8], separator: u8) -> Result<Result<Records, TextFault>, NoMemory> {
+    match separator {
+        b';' => records_of(alloc, text, b';'),
+        b'\t' => records_of(alloc, text, b'\t'),
+        _ => records_of(alloc, text, b','),
+    }
+}
+
+// Whether the row has these cells, and an empty one after them.
+fn has_cells(records: &Records, row: usize, wanted: &[&[u8]]) -> bool {
+    if row >= records.len() || records.cell_count(row) != wanted.len() {
+        return false;
+    }
+    for place in 0..wanted.len() {
+        if records.cell(row, place) != wanted[place] {
+            return false;
+        }
+    }
+    records.cell(row, wanted.len()).is_empty()
+}
+
+// Whether these are the rows.
+fn has_rows(records: &Records, wanted: &[Row]) -> bool {
+    if records.len() != wanted.len() {
+        return false;
+    }
+    for row in 0..records.len() {
+        let (line, cells) = wanted[row];
+        if records.line(row) != line || !has_cells(records, row, cells) {
+            return false;
+        }
+    }
+    true
+}
+
+#[test]
+fn texts_have_rows(rt: HostRuntime) -> Result<(), Fail> {
+    for (text, separator, wanted) in TEXTS {
+        let read = read(rt.alloc(), text, separator)?;
+        let is_read = match &read {
+            Ok(records) => has_rows(records, wanted),
+            Err(_) => false,
+        };
+        assert!(rt; is_read);
+    }
+    Ok(())
+}
+
+#[test]
+fn texts_have_faults(rt: HostRuntime) -> Result<(), Fail> {
+    for (text, separator, line, kind) in FAULTS {
+        let read = read(rt.alloc(), text, separator)?;
+        let is_fault = match &read {
+            Ok(_) => false,
+            Err(fault) => *fault == TextFault { line, kind },
+        };
+        assert!(rt; is_fault);
+    }
+    Ok(())
+}
+
+#[test]
+fn laws_of_texts_hold(_rt: HostRuntime) -> Result<(), Fail> {
+    texts_are_unambiguous();
+    Ok(())
+}
