@@ -14,4 +14,5 @@ mod ToldSets
 mod PlannerCuts
 mod ToldAnswers
 mod FinerModels
+mod ArcOrigins
 mod Stages

@@ -16,4 +16,5 @@ pub mod Shortage
 pub mod PlannerBottlenecks
 pub mod FinerPlanners
 pub mod Told
+pub mod Origins
 pub mod Answers

@@ -7,13 +7,14 @@
 //! solver that it takes. The definitions are in `specs/`: `Planners` has problems and plans,
 //! `Models` their models, `PlannerLaws` the laws between both, `PlannerFaults` the faults of a
 //! problem, `PlannerBottlenecks` the reasons why it has no plan, `FinerPlanners` problems in finer
-//! units, `Shortage` the problem in which only what is missing costs something, and `Answers` the
-//! answers.
+//! units, `Shortage` the problem in which only what is missing costs something, `Answers` the
+//! answers, and `Origins` where a number beyond the limits comes from.
 
 mod answering;
 mod faults;
 mod laws;
 mod making;
+mod origins;
 mod places;
 mod problem;
 mod reading;
@@ -29,6 +30,7 @@ pub use laws::{
     plans_miss_no_more,
 };
 pub use making::model_of;
+pub use origins::{Origin, origin_of};
 pub use places::{Bounds, Place, Policy};
 pub use problem::Planner;
 pub use reading::{PlannerPlan, plan_of};

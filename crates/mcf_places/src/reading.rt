@@ -21,7 +21,7 @@ pub struct PlannerPlan {
 }
 
 // Returns whether a route of a kind is made for a place.
-fn has_route(kind: Kind, policy: Policy, place: Place) -> bool
+pub(crate) fn has_route(kind: Kind, policy: Policy, place: Place) -> bool
     ensures { result ≡ kind_has kind policy place }
 {
     match kind {

@@ -3,9 +3,11 @@ use mcf_choice::Choice;
 use mcf_flows::{Code, Side};
 use mcf_instance::ArrayFault;
 use mcf_model::{RouteRow, Step};
-use mcf_places::{Bounds, LeastPlannerPlan, Place, Planner, PlannerAnswer, Policy, least};
+use mcf_places::{
+    Bounds, LeastPlannerPlan, Origin, Place, Planner, PlannerAnswer, Policy, least, origin_of,
+};
 use mcf_planner::Planner as Engine;
-use mcf_text::{ArcId, NoMemory};
+use mcf_text::{ArcId, NoMemory, NodeId};
 use std::alloc::Global;
 use std::test::Fail;
 
@@ -214,14 +216,45 @@ fn places_that_take_too_much_are_named(rt: HostRuntime) -> Result<(), Fail> {
     Ok(())
 }
 
+// Returns the fault of a network, if that is the answer.
+fn fault_in(answer: &PlannerAnswer) -> Option<ArrayFault> {
+    match answer {
+        PlannerAnswer::Beyond(fault) => Some(*fault),
+        _ => None,
+    }
+}
+
 #[test]
 fn a_number_beyond_the_limits_is_named(rt: HostRuntime) -> Result<(), Fail> {
     let policy = ROWS[2].policy;
-    let want = ArrayFault::Arc(ArcId::new(4), Code::Bound);
-    let named = match answer_of(rt.alloc(), &[5, 4], i64::MAX, policy)? {
-        Some(PlannerAnswer::Beyond(fault)) => fault == want,
-        _ => false,
+    let Some(answer) = answer_of(rt.alloc(), &[5, 4], i64::MAX, policy)? else {
+        assert!(rt; false);
+        return Ok(());
     };
-    assert!(rt; named);
+    let want = ArrayFault::Arc(ArcId::new(4), Code::Bound);
+    assert!(rt; fault_in(&answer) == Some(want));
+    Ok(())
+}
+
+// After the arcs of the four routes, the depot has one for what passes through it, the factory one
+// for what stays there, and one arc has all that is missing.
+#[test]
+fn faults_of_a_network_have_origins(rt: HostRuntime) -> Result<(), Fail> {
+    let Some(planner) = problem_of(rt.alloc(), &[5, 4], 3, ROWS[2].policy)? else {
+        assert!(rt; false);
+        return Ok(());
+    };
+    let arcs = [
+        (4, Origin::OfRoute(4)),
+        (5, Origin::OfPlace(2)),
+        (6, Origin::OfPlace(1)),
+        (7, Origin::OfAll),
+    ];
+    for (arc, want) in &arcs {
+        let fault = ArrayFault::Arc(ArcId::new(*arc), Code::Bound);
+        assert!(rt; origin_of(&planner, fault) == *want);
+    }
+    let exit = origin_of(&planner, ArrayFault::Supply(NodeId::new(8)));
+    assert!(rt; exit == Origin::OfPlace(2));
     Ok(())
 }
