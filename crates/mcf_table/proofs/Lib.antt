@@ -6,3 +6,4 @@ pub mod FieldLemmas
 pub mod LineEndLemmas
 pub mod RowLemmas
 pub mod Unambiguous
+pub mod WrittenLemmas

@@ -4,3 +4,4 @@ pub mod LineEnds
 pub mod Private
 pub mod Rows
 pub mod Texts
+pub mod Written

@@ -4,7 +4,7 @@
 //!
 //! It builds on `mcf_text`. The definitions are in `specs/`: `Rows` says what a field and a row
 //! are, `Texts` which records a text says and which fault it has, `LineEnds` and `Blanks` what
-//! doesn't count.
+//! doesn't count, `Written` how rows are a text.
 
 mod blanks;
 mod cells;
@@ -18,6 +18,6 @@ mod records;
 mod rows;
 
 pub use fault::{FieldFault, TextFault};
-pub use laws::texts_are_unambiguous;
+pub use laws::{texts_are_unambiguous, written_tables_read_back};
 pub use reading::records_of;
 pub use records::Records;

@@ -1,6 +1,8 @@
 //! Texts of tables: `python/mcf_plan/tables.py`, which reads them by Python's module csv, gives the
 //! same rows, lines and faults.
-use mcf_table::{FieldFault, Records, TextFault, records_of, texts_are_unambiguous};
+use mcf_table::{
+    FieldFault, Records, TextFault, records_of, texts_are_unambiguous, written_tables_read_back,
+};
 use mcf_text::NoMemory;
 use std::alloc::Global;
 use std::test::Fail;
@@ -137,5 +139,6 @@ fn texts_have_faults(rt: HostRuntime) -> Result<(), Fail> {
 #[test]
 fn laws_of_texts_hold(_rt: HostRuntime) -> Result<(), Fail> {
     texts_are_unambiguous();
+    written_tables_read_back();
     Ok(())
 }
