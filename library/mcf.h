@@ -278,24 +278,34 @@ struct mcf_wide {
     int64_t high;
 };
 
+/* The unit of prices, 2^(unit - 1074), and whether they are prices of the costs rounded down to
+   such units: any number but 0 says so. */
+struct mcf_scale {
+    uint32_t unit;
+    uint32_t is_rounded;
+};
+
 /* Assigns rows and columns as mcf_assign_matrix does, with doubles for costs, which it reads
-   exactly: no other assignment has a smaller exact sum. The prices are whole numbers of units of
-   2^(unit - 1074). MCF_INVALID_INPUT: rows overlap or don't end within `length`, or an entry is a
-   NaN or -infinity. MCF_NOT_SHOWN decides nothing; it comes if the bits of finite entries span more
-   than 118. `column_of` and `unit` are unchanged from status 1 on, and the prices are from
-   2 on. */
+   exactly: no other assignment has a smaller exact sum. The prices are whole numbers of the units
+   of `scale`. If the bits of finite entries span more than 118, `is_rounded` may become 1, and is 0
+   otherwise: the assignment is then a least one of the entries rounded down to units, and its exact
+   sum is above the least by less than one unit a pair. MCF_INVALID_INPUT: rows overlap or don't end
+   within `length`, or an entry is a NaN or -infinity. MCF_NOT_SHOWN decides nothing; no matrix with
+   it is known. `column_of` and `scale` are unchanged from status 1 on, and the prices are from 2
+   on. */
 uint32_t mcf_assign_doubles(const struct mcf_doubles *matrix, uint32_t *column_of,
                             size_t column_of_length, struct mcf_wide *row_prices,
                             size_t row_prices_length, struct mcf_wide *column_prices,
-                            size_t column_prices_length, uint32_t *unit);
+                            size_t column_prices_length, struct mcf_scale *scale);
 
 /* Judges an assignment with prices for a matrix of doubles, whoever made them, exactly. Returns 0
-   if the prices show that the assignment has least cost, 1 if they don't, a price isn't less than
-   2^125 from 0 or an array has a wrong length, MCF_INVALID_INPUT or MCF_NO_MEMORY. */
+   if the prices show that the assignment has least cost, of the entries or of these rounded down to
+   units, as `scale` says; 1 if they don't, a price isn't less than 2^125 from 0 or an array has a
+   wrong length; MCF_INVALID_INPUT or MCF_NO_MEMORY. */
 uint32_t mcf_check_doubles(const struct mcf_doubles *matrix, const uint32_t *column_of,
                            size_t column_of_length, const struct mcf_wide *row_prices,
                            size_t row_prices_length, const struct mcf_wide *column_prices,
-                           size_t column_prices_length, uint32_t unit);
+                           size_t column_prices_length, const struct mcf_scale *scale);
 
 /* A transport problem with doubles for costs. */
 struct mcf_transport_doubles {
@@ -306,19 +316,20 @@ struct mcf_transport_doubles {
     size_t demand_count;
 };
 
-/* What is told of such a problem: how many entries the plan has, the side of a cut, and the unit of
-   the prices. */
+/* What is told of such a problem: how many entries the plan has, the side of a cut, and the scale
+   of the prices. */
 struct mcf_planned_doubles {
     size_t used;
     uint32_t side; /* MCF_SEND or MCF_TAKE */
-    uint32_t unit;
+    struct mcf_scale scale;
 };
 
 /* Sends all supplies to the demands as mcf_transport_matrix does, with doubles for costs, which it
    reads exactly: no other plan has a smaller exact sum of cost times amount. The prices are whole
-   numbers of units of 2^(told.unit - 1074). MCF_INVALID_INPUT and MCF_NOT_SHOWN: as for
-   mcf_assign_doubles. MCF_BUFFER_TOO_SMALL and what is unchanged: as for mcf_transport_matrix. At
-   MCF_BLOCKED `told->unit` is 0. */
+   numbers of the units of `told->scale`. If `is_rounded` becomes 1, as for mcf_assign_doubles, the
+   exact sum is above the least by less than one unit times the total supply, or is least if that is
+   0. MCF_INVALID_INPUT and MCF_NOT_SHOWN: as for mcf_assign_doubles. MCF_BUFFER_TOO_SMALL and what
+   is unchanged: as for mcf_transport_matrix. At MCF_BLOCKED the scale is 0 and 0. */
 uint32_t mcf_transport_doubles(const struct mcf_transport_doubles *problem,
                                struct mcf_shipment *plan, size_t plan_length,
                                struct mcf_wide *row_prices, size_t row_prices_length,
@@ -326,14 +337,14 @@ uint32_t mcf_transport_doubles(const struct mcf_transport_doubles *problem,
                                struct mcf_planned_doubles *told);
 
 /* Judges a transport plan with prices for costs of doubles, whoever made them, exactly. A pair may
-   have several entries. Returns 0 if the prices show that the plan has least cost, 1 if they don't,
-   a price isn't less than 2^125 from 0 or an array has a wrong length, MCF_INVALID_INPUT or
-   MCF_NO_MEMORY. */
+   have several entries. Returns 0 if the prices show that the plan has least cost, for the entries
+   or for these rounded down to units, as `scale` says; 1 if they don't, a price isn't less than
+   2^125 from 0 or an array has a wrong length; MCF_INVALID_INPUT or MCF_NO_MEMORY. */
 uint32_t mcf_check_transport_doubles(const struct mcf_transport_doubles *problem,
                                      const struct mcf_shipment *plan, size_t plan_length,
                                      const struct mcf_wide *row_prices, size_t row_prices_length,
                                      const struct mcf_wide *column_prices,
-                                     size_t column_prices_length, uint32_t unit);
+                                     size_t column_prices_length, const struct mcf_scale *scale);
 
 #ifdef __cplusplus
 }

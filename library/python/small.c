@@ -16,7 +16,7 @@ enum { MOST = 50 };
 typedef uint32_t assign_matrix(const struct mcf_matrix *, uint32_t *, size_t, int64_t *, size_t,
                                int64_t *, size_t);
 typedef uint32_t assign_doubles(const struct mcf_doubles *, uint32_t *, size_t, struct mcf_wide *,
-                                size_t, struct mcf_wide *, size_t, uint32_t *);
+                                size_t, struct mcf_wide *, size_t, struct mcf_scale *);
 
 static assign_matrix *by_whole_numbers;
 static assign_doubles *by_doubles;
@@ -73,14 +73,15 @@ static uint32_t find(const union entries *costs, size_t rows, size_t columns, in
     struct mcf_wide wide_rows[MOST], wide_columns[MOST];
     struct mcf_matrix whole;
     struct mcf_doubles doubles;
-    uint32_t unit;
+    struct mcf_scale scale;
     whole.costs = costs->whole;
     doubles.costs = costs->real;
     whole.length = doubles.length = rows * columns;
     whole.rows = doubles.rows = rows;
     whole.columns = whole.stride = doubles.columns = doubles.stride = columns;
     if (is_real)
-        return by_doubles(&doubles, column_of, rows, wide_rows, rows, wide_columns, columns, &unit);
+        return by_doubles(&doubles, column_of, rows, wide_rows, rows, wide_columns, columns,
+                          &scale);
     return by_whole_numbers(&whole, column_of, rows, row_prices, rows, column_prices, columns);
 }
 

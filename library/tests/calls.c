@@ -182,34 +182,43 @@ static int check_transport(void) {
     return 0;
 }
 
-/* Solves matrices of doubles: one that is least by a unit in the last place, one without an
-   assignment, and two with a fault. */
+/* Solves matrices of doubles: one that is least by a unit in the last place, one whose bits span
+   more than 118, one without an assignment, and two with a fault. */
 static int check_doubles(void) {
     static const double one = 1.0, last = 2.220446049250313e-16, zero = 0.0;
+    static const double far[2] = {1.0, 1e-300};
     static double costs[4], none[4], faulty[4];
     const struct mcf_doubles matrix = {costs, 4, 2, 2, 2}, without = {none, 4, 2, 2, 2},
-                             wrong = {faulty, 4, 2, 2, 2};
-    uint32_t column_of[2], unit = 0;
+                             wrong = {faulty, 4, 2, 2, 2}, wide = {far, 2, 1, 2, 2};
+    uint32_t column_of[2];
+    struct mcf_scale scale = {0, 7};
     struct mcf_wide rows[2], columns[2];
     costs[0] = costs[2] = one, costs[1] = one + 2 * last, costs[3] = one + last;
     none[0] = none[2] = one / zero, none[1] = none[3] = one;
-    CHECK(90, mcf_assign_doubles(&matrix, column_of, 2, rows, 2, columns, 2, &unit) == MCF_FLOW);
-    CHECK(91, column_of[0] == 0 && column_of[1] == 1);
-    CHECK(92, mcf_check_doubles(&matrix, column_of, 2, rows, 2, columns, 2, unit) == 0);
+    CHECK(90, mcf_assign_doubles(&matrix, column_of, 2, rows, 2, columns, 2, &scale) == MCF_FLOW);
+    CHECK(91, column_of[0] == 0 && column_of[1] == 1 && scale.is_rounded == 0);
+    CHECK(92, mcf_check_doubles(&matrix, column_of, 2, rows, 2, columns, 2, &scale) == 0);
     rows[0].low++;
-    CHECK(93, mcf_check_doubles(&matrix, column_of, 2, rows, 2, columns, 2, unit) == 1);
-    CHECK(94, mcf_check_doubles(&matrix, column_of, 2, rows, 1, columns, 2, unit) == 1);
+    CHECK(93, mcf_check_doubles(&matrix, column_of, 2, rows, 2, columns, 2, &scale) == 1);
+    CHECK(94, mcf_check_doubles(&matrix, column_of, 2, rows, 1, columns, 2, &scale) == 1);
+    scale.is_rounded = 1;
+    CHECK(100, mcf_check_doubles(&matrix, column_of, 2, rows, 2, columns, 2, &scale) == 1);
+    CHECK(114, mcf_assign_doubles(&wide, column_of, 1, rows, 1, columns, 2, &scale) == MCF_FLOW);
+    CHECK(115, column_of[0] == 1 && scale.is_rounded == 1 && scale.unit == 1074 + 1 - 118);
+    CHECK(116, mcf_check_doubles(&wide, column_of, 1, rows, 1, columns, 2, &scale) == 0);
+    scale.is_rounded = 0;
+    CHECK(117, mcf_check_doubles(&wide, column_of, 1, rows, 1, columns, 2, &scale) == 1);
     CHECK(95,
-          mcf_assign_doubles(&without, column_of, 2, rows, 2, columns, 2, &unit) == MCF_BLOCKED);
+          mcf_assign_doubles(&without, column_of, 2, rows, 2, columns, 2, &scale) == MCF_BLOCKED);
     CHECK(96, rows[0].low == 0 && rows[1].low == 0 && columns[0].low == 0 && columns[1].low == 1);
     memcpy(faulty, costs, sizeof costs);
     faulty[3] = -one / zero;
-    CHECK(97, mcf_assign_doubles(&wrong, column_of, 2, rows, 2, columns, 2, &unit) ==
+    CHECK(97, mcf_assign_doubles(&wrong, column_of, 2, rows, 2, columns, 2, &scale) ==
                   MCF_INVALID_INPUT);
     faulty[3] = zero / zero;
-    CHECK(98,
-          mcf_check_doubles(&wrong, column_of, 2, rows, 2, columns, 2, unit) == MCF_INVALID_INPUT);
-    CHECK(99, mcf_assign_doubles(&matrix, column_of, 2, rows, 2, columns, 1, &unit) ==
+    CHECK(98, mcf_check_doubles(&wrong, column_of, 2, rows, 2, columns, 2, &scale) ==
+                  MCF_INVALID_INPUT);
+    CHECK(99, mcf_assign_doubles(&matrix, column_of, 2, rows, 2, columns, 1, &scale) ==
                   MCF_BUFFER_TOO_SMALL);
     return 0;
 }
@@ -225,26 +234,26 @@ static int check_double_transport(void) {
                                        wrong = {{faulty, 4, 2, 2, 2}, supplies, 2, demands, 2},
                                        narrow = {{costs, 4, 2, 2, 2}, supplies, 2, demands, 1};
     struct mcf_shipment plan[3];
-    struct mcf_planned_doubles told = {9, 9, 9};
+    struct mcf_planned_doubles told = {9, 9, {9, 9}};
     struct mcf_wide rows[2], columns[2];
-    uint32_t unit;
+    struct mcf_scale scale;
     size_t place;
     costs[0] = costs[2] = one, costs[1] = one + 2 * last, costs[3] = one + last;
     one_way[0] = one_way[2] = one, one_way[1] = one_way[3] = one / zero;
     memcpy(faulty, costs, sizeof costs);
     faulty[3] = zero / zero;
     CHECK(101, mcf_transport_doubles(&problem, plan, 3, rows, 2, columns, 2, &told) == MCF_FLOW);
-    CHECK(102, told.used == 3 && told.side == 0);
+    CHECK(102, told.used == 3 && told.side == 0 && told.scale.is_rounded == 0);
     for (place = 0; place < 3; place++)
         CHECK(103, plan[place].amount == (plan[place].row == 0 ? 3 : 2) &&
                        (plan[place].row == 1 || plan[place].column == 0));
-    unit = told.unit;
-    CHECK(104, mcf_check_transport_doubles(&problem, plan, 3, rows, 2, columns, 2, unit) == 0);
-    CHECK(105, mcf_check_transport_doubles(&problem, plan, 2, rows, 2, columns, 2, unit) == 1);
-    CHECK(106, mcf_check_transport_doubles(&narrow, plan, 3, rows, 2, columns, 2, unit) == 1);
+    scale = told.scale;
+    CHECK(104, mcf_check_transport_doubles(&problem, plan, 3, rows, 2, columns, 2, &scale) == 0);
+    CHECK(105, mcf_check_transport_doubles(&problem, plan, 2, rows, 2, columns, 2, &scale) == 1);
+    CHECK(106, mcf_check_transport_doubles(&narrow, plan, 3, rows, 2, columns, 2, &scale) == 1);
     rows[0].low++;
-    CHECK(107, mcf_check_transport_doubles(&problem, plan, 3, rows, 2, columns, 2, unit) == 1);
-    CHECK(108, mcf_check_transport_doubles(&wrong, plan, 3, rows, 2, columns, 2, unit) ==
+    CHECK(107, mcf_check_transport_doubles(&problem, plan, 3, rows, 2, columns, 2, &scale) == 1);
+    CHECK(108, mcf_check_transport_doubles(&wrong, plan, 3, rows, 2, columns, 2, &scale) ==
                    MCF_INVALID_INPUT);
     CHECK(109, mcf_transport_doubles(&without, plan, 3, rows, 2, columns, 2, &told) == MCF_BLOCKED);
     CHECK(110, told.side == MCF_SEND && rows[0].low == 1 && rows[1].low == 1 &&

@@ -818,8 +818,13 @@ static const struct mcf_wide *widened(uint8_t *end, const wide *prices, size_t c
     return at_edge(end, words, count * sizeof *words);
 }
 
-/* The unit of the prices. */
-static uint32_t unit_now(void) { return (uint32_t)(1074 + places - priced.lift); }
+/* The scale of the prices. */
+static struct mcf_scale scale_now(void) {
+    struct mcf_scale scale;
+    scale.unit = (uint32_t)(1074 + places - priced.lift);
+    scale.is_rounded = 0;
+    return scale;
+}
 
 /* Assigns with rooms for so many prices, which are taken over if there are any. */
 static uint32_t assign(const struct mcf_matrix *matrix, uint32_t *column_of, size_t column_count,
@@ -829,13 +834,15 @@ static uint32_t assign(const struct mcf_matrix *matrix, uint32_t *column_of, siz
     struct mcf_wide *y = room_at(wide_end, rows * sizeof *y),
                     *z = room_at(other_wide_end, columns * sizeof *z);
     struct mcf_doubles doubles;
-    uint32_t unit = 77, status;
+    struct mcf_scale scale = {77, 78};
+    uint32_t status;
     if (as_doubles) {
         doubles = doubles_of(matrix);
-        status = mcf_assign_doubles(&doubles, column_of, column_count, y, rows, z, columns, &unit);
-        if (status > MCF_FLOW) CHECK(unit == 77);
-        if (status == MCF_BLOCKED) unit = (uint32_t)(1074 + places);
-        if (status <= MCF_BLOCKED) take_wide(y, rows, z, columns, unit);
+        status = mcf_assign_doubles(&doubles, column_of, column_count, y, rows, z, columns, &scale);
+        if (status > MCF_FLOW) CHECK(scale.unit == 77 && scale.is_rounded == 78);
+        if (status == MCF_FLOW) CHECK(scale.is_rounded == 0);
+        if (status == MCF_BLOCKED) scale.unit = (uint32_t)(1074 + places);
+        if (status <= MCF_BLOCKED) take_wide(y, rows, z, columns, scale.unit);
     } else {
         status = mcf_assign_matrix(matrix, column_of, column_count, u, rows, v, columns);
         if (status <= MCF_BLOCKED) take_whole(u, rows, v, columns);
@@ -862,16 +869,17 @@ static uint32_t send(const struct mcf_transport *problem, struct mcf_shipment *p
             *v = room_at(other_price_end, columns * sizeof *v);
     struct mcf_wide *y = room_at(wide_end, rows * sizeof *y),
                     *z = room_at(other_wide_end, columns * sizeof *z);
-    struct mcf_planned_doubles all = {77, 77, 77};
+    struct mcf_planned_doubles all = {77, 77, {77, 78}};
     struct mcf_transport_doubles doubles;
     uint32_t status;
     if (as_doubles) {
         doubles = transport_of(problem);
         status = mcf_transport_doubles(&doubles, plan, length, y, rows, z, columns, &all);
-        if (status > MCF_BLOCKED) CHECK(all.unit == 77);
-        if (status == MCF_BLOCKED) CHECK(all.unit == 0);
-        if (status == MCF_BLOCKED) all.unit = (uint32_t)(1074 + places);
-        if (status <= MCF_BLOCKED) take_wide(y, rows, z, columns, all.unit);
+        if (status > MCF_BLOCKED) CHECK(all.scale.unit == 77 && all.scale.is_rounded == 78);
+        if (status <= MCF_BLOCKED) CHECK(all.scale.is_rounded == 0);
+        if (status == MCF_BLOCKED) CHECK(all.scale.unit == 0);
+        if (status == MCF_BLOCKED) all.scale.unit = (uint32_t)(1074 + places);
+        if (status <= MCF_BLOCKED) take_wide(y, rows, z, columns, all.scale.unit);
         told->used = all.used, told->side = all.side;
     } else {
         status = mcf_transport_matrix(problem, plan, length, u, rows, v, columns, told);
@@ -890,13 +898,13 @@ static uint32_t judge_matrix(const struct mcf_matrix *matrix, const uint32_t *co
                   *v = narrowed(other_price_end, priced.columns, columns);
     const struct mcf_wide *y = widened(wide_end, priced.rows, rows),
                           *z = widened(other_wide_end, priced.columns, columns);
+    const struct mcf_scale scale = scale_now();
     struct mcf_doubles doubles;
     uint32_t status;
     protect_judged(PROT_READ);
     if (as_doubles) {
         doubles = doubles_of(matrix);
-        status =
-            mcf_check_doubles(&doubles, column_of, column_count, y, rows, z, columns, unit_now());
+        status = mcf_check_doubles(&doubles, column_of, column_count, y, rows, z, columns, &scale);
     } else {
         status = mcf_check_matrix(matrix, column_of, column_count, u, rows, v, columns);
     }
@@ -911,12 +919,13 @@ static uint32_t judge_transport(const struct mcf_transport *problem,
                   *v = narrowed(other_price_end, priced.columns, columns);
     const struct mcf_wide *y = widened(wide_end, priced.rows, rows),
                           *z = widened(other_wide_end, priced.columns, columns);
+    const struct mcf_scale scale = scale_now();
     struct mcf_transport_doubles doubles;
     uint32_t status;
     protect_judged(PROT_READ);
     if (as_doubles) {
         doubles = transport_of(problem);
-        status = mcf_check_transport_doubles(&doubles, plan, used, y, rows, z, columns, unit_now());
+        status = mcf_check_transport_doubles(&doubles, plan, used, y, rows, z, columns, &scale);
     } else {
         status = mcf_check_transport(problem, plan, used, u, rows, v, columns);
     }

@@ -54,7 +54,7 @@ static struct mcf_planned told;
 static double doubles[400];
 static struct mcf_wide row_wides[20], column_wides[20];
 static struct mcf_planned_doubles told_doubles;
-static uint32_t unit;
+static struct mcf_scale scale;
 static size_t length, used, nodes, arc_count;
 static struct mcf_choice choice;
 static struct mcf_verdict verdict, before;
@@ -94,16 +94,16 @@ static uint32_t call(int number) {
         return mcf_check_transport(&transport, plan, told.used, flow, 20, prices, 20);
     case 10:
         return mcf_assign_doubles(&double_matrix, column_of, 20, row_wides, 20, column_wides, 20,
-                                  &unit);
+                                  &scale);
     case 11:
         return mcf_check_doubles(&double_matrix, column_of, 20, row_wides, 20, column_wides, 20,
-                                 unit);
+                                 &scale);
     case 12:
         return mcf_transport_doubles(&double_transport, plan, 40, row_wides, 20, column_wides, 20,
                                      &told_doubles);
     default:
         return mcf_check_transport_doubles(&double_transport, plan, told_doubles.used, row_wides,
-                                           20, column_wides, 20, told_doubles.unit);
+                                           20, column_wides, 20, &told_doubles.scale);
     }
 }
 
@@ -119,7 +119,7 @@ static int refuse_each(int number) {
         if (solves) memset(flow, 7, sizeof flow), memset(prices, 7, sizeof prices);
         if (is_wide) memset(row_wides, 7, sizeof row_wides);
         if (is_wide) memset(column_wides, 7, sizeof column_wides);
-        if (is_wide) memset(column_of, 7, sizeof column_of), memset(&unit, 7, sizeof unit);
+        if (is_wide) memset(column_of, 7, sizeof column_of), memset(&scale, 7, sizeof scale);
         if (plans) memset(plan, 7, sizeof plan);
         if (number == 8) memset(&told, 7, sizeof told);
         if (number == 12) memset(&told_doubles, 7, sizeof told_doubles);
@@ -150,7 +150,7 @@ static int refuse_each(int number) {
         if (is_wide && (memcmp(row_wides, sevens, sizeof row_wides) != 0 ||
                         memcmp(column_wides, sevens, sizeof column_wides) != 0 ||
                         memcmp(column_of, sevens, sizeof column_of) != 0 ||
-                        memcmp(&unit, sevens, sizeof unit) != 0))
+                        memcmp(&scale, sevens, sizeof scale) != 0))
             return printf("refuse: call %d: a buffer is written\n", number);
     }
 }

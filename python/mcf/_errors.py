@@ -43,10 +43,8 @@ class Refused(MCFError, ValueError):
         Where the first fault is: the index of an arc, from 0, or the index or label of a node. At
         least one of them is None. For a matrix, `arc` is the index of the entry, row by row.
     reason : str
-        What is wrong: 'size', 'supply', 'node', 'bound', 'order', 'cost' or 'total'; 'unlimited',
-        if an arc without capacity would have to carry more than 10^18; or 'bits', if the bits of
-        the costs of a matrix, from the lowest of any to the highest of the greatest, are more than
-        118.
+        What is wrong: 'size', 'supply', 'node', 'bound', 'order', 'cost' or 'total'; or
+        'unlimited', if an arc without capacity would have to carry more than 10^18.
     scale : int
         The factor that made numbers of this kind whole.
     value
@@ -83,8 +81,6 @@ class Refused(MCFError, ValueError):
     def _what(self) -> str:
         if self.reason == "unlimited":
             return "unlimited, it would have to carry more than 10^18"
-        if self.reason == "bits":
-            return "bits, those of the costs span more than 118"
         if self.reason == "total":
             return "total, the sizes of costs times bounds add up to more than 10^36"
         if self.value is None:

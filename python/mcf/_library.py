@@ -7,6 +7,7 @@ import os
 import sys
 import threading
 from array import array
+from fractions import Fraction
 from typing import Any, Callable, Dict, List, NamedTuple, Optional, Sequence, Tuple, Union
 
 from ._errors import NotAccepted
@@ -141,8 +142,23 @@ class Planned(ctypes.Structure):
     _fields_ = [("used", ctypes.c_size_t), ("side", ctypes.c_uint32)]
 
 
+class Scale(ctypes.Structure):
+    """The unit of prices of doubles, 2^(unit - 1074), and whether they show what is least of the
+    costs rounded down to such units."""
+
+    _fields_ = [("unit", ctypes.c_uint32), ("is_rounded", ctypes.c_uint32)]
+
+    def size(self) -> Fraction:
+        """The number that a unit stands for."""
+        return Fraction(2) ** int(self.unit - 1074)
+
+    def gap(self, amount: int) -> Fraction:
+        """How much costs lose at most by being rounded down, times this amount."""
+        return amount * (self.size() - Fraction(1, 2**1074)) if self.is_rounded else Fraction(0)
+
+
 class PlannedDoubles(ctypes.Structure):
-    _fields_ = [("used", ctypes.c_size_t), ("side", ctypes.c_uint32), ("unit", ctypes.c_uint32)]
+    _fields_ = [("used", ctypes.c_size_t), ("side", ctypes.c_uint32), ("scale", Scale)]
 
 
 class Verdict(NamedTuple):
@@ -210,7 +226,7 @@ def _load() -> ctypes.CDLL:
     plans: List[Any] = [ctypes.POINTER(TransportProblem), at, size, *rooms]
     library.mcf_transport_matrix.argtypes = plans + [ctypes.POINTER(Planned)]
     library.mcf_transport_doubles.argtypes = plans + [ctypes.POINTER(PlannedDoubles)]
-    library.mcf_assign_doubles.argtypes = [*lines, ctypes.POINTER(word)]
+    library.mcf_assign_doubles.argtypes = [*lines, ctypes.POINTER(Scale)]
     for function in (
         library.mcf_solve,
         library.mcf_check,
@@ -497,12 +513,12 @@ class MatrixArrays(Priced):
 class DoubleArrays(MatrixArrays):
     """The same for a matrix of doubles."""
 
-    __slots__ = ("unit",)
+    __slots__ = ("scale",)
     words = 2
 
     def assign(self) -> int:
-        self.unit = ctypes.c_uint32()
-        return self._call(_lib.mcf_assign_doubles, *self._rooms, ctypes.byref(self.unit))
+        self.scale = Scale()
+        return self._call(_lib.mcf_assign_doubles, *self._rooms, ctypes.byref(self.scale))
 
 
 class Costs(NamedTuple):

@@ -2,7 +2,7 @@
 from fractions import Fraction
 from typing import Any, List, Sequence, Tuple, Union
 
-from ._errors import Infeasible, NotAccepted, Refused
+from ._errors import Infeasible, NotAccepted
 from ._library import (
     BLOCKED,
     FLOW,
@@ -29,14 +29,18 @@ class Assignment:
     cost : int or Fraction
         The sum of the costs of the pairs, exactly: a Fraction if a cost isn't whole, or is a float
         beyond 10^15.
+    gap : int or Fraction
+        How far from the least, or the greatest, the cost may be. It is 0, except where the bits of
+        floats span more than 118.
     row_prices, column_prices : list of int or of Fraction
         The dual certificate: each allowed pair costs at least the sum of its prices, and each pair
         of the assignment exactly that sum. On the larger side no price is above 0, and the prices
         of what isn't matched are 0. So no assignment costs less. If the assignment has the greatest
-        cost, the opposite holds: at most, and below 0.
+        cost, the opposite holds: at most, and below 0. Where the gap isn't 0, all that holds of the
+        costs rounded down to whole multiples of a power of 2, or up for the greatest cost.
     """
 
-    __slots__ = ("rows", "columns", "cost", "row_prices", "column_prices")
+    __slots__ = ("rows", "columns", "cost", "gap", "row_prices", "column_prices")
 
     def __init__(
         self,
@@ -44,8 +48,9 @@ class Assignment:
         cost: Union[int, Fraction],
         row_prices: Sequence[Union[int, Fraction]],
         column_prices: Sequence[Union[int, Fraction]],
+        gap: Union[int, Fraction] = 0,
     ):
-        (self.rows, self.columns), self.cost = pairs, cost
+        (self.rows, self.columns), self.cost, self.gap = pairs, cost, gap
         self.row_prices, self.column_prices = list(row_prices), list(column_prices)
 
     def __repr__(self) -> str:
@@ -53,7 +58,7 @@ class Assignment:
         return "Assignment(cost=%r, %d pairs)" % (self.cost, len(self.rows))
 
     def __eq__(self, other: object) -> bool:
-        """Whether the other is an assignment of the same pairs, cost and prices."""
+        """Whether the other is an assignment of the same pairs, cost, gap and prices."""
         if not isinstance(other, Assignment):
             return NotImplemented
         return all(getattr(self, name) == getattr(other, name) for name in self.__slots__)
@@ -69,7 +74,8 @@ def assign(
     """Matches rows with columns at least cost, or at greatest cost, with prices that show it.
 
     The answer is exact, and judged: floats are the numbers that their bits stand for, all other
-    entries are whole.
+    entries are whole. Where the bits of floats span more than 118, its cost may be above the least
+    by up to its gap, which is less than 2^-117 of the greatest entry's size for each pair.
 
     Parameters
     ----------
@@ -82,7 +88,7 @@ def assign(
     Returns
     -------
     Assignment
-        The pairs, their exact cost, and the prices.
+        The pairs, their exact cost, the gap and the prices.
 
     Raises
     ------
@@ -91,7 +97,7 @@ def assign(
         why: by 'send', its rows have allowed pairs with its columns alone, and are more than
         these; by 'take', its columns with its rows alone.
     Refused
-        A whole entry is beyond 10^15; or the bits of floats span more than 118.
+        A whole entry is beyond 10^15.
     NotAccepted
         The judge accepts no assignment that the search found. No such matrix is known.
     ValueError
@@ -121,8 +127,6 @@ def assign(
         raise _infeasible(problem)
     if status == INVALID_INPUT:
         raise refused_cost(matrix, sign)
-    if status != FLOW and matrix.are_doubles:
-        raise Refused(None, None, "bits")
     if status != FLOW:
         raise NotAccepted("the search found no assignment that the judge accepts")
     return _found(problem, matrix, sign)
@@ -164,15 +168,16 @@ def _opposite(value: Any) -> Any:
 def _found(problem: MatrixArrays, matrix: Costs, sign: int) -> Assignment:
     """The assignment that a call found, with exact numbers in the caller's sign."""
     unit: Union[int, Fraction] = sign
-    if isinstance(problem, DoubleArrays):
-        unit = sign * Fraction(2) ** int(problem.unit.value - 1074)
+    gap: Union[int, Fraction] = 0
     number = Fraction if matrix.are_doubles else int
     pairs = [(i, j) for i, j in enumerate(problem.column_of) if j < matrix.columns]
+    if isinstance(problem, DoubleArrays):
+        unit, gap = sign * problem.scale.size(), problem.scale.gap(len(pairs))
     cost = sign * sum((number(cost_at(matrix, i, j)) for i, j in pairs), number(0))
     rows, columns = (
         [unit * price for price in prices] for prices in (problem.row_prices, problem.column_prices)
     )
-    return Assignment(([i for i, _ in pairs], [j for _, j in pairs]), cost, rows, columns)
+    return Assignment(([i for i, _ in pairs], [j for _, j in pairs]), cost, rows, columns, gap)
 
 
 def _infeasible(problem: MatrixArrays) -> Infeasible:

@@ -58,9 +58,11 @@ def linear_sum_assignment(
 ) -> Tuple[Any, Any]:
     """Matches rows with columns at least cost, or at greatest cost.
 
-    Floats are the numbers that their bits stand for, and the sum is exactly the least. Beside a
-    Decimal or a Fraction, or with a named engine, a float counts as the decimal that it prints as,
-    and the function scales all entries to whole numbers, exactly.
+    Floats are the numbers that their bits stand for, and the sum is exactly the least; where their
+    bits span more than 118, it may be above the least by less than 2^-117 of the size of the
+    greatest entry for each pair, as `assign` tells. Beside a Decimal or a Fraction, or with a named
+    engine, a float counts as the decimal that it prints as, and the function scales all entries to
+    whole numbers, exactly.
 
     Parameters
     ----------
@@ -87,7 +89,7 @@ def linear_sum_assignment(
         No matching covers all rows or all columns without an infinite entry; or `cost_matrix` isn't
         a matrix.
     Refused
-        A scaled entry is beyond 10^15; or the bits of floats span more than 118.
+        A scaled entry is beyond 10^15.
     TypeError
         An entry isn't a number.
 
@@ -140,7 +142,7 @@ def _table(matrix: Any) -> Any:
 def _by_array(table: Any, maximize: bool) -> Optional[Tuple[Any, Any]]:
     """Searches an array, in place where its layout allows it, by rows or by columns. Returns None
     for integers of which one is beyond the limit, or if the library accepts no answer of the
-    search, as for doubles whose bits lie too far apart."""
+    search."""
     numpy = sys.modules["numpy"]
     costs = numpy.negative(table) if maximize else table
     is_whole = costs.dtype.kind == "i"

@@ -3,8 +3,9 @@ import math
 from fractions import Fraction
 from typing import Any, Dict, List, NamedTuple, Tuple, Union
 
-from ._library import BLOCKED, FLOW, FORBIDDEN, INVALID_INPUT, DoubleTransportArrays
-from .transportation import in_place, infeasible, total_of, unit_of
+from ._errors import NotAccepted
+from ._library import BLOCKED, FLOW, FORBIDDEN, INVALID_INPUT, Costs, DoubleTransportArrays
+from .transportation import exact_cost, in_place, infeasible, total_of
 
 # Masses have at most so many bits in their unit, so that their sum fits 64.
 MASS_BITS = 62
@@ -23,6 +24,7 @@ class _Masses(NamedTuple):
 class _Solved(NamedTuple):
     """The arrays of a problem that is solved, and its masses."""
 
+    costs: Costs
     problem: DoubleTransportArrays
     masses: _Masses
 
@@ -38,13 +40,16 @@ class _Solved(NamedTuple):
         return G
 
     def cost(self) -> float:
-        """The least cost, rounded once."""
+        """The cost, rounded once."""
         return self._cost((self.problem.row_prices, self.problem.column_prices))
 
     def _cost(self, prices: Tuple[List[int], List[int]]) -> float:
         _, _, unit = self.masses
+        scale = self.problem.told.scale
+        if scale.is_rounded:
+            return float(exact_cost(self.costs, self.problem.entries()) * unit)
         masses = self.masses.supplies.tolist(), self.masses.demands.tolist()
-        return float(total_of(prices, *masses) * unit * unit_of(self.problem))
+        return float(total_of(prices, *masses) * unit * scale.size())
 
     def log(self, center_dual: bool) -> Dict[str, Any]:
         """The log of POT, with the prices as dual variables, and the masses of the plan."""
@@ -52,7 +57,7 @@ class _Solved(NamedTuple):
 
         supplies, demands, unit = self.masses
         prices = self.problem.row_prices, self.problem.column_prices
-        places = self.problem.told.unit - 1074
+        places = self.problem.told.scale.unit - 1074
         u, v = (numpy.ldexp(numpy.array(line, dtype=float), places) for line in prices)
         a, b = _multiples(supplies, unit), _multiples(demands, unit)
         total = a.sum() + b.sum()
@@ -87,11 +92,13 @@ def emd(
     into another.
 
     The plan is exactly least: costs are the numbers that their bits stand for, and masses are whole
-    multiples of a unit. They are those given if these are multiples of one power of two, with at
-    most 62 bits and equal sums. Equal masses in `a`, and equal ones in `b`, are the sum of `a` over
-    their number. Otherwise `b` is scaled to the sum of `a`, as POT does, and the unit is the 2^52nd
-    part of that sum: each mass is rounded down to units, and those that are left go one by one to
-    the masses with the greatest remainders. So each mass then changes by less than a unit.
+    multiples of a unit. Where the bits of finite costs span more than 118, its cost may be above
+    the least by less than 2^-117 of the size of the greatest one, times the total mass. Masses are
+    those given if these are multiples of one power of two, with at most 62 bits and equal sums.
+    Equal masses in `a`, and equal ones in `b`, are the sum of `a` over their number. Otherwise `b`
+    is scaled to the sum of `a`, as POT does, and the unit is the 2^52nd part of that sum: each mass
+    is rounded down to units, and those that are left go one by one to the masses with the greatest
+    remainders. So each mass then changes by less than a unit.
 
     Parameters
     ----------
@@ -126,10 +133,11 @@ def emd(
     ------
     ValueError
         The shapes or sums differ; a mass isn't finite, or a cost is a NaN or -infinity; or costs
-        aren't representable: their bits span more than 118, integers are beyond 2^53, or their
-        type is wider than 64 bits.
+        aren't representable: integers are beyond 2^53, or their type is wider than 64 bits.
     Infeasible
         A mass is negative, or the pairs that aren't forbidden don't suffice.
+    NotAccepted
+        The judge accepts no plan that the search found. No such problem is known.
     OverflowError
         `log` is true, and the cost is beyond doubles.
 
@@ -183,7 +191,7 @@ def emd2(
 
     Raises
     ------
-    ValueError, Infeasible
+    ValueError, Infeasible, NotAccepted
         As for `emd`.
     OverflowError
         The cost is beyond doubles.
@@ -244,15 +252,16 @@ def _solved(a: Any, b: Any, M: Any, check_marginals: bool) -> _Solved:
     import numpy
 
     masses = _masses(a, b, check_marginals)
-    problem = DoubleTransportArrays(in_place(M, numpy.float64), masses.supplies, masses.demands)
+    costs = in_place(M, numpy.float64)
+    problem = DoubleTransportArrays(costs, masses.supplies, masses.demands)
     status = problem.solve()
     if status == BLOCKED:
         raise infeasible(problem, masses.supplies.tolist(), masses.demands.tolist())
     if status == INVALID_INPUT:
         raise ValueError("costs have to be numbers, or infinite to forbid a pair")
     if status != FLOW:
-        raise ValueError("costs aren't representable: their bits may span up to 118; round them")
-    return _Solved(problem, masses)
+        raise NotAccepted("the search found no plan that the judge accepts")
+    return _Solved(costs, problem, masses)
 
 
 def _masses(a: Any, b: Any, check_marginals: bool) -> _Masses:

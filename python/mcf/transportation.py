@@ -6,7 +6,7 @@ from fractions import Fraction
 from operator import index, mul
 from typing import Any, List, NamedTuple, Sequence, Tuple, Type, Union
 
-from ._errors import Cell, Infeasible, Refused
+from ._errors import Cell, Infeasible, NotAccepted, Refused
 from ._library import (
     BLOCKED,
     FLOW,
@@ -35,14 +35,18 @@ class Plan:
     cost : int or Fraction
         The total cost: the sum of cost times amount. It is a Fraction if a cost isn't whole, or is
         a float beyond 10^15.
+    gap : int or Fraction
+        How far above the least the cost may be. It is 0, except where the bits of floats span more
+        than 118.
     shipments : list of (row, column, amount)
         What goes from which row to which column, by row and column. No amount is 0.
     row_prices, column_prices : list of int or of Fraction
         The dual certificate: each allowed pair costs at least the sum of its prices, and each pair
-        that the plan uses exactly that sum. So no plan costs less.
+        that the plan uses exactly that sum. So no plan costs less. Where the gap isn't 0, this
+        holds of the costs rounded down to whole multiples of a power of 2.
     """
 
-    __slots__ = ("cost", "shipments", "row_prices", "column_prices", "_numpy")
+    __slots__ = ("cost", "gap", "shipments", "row_prices", "column_prices", "_numpy")
 
     def __init__(
         self,
@@ -51,8 +55,9 @@ class Plan:
         row_prices: List[Any],
         column_prices: List[Any],
         numpy: Any = None,
+        gap: Union[int, Fraction] = 0,
     ):
-        self.cost, self.shipments, self._numpy = cost, shipments, numpy
+        self.cost, self.gap, self.shipments, self._numpy = cost, gap, shipments, numpy
         self.row_prices, self.column_prices = row_prices, column_prices
 
     def dense(self) -> Any:
@@ -85,15 +90,10 @@ class Plan:
         return "Plan(cost=%r, %d shipments)" % (self.cost, len(self.shipments))
 
     def __eq__(self, other: object) -> bool:
-        """Whether the other is a plan of the same cost, amounts and prices."""
+        """Whether the other is a plan of the same cost, gap, amounts and prices."""
         if not isinstance(other, Plan):
             return NotImplemented
-        return (self.cost, self.shipments, self.row_prices, self.column_prices) == (
-            other.cost,
-            other.shipments,
-            other.row_prices,
-            other.column_prices,
-        )
+        return all(getattr(self, name) == getattr(other, name) for name in self.__slots__[:-1])
 
     # A plan holds mutable lists.
     __hash__ = None  # type: ignore[assignment]
@@ -110,10 +110,11 @@ def transport(
 
     Each row sends its supply, and each column receives its demand. Supplies and demands are whole.
     Costs are whole, too, or they are floats, as the numbers that their bits stand for; the cost is
-    exactly the least. If a float isn't whole, or is beyond 10^15, the cost and the prices are
-    fractions. A numpy array of 64-bit integers, or of 64-bit floats that aren't all whole, whose
-    rows are contiguous, is read where it is, without a copy: no other thread may change it during
-    the call.
+    exactly the least, except where the bits of floats span more than 118: there it may be above the
+    least by up to the plan's gap. If a float isn't whole, or is beyond 10^15, the cost and the
+    prices are fractions. A numpy array of 64-bit integers, or of 64-bit floats that aren't all
+    whole, whose rows are contiguous, is read where it is, without a copy: no other thread may
+    change it during the call.
 
     Parameters
     ----------
@@ -140,9 +141,10 @@ def transport(
         'send', its rows may send to its columns alone, and supply more than these demand; by
         'take', its columns may receive from its rows alone, and demand more than these supply.
     Refused
-        A whole cost is beyond 10^15, or a supply or a demand doesn't fit 64 bits; or floats that
-        aren't whole have bits that span more than 118; or the search shows no answer,
-        and there are too many pairs to solve them as arcs.
+        A whole cost is beyond 10^15, or a supply or a demand doesn't fit 64 bits; or the search
+        shows no answer for whole costs, and there are too many pairs to solve them as arcs.
+    NotAccepted
+        The judge accepts no plan that the search found for floats. No such problem is known.
     ValueError
         A supply, a demand, or a cost that isn't a float, isn't whole; a cost is a NaN or
         -infinity; or `costs` isn't a matrix with a row for each supply and a column for each
@@ -173,26 +175,24 @@ def transport(
     if status == INVALID_INPUT:
         raise refused_cost(matrix)
     if status != FLOW and matrix.are_doubles:
-        raise Refused(None, None, "bits")
+        raise NotAccepted("the search found no plan that the judge accepts")
     if status != FLOW:
         return _by_arcs(matrix, given_supplies, given_demands, numpy, check)
     prices = problem.row_prices, problem.column_prices
     cost = total_of(prices, given_supplies, given_demands)
     if not matrix.are_doubles:
         return Plan(cost, problem.entries(), prices[0], prices[1], numpy)
-    unit = unit_of(problem)
-    rows, columns = ([unit * price for price in line] for line in prices)
-    return Plan(unit * cost, problem.entries(), rows, columns, numpy)
+    scale, shipments = problem.told.scale, problem.entries()
+    rows, columns = ([scale.size() * price for price in line] for line in prices)
+    gap, total = scale.gap(sum(given_supplies)), scale.size() * cost
+    return Plan(
+        exact_cost(matrix, shipments) if gap else total, shipments, rows, columns, numpy, gap
+    )
 
 
 def arrays_of(matrix: Costs) -> Type[TransportArrays]:
     """The call for a matrix."""
     return DoubleTransportArrays if matrix.are_doubles else TransportArrays
-
-
-def unit_of(problem: TransportArrays) -> Fraction:
-    """The number that a unit of the prices of doubles stands for."""
-    return Fraction(2) ** int(problem.told.unit - 1074)
 
 
 def total_of(prices: Tuple[List[int], List[int]], supplies: Any, demands: Any) -> int:
@@ -309,6 +309,12 @@ def cost_at(matrix: Costs, row: int, column: int) -> Any:
     if isinstance(matrix.buffer, array):
         return matrix.buffer[row * matrix.stride + column]
     return matrix.buffer[row, column].item()
+
+
+def exact_cost(matrix: Costs, shipments: Shipments) -> Fraction:
+    """The cost of a plan, from the costs themselves."""
+    terms = (Fraction(cost_at(matrix, i, j)) * amount for i, j, amount in shipments)
+    return sum(terms, Fraction(0))
 
 
 def refused_cost(matrix: Costs, sign: int = 1) -> ValueError:

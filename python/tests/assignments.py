@@ -82,14 +82,67 @@ class Assignments(unittest.TestCase):
                 self.assert_infeasible(costs, error)
                 blocked += 1
                 continue
-            except mcf.Refused:
+            if found.gap:
                 # 1e16 and the least double lie too far apart.
-                flat = {c for line in costs for c in line}
-                self.assertTrue(flat & {5e-324})
+                self.assertIn(5e-324, {c for line in costs for c in line})
+                self.assert_near(costs, found, sign)
                 continue
             self.assertEqual(found.cost, least(costs, sign))
             self.assert_shown(costs, found, sign)
         self.assertGreater(blocked, 15)
+
+    def assert_near(self, costs, found, sign):
+        """The cost is within the gap of the best, which is less than 2^-117 of the size of the
+        greatest entry for each pair. The prices show it for rounded costs."""
+        above = sign * (found.cost - least(costs, sign))
+        finite = [c for line in costs for c in line if c is not None and math.isfinite(c)]
+        size = max(map(abs, map(Fraction, finite)))
+        self.assertTrue(0 <= above <= found.gap)
+        self.assertTrue(0 < found.gap < len(found.rows) * size / 2**117)
+        unit = (found.gap / len(found.rows) + Fraction(1, 2**1074)) * sign
+        rounded = [
+            [None if c is None else Fraction(c) // unit * unit for c in line] for line in costs
+        ]
+        pairs = list(zip(found.rows, found.columns))
+        self.assertEqual(found.cost, sum(Fraction(costs[i][j]) for i, j in pairs))
+        shown = sum(rounded[i][j] for i, j in pairs)
+        others = found.row_prices, found.column_prices, 0
+        self.assert_shown(rounded, mcf.assigning.Assignment(zip(*pairs), shown, *others), sign)
+
+    def test_far_apart(self):
+        """Bits that span up to 2^300 and more: the cost is within the gap of the best sum, by all
+        permutations in fractions."""
+        rng, told = random.Random(72), 0
+        for _ in range(400):
+            shape = rng.randint(1, 5), rng.randint(1, 5)
+            span = rng.choice((60, 130, 300, 300, 900, 2000))
+            costs = [
+                [
+                    None
+                    if rng.random() < 0.1
+                    else rng.choice((-1, 1, 1))
+                    * math.ldexp(rng.choice((1, rng.random())), rng.randint(-span // 2, span // 2))
+                    for _ in range(shape[1])
+                ]
+                for _ in range(shape[0])
+            ]
+            sign = rng.choice((1, 1, -1))
+            try:
+                found = mcf.assign(costs, sign < 0)
+            except mcf.Infeasible as error:
+                self.assert_infeasible(costs, error)
+                continue
+            if found.gap:
+                told += 1
+                self.assert_near(costs, found, sign)
+            else:
+                self.assertEqual(found.cost, least(costs, sign))
+                self.assert_shown(costs, found, sign)
+            infinite = [[sign * math.inf if c is None else c for c in line] for line in costs]
+            rows, columns = mcf.linear_sum_assignment(infinite, sign < 0)
+            cost = sum(Fraction(costs[i][j]) for i, j in zip(rows, columns))
+            self.assertLessEqual(sign * (cost - least(costs, sign)), found.gap)
+        self.assertGreater(told, 200)
 
     @unittest.skipUnless(np is not None, "there is no numpy")
     def test_arrays(self):
@@ -126,7 +179,6 @@ class Assignments(unittest.TestCase):
             ([[Fraction(1, 3)]], ValueError, "whole"),
             ([["1"]], TypeError, ""),
             ([[10**400, 0.5]], mcf.Refused, "cost"),
-            ([[1e-300, 1.0]], mcf.Refused, "bits"),
         ):
             self.assertRaisesRegex(error, word, mcf.assign, costs)
         # The cost is named with the caller's sign.

@@ -154,7 +154,7 @@ REFUSALS = (
         "size, 1000001 nodes and 0 arcs, where 1000000 and 10000000 may be",
     ),
     (
-        lambda: mcf.linear_sum_assignment([[1e-300, 2]]),
+        lambda: mcf.linear_sum_assignment([[1e-300, 2]], engine="sap"),
         2,
         (0, 1),
         "row 0, column 1: cost 2 is past the limit, 10^15 (numbers are multiplied by "
@@ -626,7 +626,6 @@ class Arrays(unittest.TestCase):
             np.full((2, 2), 2**63 - 1),
             np.full((2, 2), -(2**63)),
             np.full((2, 2), 2**64 - 1, "u8"),
-            np.array([[1e300, 1e-300], [1, 1]]),
         ):
             for maximize in (False, True):
                 self.assertRaises(mcf.Refused, mcf.linear_sum_assignment, wrong, maximize)

@@ -127,7 +127,6 @@ class Transports(unittest.TestCase):
             ([[Fraction(1, 2)]], [1], ValueError),
             ([[1]], [0.5], ValueError),
             ([[0.5], [2**53 + 1]], [1, 0], mcf.Refused),
-            ([[1e-300], [1.0]], [1, 0], mcf.Refused),
             ([["a"]], [1], TypeError),
             ([[1, 2]], [1], ValueError),
             ([[1], [2, 3]], [1, 0], ValueError),
@@ -371,6 +370,30 @@ class EarthMover(unittest.TestCase):
                 M[0, 0] = np.inf
                 self.assertEqual(mcf.emd2(half, half, M), float(across / 2))
 
+    def test_far_apart(self):
+        """Costs whose bits span more than 118: the cost is within the gap of the least."""
+        np = installed("numpy")
+        rng, told = np.random.default_rng(300), 0
+        for _ in range(200):
+            M = np.ldexp(rng.random((2, 2)) - 0.3, rng.integers(-150, 151, (2, 2)))
+            C = [list(map(Fraction, row)) for row in M.tolist()]
+            a = int(rng.integers(1, 9))
+            b, c = int(rng.integers(0, a + 1)), int(rng.integers(1, 9))
+            supplies, demands = [a, c], [b, a + c - b]
+            plans = (
+                x * C[0][0] + (a - x) * C[0][1] + (b - x) * C[1][0] + (c - b + x) * C[1][1]
+                for x in range(max(0, b - c), b + 1)
+            )
+            plan, least = mcf.transport(M, supplies, demands), min(plans)
+            self.assertTrue(0 <= plan.cost - least <= plan.gap)
+            self.assertLessEqual(plan.gap, (a + c) * Fraction(abs(M).max()) / 2**117)
+            told += plan.gap > 0
+            cost = sum(C[i][j] * amount for i, j, amount in plan.shipments)
+            self.assertEqual(plan.cost, cost)
+            other = mcf.emd2(supplies, demands, M)
+            self.assertTrue(float(least) <= other <= float(least + plan.gap))
+        self.assertGreater(told, 20)
+
     def test_masses(self):
         """Masses are kept where they can be, and rounded to units where not."""
         np = installed("numpy")
@@ -424,7 +447,6 @@ class EarthMover(unittest.TestCase):
         for a, b, M, word in (
             ([0.25, 0.75], [0.5, 0.25], [[0, 1], [1, 0]], "sum"),
             ([0.25, 0.25], half, [[0, 1], [1, 0]], "sum"),
-            (half, half, [[1e-300, 1.0], [1.0, 0.0]], "costs aren't representable"),
             (half, half, [[np.nan, 1.0], [1.0, 0.0]], "numbers"),
             (half, half, [[-np.inf, 1.0], [1.0, 0.0]], "numbers"),
             ([np.inf, 0.0], half, [[0, 1], [1, 0]], "finite"),

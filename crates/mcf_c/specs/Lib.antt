@@ -8,10 +8,12 @@ pub use Rattle.mcf_matrix.specs.Covers
 pub use Rattle.mcf_matrix.specs.Cuts
 pub use Rattle.mcf_matrix.specs.Matchings
 pub use Rattle.mcf_matrix.specs.MatrixPrices
+pub use Rattle.mcf_matrix.specs.PlaceSums
 pub use Rattle.mcf_matrix.specs.Plans
 pub use Rattle.mcf_matrix.specs.Tables
 pub use Rattle.mcf_matrix_doubles.specs.DoublePrices
 pub use Rattle.mcf_matrix_doubles.specs.DoubleTables
+pub use Rattle.mcf_matrix_doubles.specs.Rounding
 pub use Rattle.mcf_solver.specs.Answering
 pub use Rattle.mcf_solver.specs.Making
 pub mod Calls

@@ -1,11 +1,12 @@
 //! Least assignments of cost matrices of doubles in arrays, and the judge of such assignments.
-ghost use Rattle.std.specs.Prelude.{◌≡◌, ◌≢◌, ◌≤◌, ◌⊎◌, ◌↔◌, ◌+◌, ℕ, List, length, true, false};
-ghost use Rattle.mcf_c.specs.DoubleMatrices.{HandsWideCover, double_costs_of, doubles_of, wide_values};
+ghost use Rattle.std.specs.Prelude.{◌≡◌, ◌≢◌, ◌≤◌, ◌⊎◌, ◌↔◌, ◌+◌, ℕ, List, length, min, pos, true, false};
+ghost use Rattle.mcf_c.specs.DoubleMatrices.{HandsWideCover, costs_by, double_costs_of, doubles_of, gap_by, tells_rounded, wide_values};
 ghost use Rattle.mcf_matrix.specs.Covers.{IsShortCover};
 ghost use Rattle.mcf_matrix.specs.Matchings.{IsLeastMatching, IsMatching};
 ghost use Rattle.mcf_matrix.specs.MatrixPrices.{IsShownMatching};
 ghost use Rattle.mcf_matrix_doubles.specs.DoublePrices.{AreSmallPrices, in_units};
 ghost use Rattle.mcf_matrix_doubles.specs.DoubleTables.{IsDoubleMatrix, double_costs};
+ghost use Rattle.mcf_matrix_doubles.specs.Rounding.{IsNearlyLeastMatching, costs_read, most_lost};
 
 use crate::statuses::{
     ACCEPTED, BLOCKED, BUFFER_TOO_SMALL, FLOW, INVALID_INPUT, NO_MEMORY, NOT_SHOWN, REJECTED,
@@ -26,6 +27,26 @@ pub struct McfDoubles<'a> {
     pub stride: usize,
 }
 
+/// The unit of prices, 2^unit * 2^-1074, and whether costs are rounded down to such units: any
+/// number but 0 tells so.
+#[repr(C)]
+#[derive(Clone, Copy)]
+pub struct McfScale {
+    pub unit: u32,
+    pub is_rounded: u32,
+}
+
+/// Returns the scale of a unit.
+pub(crate) fn scale_of(unit: u32, is_rounded: bool) -> McfScale
+    ensures unit { result.unit ≡ unit }
+    ensures told { tells_rounded result ≡ is_rounded }
+{
+    McfScale {
+        unit,
+        is_rounded: if is_rounded { 1 } else { 0 },
+    }
+}
+
 // Returns whether the arrays have an entry for each row, and for each column.
 fn are_lines(matrix: &McfDoubles<'_>, columns_of: usize, rows: usize, columns: usize) -> bool
     ensures yes { result ≡ true → (columns_of ≡ matrix.now.rows) × (rows ≡ matrix.now.rows) × (columns ≡ matrix.now.columns) }
@@ -38,12 +59,16 @@ fn are_lines(matrix: &McfDoubles<'_>, columns_of: usize, rows: usize, columns: u
 /// of each row, or a number that is no column's for a row without one, and prices of rows and
 /// columns that show the assignment, in units of 2^unit * 2^-1074.
 ///
+/// If the bits of finite entries span more than 118 places, the assignment may be a least one of
+/// the entries rounded down to such units, and `scale` tells so: no assignment costs less by as
+/// much as one unit a pair.
+///
 /// The status is 0 for an assignment. It is 1 if there is none: the prices then mark by 1 rows and
 /// columns that cover all allowed pairs and are fewer than the smaller side has, and by 0 all
 /// others. It is 2 if rows overlap or don't end within the costs, or an entry is a NaN or
 /// -infinity; 3 if an allocation is refused; 4 if a buffer doesn't have an entry for each row or
 /// column; and 7 if the search found nothing that the judge accepts. From 2 on all buffers are
-/// unchanged, and at 1 the columns and the unit are.
+/// unchanged, and at 1 the columns and the scale are.
 #[unsafe(no_mangle)]
 pub extern "C" fn mcf_assign_doubles(
     alloc: Global,
@@ -51,11 +76,12 @@ pub extern "C" fn mcf_assign_doubles(
     column_of: &mut [u32],
     row_prices: &mut [McfWide],
     column_prices: &mut [McfWide],
-    unit: &mut u32,
+    scale: &mut McfScale,
 ) -> u32
     ensures statuses { (result ≤ 4) ⊎ (result ≡ 7) }
-    ensures shown { result ≡ 0 → IsShownMatching (double_costs_of matrix.now) column_of.new (in_units unit.new (wide_values row_prices.new)) (in_units unit.new (wide_values column_prices.new)) }
-    ensures least { result ≡ 0 → IsLeastMatching (double_costs_of matrix.now) column_of.new }
+    ensures shown { result ≡ 0 → IsShownMatching (costs_by scale.new matrix.now) column_of.new (in_units scale.new.unit (wide_values row_prices.new)) (in_units scale.new.unit (wide_values column_prices.new)) }
+    ensures least { result ≡ 0 → IsLeastMatching (costs_by scale.new matrix.now) column_of.new }
+    ensures near { result ≡ 0 → IsNearlyLeastMatching (double_costs_of matrix.now) column_of.new (gap_by scale.new matrix.now) }
     ensures cover { result ≡ 1 → HandsWideCover (double_costs_of matrix.now) row_prices.new column_prices.new }
     ensures none { result ≡ 1 → (x : List ℕ) → ¬ IsMatching (double_costs_of matrix.now) x }
     ensures within { result ≤ 1 → IsDoubleMatrix (doubles_of matrix.now) }
@@ -63,7 +89,7 @@ pub extern "C" fn mcf_assign_doubles(
     ensures memory { result ≡ 3 → 1 ≤ matrix.now.rows + matrix.now.columns }
     ensures room { result ≡ 4 → (length column_of.old ≢ matrix.now.rows) ⊎ (length row_prices.old ≢ matrix.now.rows) ⊎ (length column_prices.old ≢ matrix.now.columns) }
     ensures columns_stay { 1 ≤ result → column_of.new ≡ column_of.old }
-    ensures unit_stays { 1 ≤ result → unit.new ≡ unit.old }
+    ensures scale_stays { 1 ≤ result → scale.new ≡ scale.old }
     ensures row_prices_stay { 2 ≤ result → row_prices.new ≡ row_prices.old }
     ensures column_prices_stay { 2 ≤ result → column_prices.new ≡ column_prices.old }
 {
@@ -84,7 +110,7 @@ pub extern "C" fn mcf_assign_doubles(
     let Ok(matrix) = DoubleMatrix::of(costs, rows, columns, stride) else {
         return INVALID_INPUT;
     };
-    assign_lines(alloc, &matrix, column_of, row_prices, column_prices, unit)
+    assign_lines(alloc, &matrix, column_of, row_prices, column_prices, scale)
 }
 
 // Finds a least assignment, for buffers of the right lengths.
@@ -94,26 +120,27 @@ fn assign_lines(
     column_of: &mut [u32],
     row_prices: &mut [McfWide],
     column_prices: &mut [McfWide],
-    unit: &mut u32,
+    scale: &mut McfScale,
 ) -> u32
     requires columns { length column_of.old ≡ matrix.now.rows }
     requires row_prices { length row_prices.old ≡ matrix.now.rows }
     requires column_prices { length column_prices.old ≡ matrix.now.columns }
     ensures statuses { (result ≤ 1) ⊎ (result ≡ 3) ⊎ (result ≡ 7) }
-    ensures shown { result ≡ 0 → IsShownMatching (double_costs matrix.now) column_of.new (in_units unit.new (wide_values row_prices.new)) (in_units unit.new (wide_values column_prices.new)) }
-    ensures least { result ≡ 0 → IsLeastMatching (double_costs matrix.now) column_of.new }
+    ensures shown { result ≡ 0 → IsShownMatching (costs_read scale.new.unit (tells_rounded scale.new) (double_costs matrix.now)) column_of.new (in_units scale.new.unit (wide_values row_prices.new)) (in_units scale.new.unit (wide_values column_prices.new)) }
+    ensures least { result ≡ 0 → IsLeastMatching (costs_read scale.new.unit (tells_rounded scale.new) (double_costs matrix.now)) column_of.new }
+    ensures near { result ≡ 0 → IsNearlyLeastMatching (double_costs matrix.now) column_of.new (most_lost scale.new.unit (tells_rounded scale.new) (pos (min matrix.now.rows matrix.now.columns))) }
     ensures cover { result ≡ 1 → HandsWideCover (double_costs matrix.now) row_prices.new column_prices.new }
     ensures none { result ≡ 1 → (x : List ℕ) → ¬ IsMatching (double_costs matrix.now) x }
     ensures memory { result ≡ 3 → 1 ≤ matrix.now.rows + matrix.now.columns }
     ensures columns_stay { 1 ≤ result → column_of.new ≡ column_of.old }
-    ensures unit_stays { 1 ≤ result → unit.new ≡ unit.old }
+    ensures scale_stays { 1 ≤ result → scale.new ≡ scale.old }
     ensures row_prices_stay { 2 ≤ result → row_prices.new ≡ row_prices.old }
     ensures column_prices_stay { 2 ≤ result → column_prices.new ≡ column_prices.old }
 {
     match assign(alloc, matrix) {
         Ok(DoubleAssigned::Least(found)) => {
             put_found(matrix, &found, column_of, row_prices, column_prices);
-            *unit = found.unit;
+            *scale = scale_of(found.unit, found.is_rounded);
             FLOW
         }
         Ok(DoubleAssigned::Infeasible(cover)) => {
@@ -133,7 +160,7 @@ fn put_found(
     row_prices: &mut [McfWide],
     column_prices: &mut [McfWide],
 )
-    requires shown { IsShownMatching (double_costs matrix.now) found.now.column_of.items (in_units found.now.unit found.now.row_prices.items) (in_units found.now.unit found.now.column_prices.items) }
+    requires shown { IsShownMatching (costs_read found.now.unit found.now.is_rounded (double_costs matrix.now)) found.now.column_of.items (in_units found.now.unit found.now.row_prices.items) (in_units found.now.unit found.now.column_prices.items) }
     requires columns { length column_of.old ≡ matrix.now.rows }
     requires row_prices { length row_prices.old ≡ matrix.now.rows }
     requires column_prices { length column_prices.old ≡ matrix.now.columns }
@@ -164,9 +191,10 @@ fn put_cover(
 
 /// Judges an assignment with prices for a matrix of doubles, whoever made them, exactly.
 ///
-/// The status is 0 if the prices show that the assignment is least; 1 if they don't, a price isn't
-/// less than 2^125 from 0, or an array doesn't have an entry for each row or column; 2 if the
-/// matrix has a fault; and 3 if an allocation is refused.
+/// The status is 0 if the prices show that the assignment is least, of the entries or of the
+/// entries rounded down, as `scale` tells; 1 if they don't, a price isn't less than 2^125 from 0,
+/// or an array doesn't have an entry for each row or column; 2 if the matrix has a fault; and 3 if
+/// an allocation is refused.
 #[unsafe(no_mangle)]
 pub extern "C" fn mcf_check_doubles(
     alloc: Global,
@@ -174,12 +202,13 @@ pub extern "C" fn mcf_check_doubles(
     column_of: &[u32],
     row_prices: &[McfWide],
     column_prices: &[McfWide],
-    unit: u32,
+    scale: &McfScale,
 ) -> u32
     ensures statuses { result ≤ 3 }
     ensures exact { result ≤ 1 → (result ≡ 0) ↔ (AreSmallPrices (wide_values row_prices.now) × AreSmallPrices (wide_values column_prices.now)
-        × IsShownMatching (double_costs_of matrix.now) column_of.now (in_units unit (wide_values row_prices.now)) (in_units unit (wide_values column_prices.now))) }
-    ensures least { result ≡ 0 → IsLeastMatching (double_costs_of matrix.now) column_of.now }
+        × IsShownMatching (costs_by scale.now matrix.now) column_of.now (in_units scale.now.unit (wide_values row_prices.now)) (in_units scale.now.unit (wide_values column_prices.now))) }
+    ensures least { result ≡ 0 → IsLeastMatching (costs_by scale.now matrix.now) column_of.now }
+    ensures near { result ≡ 0 → IsNearlyLeastMatching (double_costs_of matrix.now) column_of.now (gap_by scale.now matrix.now) }
     ensures within { result ≤ 1 → IsDoubleMatrix (doubles_of matrix.now) }
     ensures fault { result ≡ 2 → ¬ IsDoubleMatrix (doubles_of matrix.now) }
     ensures memory { result ≡ 3 → 1 ≤ length row_prices.now + length column_prices.now + matrix.now.columns }
@@ -202,7 +231,8 @@ pub extern "C" fn mcf_check_doubles(
     let prices = DoublePrices {
         rows: rows.as_slice(),
         columns: columns.as_slice(),
-        unit,
+        unit: scale.unit,
+        is_rounded: 0 < scale.is_rounded,
     };
     match judge_assignment(alloc, &matrix, column_of, &prices) {
         Ok(true) => ACCEPTED,

@@ -4,12 +4,13 @@ ghost use Rattle.mcf_matrix.specs.declared.shipment.Shipment.{Shipment};
 ghost use Rattle.mcf_matrix.specs.Plans.{IsLeastPlan, IsPlan, IsShownPlan};
 ghost use Rattle.mcf_matrix_doubles.specs.DoublePrices.{AreSmallPrices, in_units};
 ghost use Rattle.mcf_matrix_doubles.specs.DoubleTables.{IsDoubleMatrix};
-ghost use Rattle.mcf_c.specs.DoubleMatrices.{double_costs_of, doubles_of, wide_values};
+ghost use Rattle.mcf_c.specs.DoubleMatrices.{costs_by, double_costs_of, doubles_of, plan_gap_by, tells_rounded, wide_values};
+ghost use Rattle.mcf_matrix_doubles.specs.Rounding.{IsNearlyLeastPlan};
 ghost use Rattle.mcf_c.specs.Handing.{mark_of};
 ghost use Rattle.mcf_c.specs.Transports.{HandsPlan, HasRooms, MarksCut};
 ghost use Rattle.mcf_c.specs.Verdicts.{side_number};
 
-use crate::double_matrices::McfDoubles;
+use crate::double_matrices::{McfDoubles, McfScale, scale_of};
 use crate::statuses::{
     ACCEPTED, BLOCKED, BUFFER_TOO_SMALL, FLOW, INVALID_INPUT, NO_MEMORY, NOT_SHOWN, REJECTED,
 };
@@ -31,25 +32,29 @@ pub struct McfDoubleTransport<'a> {
     pub demands: &'a [i64],
 }
 
-/// How many entries a plan has, the side of a cut, and the unit of the prices.
+/// How many entries a plan has, the side of a cut, and the scale of costs and prices.
 #[repr(C)]
 #[derive(Clone, Copy)]
 pub struct McfDoublePlanned {
     pub used: usize,
     pub side: u32,
-    pub unit: u32,
+    pub scale: McfScale,
 }
 
 /// Finds a least transport plan for a cost matrix of doubles, which it reads exactly. Writes its
 /// entries to the beginning of a buffer, and prices of rows and columns that show it, in units of
 /// 2^unit * 2^-1074.
 ///
+/// If the bits of finite entries span more than 118 places, the plan may be a least one for the
+/// entries rounded down to such units, and the scale tells so: no plan costs less by as much as one
+/// unit times the total supply, if that isn't 0.
+///
 /// The status is 0 for a plan; 1 if there is none: the prices then mark by 1 rows and columns that
 /// have more to send, or to take, than they can, and all others by 0; 2 if rows overlap or don't
 /// end within the costs, or an entry is a NaN or -infinity; 3 if memory runs out; 4 if a buffer or
 /// the masses don't have the length of the rows or columns, or the plan has no room for one entry
 /// less than rows and columns; and 7 if nothing was shown. `told` becomes the number of entries and
-/// the unit, or the side of the cut. From 2 on all buffers and `told` are unchanged, and at 1 the
+/// the scale, or the side of the cut. From 2 on all buffers and `told` are unchanged, and at 1 the
 /// plan is.
 #[unsafe(no_mangle)]
 pub extern "C" fn mcf_transport_doubles(
@@ -61,11 +66,12 @@ pub extern "C" fn mcf_transport_doubles(
     told: &mut McfDoublePlanned,
 ) -> u32
     ensures statuses { (result ≤ 4) ⊎ (result ≡ 7) }
-    ensures plan { result ≡ 0 → HandsPlan (double_costs_of problem.now.matrix) problem.now.supplies.now problem.now.demands.now room.old room.new told.new.used (in_units told.new.unit (wide_values row_prices.new)) (in_units told.new.unit (wide_values column_prices.new)) }
+    ensures plan { result ≡ 0 → HandsPlan (costs_by told.new.scale problem.now.matrix) problem.now.supplies.now problem.now.demands.now room.old room.new told.new.used (in_units told.new.scale.unit (wide_values row_prices.new)) (in_units told.new.scale.unit (wide_values column_prices.new)) }
     ensures side { result ≡ 0 → told.new.side ≡ 0 }
-    ensures least { result ≡ 0 → IsLeastPlan (double_costs_of problem.now.matrix) problem.now.supplies.now problem.now.demands.now (take told.new.used room.new) }
+    ensures least { result ≡ 0 → IsLeastPlan (costs_by told.new.scale problem.now.matrix) problem.now.supplies.now problem.now.demands.now (take told.new.used room.new) }
+    ensures near { result ≡ 0 → IsNearlyLeastPlan (double_costs_of problem.now.matrix) problem.now.supplies.now problem.now.demands.now (take told.new.used room.new) (plan_gap_by told.new.scale problem.now.matrix problem.now.supplies.now) }
     ensures cut { result ≡ 1 → MarksCut (double_costs_of problem.now.matrix) problem.now.supplies.now problem.now.demands.now (wide_values row_prices.new) (wide_values column_prices.new) told.new.side }
-    ensures unused { result ≡ 1 → (told.new.used ≡ 0) × (told.new.unit ≡ 0) }
+    ensures unused { result ≡ 1 → (told.new.used ≡ 0) × (told.new.scale.unit ≡ 0) × (told.new.scale.is_rounded ≡ 0) }
     ensures none { result ≡ 1 → (plan : List Shipment) → ¬ IsPlan (double_costs_of problem.now.matrix) problem.now.supplies.now problem.now.demands.now plan }
     ensures within { result ≤ 1 → IsDoubleMatrix (doubles_of problem.now.matrix) }
     ensures fault { result ≡ 2 → ¬ IsDoubleMatrix (doubles_of problem.now.matrix) }
@@ -122,7 +128,8 @@ fn put_plan(
     ensures row_prices { result ≡ 0 → wide_values row_prices.new ≡ found.now.row_prices.items }
     ensures column_prices { result ≡ 0 → wide_values column_prices.new ≡ found.now.column_prices.items }
     ensures side { result ≡ 0 → told.new.side ≡ 0 }
-    ensures unit { result ≡ 0 → told.new.unit ≡ found.now.unit }
+    ensures unit { result ≡ 0 → told.new.scale.unit ≡ found.now.unit }
+    ensures rounded { result ≡ 0 → tells_rounded told.new.scale ≡ found.now.is_rounded }
     ensures plan_stays { result ≡ 7 → room.new ≡ room.old }
     ensures row_prices_stay { result ≡ 7 → row_prices.new ≡ row_prices.old }
     ensures column_prices_stay { result ≡ 7 → column_prices.new ≡ column_prices.old }
@@ -135,7 +142,7 @@ fn put_plan(
     *told = McfDoublePlanned {
         used: shipments.len(),
         side: 0,
-        unit: found.unit,
+        scale: scale_of(found.unit, found.is_rounded),
     };
     room[..shipments.len()].copy_from_slice(shipments);
     put_wide(found.row_prices.as_slice(), row_prices);
@@ -157,23 +164,28 @@ fn put_cut(
     ensures columns { wide_values column_marks.new ≡ map mark_of cut.now.columns.items }
     ensures side { told.new.side ≡ side_number cut.now.side }
     ensures used { told.new.used ≡ 0 }
-    ensures unit { told.new.unit ≡ 0 }
+    ensures unit { told.new.scale.unit ≡ 0 }
+    ensures exact { told.new.scale.is_rounded ≡ 0 }
 {
     put_wide_marks(cut.rows.as_slice(), row_marks);
     put_wide_marks(cut.columns.as_slice(), column_marks);
     *told = McfDoublePlanned {
         used: 0,
         side: side_number(cut.side),
-        unit: 0,
+        scale: McfScale {
+            unit: 0,
+            is_rounded: 0,
+        },
     };
     BLOCKED
 }
 
 /// Judges a transport plan with prices for a matrix of doubles, whoever made them, exactly.
 ///
-/// The status is 0 if the prices show the plan least; 1 if they don't, a price isn't less than
-/// 2^125 from 0, or an array doesn't have the length of the rows or columns; 2 if the matrix has a
-/// fault; and 3 if memory runs out.
+/// The status is 0 if the prices show the plan least, for the entries or for the entries rounded
+/// down, as `scale` tells; 1 if they don't, a price isn't less than 2^125 from 0, or an array
+/// doesn't have the length of the rows or columns; 2 if the matrix has a fault; and 3 if memory
+/// runs out.
 #[unsafe(no_mangle)]
 pub extern "C" fn mcf_check_transport_doubles(
     alloc: Global,
@@ -181,12 +193,13 @@ pub extern "C" fn mcf_check_transport_doubles(
     plan: &[Shipment],
     row_prices: &[McfWide],
     column_prices: &[McfWide],
-    unit: u32,
+    scale: &McfScale,
 ) -> u32
     ensures statuses { result ≤ 3 }
     ensures exact { result ≤ 1 → (result ≡ 0) ↔ (AreSmallPrices (wide_values row_prices.now) × AreSmallPrices (wide_values column_prices.now)
-        × IsShownPlan (double_costs_of problem.now.matrix) problem.now.supplies.now problem.now.demands.now plan.now (in_units unit (wide_values row_prices.now)) (in_units unit (wide_values column_prices.now))) }
-    ensures least { result ≡ 0 → IsLeastPlan (double_costs_of problem.now.matrix) problem.now.supplies.now problem.now.demands.now plan.now }
+        × IsShownPlan (costs_by scale.now problem.now.matrix) problem.now.supplies.now problem.now.demands.now plan.now (in_units scale.now.unit (wide_values row_prices.now)) (in_units scale.now.unit (wide_values column_prices.now))) }
+    ensures least { result ≡ 0 → IsLeastPlan (costs_by scale.now problem.now.matrix) problem.now.supplies.now problem.now.demands.now plan.now }
+    ensures near { result ≡ 0 → IsNearlyLeastPlan (double_costs_of problem.now.matrix) problem.now.supplies.now problem.now.demands.now plan.now (plan_gap_by scale.now problem.now.matrix problem.now.supplies.now) }
     ensures within { result ≤ 1 → IsDoubleMatrix (doubles_of problem.now.matrix) }
     ensures fault { result ≡ 2 → ¬ IsDoubleMatrix (doubles_of problem.now.matrix) }
     ensures memory { result ≡ 3 → 1 ≤ length row_prices.now + length column_prices.now + problem.now.matrix.rows + problem.now.matrix.columns }
@@ -213,7 +226,8 @@ pub extern "C" fn mcf_check_transport_doubles(
     let prices = DoublePrices {
         rows: rows.as_slice(),
         columns: columns.as_slice(),
-        unit,
+        unit: scale.unit,
+        is_rounded: 0 < scale.is_rounded,
     };
     match judge_transport(alloc, &matrix, &masses, plan, &prices) {
         Ok(true) => ACCEPTED,

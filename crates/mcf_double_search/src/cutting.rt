@@ -99,7 +99,7 @@ fn shifted(bits: u64, grid: u32) -> i64 {
     }
 }
 
-/// Returns a finite entry in units of 2^unit: exactly, if 2^unit divides it and 128 bits fit it.
+/// Returns a finite entry in units of 2^unit, rounded down, if 128 bits fit it.
 #[inline(always)]
 pub(crate) fn exact(bits: u64, unit: u32) -> i128 {
     let Scaled { mantissa, shift } = Scaled::of(bits);

@@ -11,11 +11,13 @@ pub enum DoubleFoundPlan {
 }
 
 /// A transport plan that may be least, with prices of rows and columns that may show it, in units
-/// of 2^unit * 2^-1074. It has fewer entries than the matrix has rows and columns together.
+/// of 2^unit * 2^-1074. If `is_rounded`, they may show it for the entries rounded down to such
+/// units. It has fewer entries than the matrix has rows and columns together.
 #[derive(Drop)]
 pub struct DoublePlan {
     pub shipments: Vec<Shipment>,
     pub row_prices: Vec<i128>,
     pub column_prices: Vec<i128>,
     pub unit: u32,
+    pub is_rounded: bool,
 }

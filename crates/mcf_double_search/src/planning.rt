@@ -24,9 +24,10 @@ const MOST_STAGES: u32 = 8;
 /// to multiples of a power of 2, and finds a least plan of these whole costs. Then it takes the
 /// exact reduced costs, which are at least 0, and near 0 for the pairs that are used, rounds these
 /// down to multiples of a lower power, and improves the plan from its last basis, until no bits are
-/// left (iterative refinement). Returns `None` if the bits of finite entries span more than 118
-/// places, there isn't a supply for each row and a demand for each column, or a search gives up.
-/// The whole costs take 8 bytes for each entry, and 16 if pairs are forbidden.
+/// left (iterative refinement). If the bits of finite entries span more than 118 places, it takes
+/// the entries as rounded down to the highest 118. Returns `None` if there isn't a supply for each
+/// row and a demand for each column, or a search gives up. The whole costs take 8 bytes for each
+/// entry, and 16 if pairs are forbidden.
 ///
 /// # Errors
 ///
@@ -49,6 +50,7 @@ pub fn find_plan(
             row_prices: Vec::new(alloc),
             column_prices: Vec::new(alloc),
             unit: 0,
+            is_rounded: false,
         })));
     }
     find(alloc, matrix, masses)
@@ -77,16 +79,13 @@ fn find(
     }
 }
 
-// Refines a least plan of whole costs to one of the exact costs. Returns `None` if 128 bits don't
-// allow that.
+// Refines a least plan of whole costs to one of the exact costs. Returns `None` if a search gives
+// up.
 fn refine(
     alloc: Global,
     mut stage: Stage<'_>,
     mut plan: Plan,
 ) -> Result<Option<DoubleFoundPlan>, NoMemory> {
-    if !stage.is_narrow() {
-        return Ok(None);
-    }
     for _ in 0..MOST_STAGES {
         stage.add_prices(&plan);
         if stage.is_last() {

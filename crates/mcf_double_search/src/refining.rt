@@ -83,6 +83,7 @@ pub(crate) fn refine<'a>(
         row_prices: near.row_prices,
         column_prices: near.column_prices,
         unit: window.low,
+        is_rounded: window.is_cut,
     }))
 }
 

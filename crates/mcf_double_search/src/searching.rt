@@ -24,8 +24,9 @@ const MOST_LINES: usize = 1 << 30;
 /// finite entries span at most 49 places, it searches a matrix of exact whole costs. Otherwise it
 /// rounds entries to multiples of a power of 2, searches a least assignment of these, and
 /// refines it by shortest augmenting paths among the pairs whose exact reduced cost is near 0
-/// (Dijkstra 1959). Returns `None` if the bits span more than 118 places, or a search gives up. The
-/// whole costs take 8 bytes for each entry.
+/// (Dijkstra 1959). If the bits span more than 118 places, it searches the entries rounded down to
+/// the highest 118. Returns `None` if a search gives up. The whole costs take 8 bytes for each
+/// entry.
 ///
 /// # Errors
 ///
@@ -44,6 +45,7 @@ pub fn find_assignment(
             row_prices: Vec::new(alloc),
             column_prices: Vec::new(alloc),
             unit: 0,
+            is_rounded: false,
         })));
     }
     if rows > MOST_LINES || columns > MOST_LINES {
@@ -80,7 +82,7 @@ fn find(
 }
 
 // Returns an assignment of whole costs as one of the exact costs: refined, if these differ. Returns
-// `None` if 128 bits don't allow that.
+// `None` if a row can't be matched.
 fn made_exact(
     alloc: Global,
     lines: Lines<'_>,
@@ -90,9 +92,6 @@ fn made_exact(
 ) -> Result<Option<DoubleAssignment>, NoMemory> {
     if window.is_whole() {
         return Ok(Some(as_found(alloc, found, window)?));
-    }
-    if !window.is_narrow() {
-        return Ok(None);
     }
     refine(alloc, lines, window, found, costs)
 }
@@ -110,5 +109,6 @@ fn as_found(
         row_prices,
         column_prices,
         unit: window.low,
+        is_rounded: window.is_cut,
     })
 }

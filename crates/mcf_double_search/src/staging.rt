@@ -29,7 +29,7 @@ pub(crate) struct Stage<'a> {
     row_prices: Vec<i128>,
     column_prices: Vec<i128>,
     low: u32,
-    is_narrow: bool,
+    is_rounded: bool,
 }
 
 // Returns the number of bits of a number.
@@ -60,13 +60,8 @@ impl<'a> Stage<'a> {
             row_prices: copies(alloc, matrix.rows(), 0i128)?,
             column_prices: copies(alloc, matrix.columns(), 0i128)?,
             low: window.low,
-            is_narrow: window.is_narrow(),
+            is_rounded: window.is_cut,
         })
-    }
-
-    /// Returns whether 128 bits fit sums of exact prices.
-    pub(crate) fn is_narrow(&self) -> bool {
-        self.is_narrow
     }
 
     /// Returns whether the whole costs are exact.
@@ -132,6 +127,7 @@ impl<'a> Stage<'a> {
             row_prices,
             column_prices,
             low,
+            is_rounded,
             ..
         } = self;
         let Plan { mut shipments, .. } = plan;
@@ -142,6 +138,7 @@ impl<'a> Stage<'a> {
             row_prices,
             column_prices,
             unit: low,
+            is_rounded,
         }
     }
 }

@@ -35,5 +35,6 @@ fn turn_assignment(alloc: Global, turned: DoubleAssignment) -> Result<DoubleAssi
         row_prices: turned.column_prices,
         column_prices: turned.row_prices,
         unit: turned.unit,
+        is_rounded: turned.is_rounded,
     })
 }

@@ -11,11 +11,14 @@ const EXACT_BITS: u32 = 118;
 // All bits of a double but its sign: as numbers, sizes are in the order of their values.
 const SIZE_BITS: u64 = (1 << 63) - 1;
 
-/// The exponents of 2 from a bit below which no finite entry has one to above the highest.
+/// The exponents of 2 from a bit below which no finite entry has one to above the highest, or the
+/// highest 118 of these. If it `is_cut`, there are entries with lower bits, and the search takes
+/// all entries as rounded down.
 #[derive(Clone, Copy)]
 pub(crate) struct Window {
     pub(crate) low: u32,
     pub(crate) top: u32,
+    pub(crate) is_cut: bool,
 }
 
 // The least size of the finite entries other than 0, less 1, and the greatest size.
@@ -28,14 +31,27 @@ struct Sizes {
 impl Window {
     /// Returns a window of a matrix. Its low end is the lowest set bit of all entries if these may
     /// be whole costs without rounding, or if it has to be; finding it takes longer than finding
-    /// the last place of the least entry, which is the low end otherwise.
+    /// the last place of the least entry, which is the low end otherwise. A window is cut if it has
+    /// more bits than the refinement's sums of prices allow.
     pub(crate) fn of(matrix: &DoubleMatrix<'_>) -> Window {
         let window = Sizes::of(matrix).window();
         let first_row = Window::exact(matrix, matrix.rows().min(1));
         if first_row.is_whole() || !window.is_narrow() {
-            return Window::exact(matrix, matrix.rows());
+            return Window::exact(matrix, matrix.rows()).cut();
         }
         window
+    }
+
+    // Returns the window without the bits that are too low for the refinement.
+    fn cut(self) -> Window {
+        if self.is_narrow() {
+            return self;
+        }
+        Window {
+            low: self.top.wrapping_sub(EXACT_BITS),
+            top: self.top,
+            is_cut: true,
+        }
     }
 
     // Returns the window of so many rows, from the lowest set bit on.
@@ -43,6 +59,7 @@ impl Window {
         let mut window = Window {
             low: u32::MAX,
             top: 0,
+            is_cut: false,
         };
         'rows: for row in 0..rows.min(matrix.rows()) {
             window.widen(matrix.row(row));
@@ -75,7 +92,7 @@ impl Window {
             .max(shift.wrapping_add(64).wrapping_sub(size.leading_zeros()));
     }
 
-    /// Returns the exponent of the power of 2 to whose multiples entries are rounded down.
+    /// Returns the exponent of the power of 2 to whose multiples entries are rounded at first.
     pub(crate) fn grid(self) -> u32 {
         self.low.max(self.top.saturating_sub(WHOLE_BITS))
     }
@@ -85,8 +102,8 @@ impl Window {
         self.grid() <= self.low
     }
 
-    /// Returns whether the refinement's sums of prices fit 128 bits.
-    pub(crate) fn is_narrow(self) -> bool {
+    // Returns whether the refinement's sums of prices fit 128 bits.
+    fn is_narrow(self) -> bool {
         self.top.wrapping_sub(self.low) <= EXACT_BITS
     }
 }
@@ -121,11 +138,16 @@ impl Sizes {
     // Returns the window from the last place of the least size to above the greatest.
     fn window(self) -> Window {
         if self.greatest == 0 {
-            return Window { low: 0, top: 0 };
+            return Window {
+                low: 0,
+                top: 0,
+                is_cut: false,
+            };
         }
         Window {
             low: Scaled::of(self.least_less_one.wrapping_add(1) & SIZE_BITS).shift,
             top: Scaled::of(self.greatest).shift.wrapping_add(53),
+            is_cut: false,
         }
     }
 }

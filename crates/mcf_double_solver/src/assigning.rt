@@ -1,7 +1,7 @@
 //! Least assignments of doubles: a search finds them, and a judge checks them.
 ghost use Rattle.std.specs.Prelude.{◌≤◌, ◌+◌, IfOk, OnErr};
 ghost use Rattle.mcf_matrix_doubles.specs.DoubleTables.{double_costs};
-ghost use Rattle.mcf_double_solver.specs.DoubleAnswers.{IsRightAnswer, IsShownAnswer};
+ghost use Rattle.mcf_double_solver.specs.DoubleAnswers.{IsNearAnswer, IsRightAnswer, IsShownAnswer};
 
 use mcf_double_search::{Cover, DoubleAssignment, DoubleFound, find_assignment};
 use mcf_matrix_doubles::{DoubleMatrix, DoublePrices, judge_assignment, judge_cover};
@@ -11,7 +11,7 @@ use std::alloc::Global;
 /// The answer for a cost matrix of doubles.
 #[derive(Drop)]
 pub enum DoubleAssigned {
-    /// A least matching, with prices that show it.
+    /// A least matching, with prices that show it: of the costs, or of the costs rounded down.
     Least(DoubleAssignment),
     /// A cover: rows and columns that contain all allowed pairs and are fewer than the smaller side
     /// has. So there is no matching of that size.
@@ -24,9 +24,12 @@ pub enum DoubleAssigned {
 /// cover that shows that there is none. Costs are exact: a finite double is the number that its
 /// bits stand for, and +infinity forbids its pair.
 ///
+/// If the bits of finite entries span more than 118 places, the answer may be a least assignment of
+/// the costs rounded down to multiples of a power of 2: then `is_rounded` tells so, and no
+/// assignment costs less by as much as one unit of the prices a pair.
+///
 /// The answer is proved right, since a judge checks it. No proof says that the search finds one:
-/// `NotShown` means that it gave up, for example because the bits of finite entries span more than
-/// 118 places, or that the judge refused its result.
+/// `NotShown` means that it gave up, or that the judge refused its result.
 ///
 /// # Errors
 ///
@@ -34,6 +37,7 @@ pub enum DoubleAssigned {
 pub fn assign(alloc: Global, matrix: &DoubleMatrix<'_>) -> Result<DoubleAssigned, NoMemory>
     ensures shown { IfOk result (IsShownAnswer (double_costs matrix.now)) }
     ensures right { IfOk result (IsRightAnswer (double_costs matrix.now)) }
+    ensures near { IfOk result (IsNearAnswer (double_costs matrix.now)) }
     ensures wants { OnErr result (1 ≤ matrix.now.rows + matrix.now.columns) }
 {
     match find_assignment(alloc, matrix)? {
@@ -51,12 +55,14 @@ fn judged(
 ) -> Result<DoubleAssigned, NoMemory>
     ensures shown { IfOk result (IsShownAnswer (double_costs matrix.now)) }
     ensures right { IfOk result (IsRightAnswer (double_costs matrix.now)) }
+    ensures near { IfOk result (IsNearAnswer (double_costs matrix.now)) }
     ensures wants { OnErr result (1 ≤ matrix.now.rows + matrix.now.columns) }
 {
     let prices = DoublePrices {
         rows: found.row_prices.as_slice(),
         columns: found.column_prices.as_slice(),
         unit: found.unit,
+        is_rounded: found.is_rounded,
     };
     let is_shown = judge_assignment(alloc, matrix, found.column_of.as_slice(), &prices)?;
     if is_shown {
@@ -69,6 +75,7 @@ fn judged(
 fn judged_cover(matrix: &DoubleMatrix<'_>, cover: Cover) -> DoubleAssigned
     ensures shown { IsShownAnswer (double_costs matrix.now) result }
     ensures right { IsRightAnswer (double_costs matrix.now) result }
+    ensures near { IsNearAnswer (double_costs matrix.now) result }
 {
     if judge_cover(matrix, cover.rows.as_slice(), cover.columns.as_slice()) {
         return DoubleAssigned::Infeasible(cover);

@@ -1,7 +1,7 @@
 //! Least transport plans of doubles: a search finds them, and a judge checks them.
 ghost use Rattle.std.specs.Prelude.{◌≤◌, ◌+◌, IfOk, OnErr};
 ghost use Rattle.mcf_matrix_doubles.specs.DoubleTables.{double_costs};
-ghost use Rattle.mcf_double_solver.specs.DoublePlanAnswers.{IsRightPlanAnswer, IsShownPlanAnswer};
+ghost use Rattle.mcf_double_solver.specs.DoublePlanAnswers.{IsNearPlanAnswer, IsRightPlanAnswer, IsShownPlanAnswer};
 
 use mcf_double_search::{Cut, DoubleFoundPlan, DoublePlan, find_plan};
 use mcf_matrix::Masses;
@@ -12,7 +12,8 @@ use std::alloc::Global;
 /// The answer for a cost matrix of doubles with supplies and demands.
 #[derive(Drop)]
 pub enum DoublePlanned {
-    /// A least transport plan, with prices that show it.
+    /// A least transport plan, with prices that show it: for the costs, or for the costs rounded
+    /// down.
     Least(DoublePlan),
     /// A cut: rows and columns that must send, or take, more than they can. So there is no plan.
     Infeasible(Cut),
@@ -24,11 +25,14 @@ pub enum DoublePlanned {
 /// shows that there is none. Costs are exact: a finite double is the number that its bits stand
 /// for, and +infinity forbids its pair.
 ///
+/// If the bits of finite entries span more than 118 places, the answer may be a least plan for the
+/// costs rounded down to multiples of a power of 2: then `is_rounded` tells so, and no plan costs
+/// less by as much as one unit of the prices times the total supply, if that isn't 0.
+///
 /// The answer is proved right, since a judge checks it. No proof says that the search finds one:
-/// `NotShown` means that it gave up, for example because the bits of finite entries span more than
-/// 118 places, that the judge refused its result, or that there isn't one supply for each row and
-/// one demand for each column. The amounts of a plan are at least 0, so no plan exists if a supply
-/// or a demand is below 0: the answer is then a cut or `NotShown`.
+/// `NotShown` means that it gave up, that the judge refused its result, or that there isn't one
+/// supply for each row and one demand for each column. The amounts of a plan are at least 0, so no
+/// plan exists if a supply or a demand is below 0: the answer is then a cut or `NotShown`.
 ///
 /// # Errors
 ///
@@ -40,6 +44,7 @@ pub fn plan(
 ) -> Result<DoublePlanned, NoMemory>
     ensures shown { IfOk result (IsShownPlanAnswer (double_costs matrix.now) masses.now.supplies.now masses.now.demands.now) }
     ensures right { IfOk result (IsRightPlanAnswer (double_costs matrix.now) masses.now.supplies.now masses.now.demands.now) }
+    ensures near { IfOk result (IsNearPlanAnswer (double_costs matrix.now) masses.now.supplies.now masses.now.demands.now) }
     ensures wants { OnErr result (1 ≤ matrix.now.rows + matrix.now.columns) }
 {
     match find_plan(alloc, matrix, masses)? {
@@ -58,12 +63,14 @@ fn judged(
 ) -> Result<DoublePlanned, NoMemory>
     ensures shown { IfOk result (IsShownPlanAnswer (double_costs matrix.now) masses.now.supplies.now masses.now.demands.now) }
     ensures right { IfOk result (IsRightPlanAnswer (double_costs matrix.now) masses.now.supplies.now masses.now.demands.now) }
+    ensures near { IfOk result (IsNearPlanAnswer (double_costs matrix.now) masses.now.supplies.now masses.now.demands.now) }
     ensures wants { OnErr result (1 ≤ matrix.now.rows + matrix.now.columns) }
 {
     let prices = DoublePrices {
         rows: found.row_prices.as_slice(),
         columns: found.column_prices.as_slice(),
         unit: found.unit,
+        is_rounded: found.is_rounded,
     };
     let is_shown = judge_transport(alloc, matrix, masses, found.shipments.as_slice(), &prices)?;
     if is_shown {
@@ -76,6 +83,7 @@ fn judged(
 fn judged_cut(matrix: &DoubleMatrix<'_>, masses: &Masses<'_>, cut: Cut) -> DoublePlanned
     ensures shown { IsShownPlanAnswer (double_costs matrix.now) masses.now.supplies.now masses.now.demands.now result }
     ensures right { IsRightPlanAnswer (double_costs matrix.now) masses.now.supplies.now masses.now.demands.now result }
+    ensures near { IsNearPlanAnswer (double_costs matrix.now) masses.now.supplies.now masses.now.demands.now result }
 {
     let (rows, columns) = (cut.rows.as_slice(), cut.columns.as_slice());
     if judge_transport_cut(matrix, masses, rows, columns, cut.side) {

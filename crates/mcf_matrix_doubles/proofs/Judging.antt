@@ -1,5 +1,5 @@
 -- Entries and prices of doubles, as the judge of assignments asks for them.
-use Rattle.std.proofs.Common.{◌≡◌, ℕ, ◌^◌, ◌<◌, Bool, IsTrue, ◌↔◌, IfSome, IsSome, IsSomeAnd, Option, Some, None, List, ap, sym, ◌∙◌, subst, refl, arith, ℤ, pos, ◌+ℤ◌, ◌-ℤ◌, ◌≤ℤ◌}
+use Rattle.std.proofs.Common.{◌≡◌, ℕ, ◌^◌, ◌<◌, Bool, true, IsTrue, ◌↔◌, IfSome, IsSome, IsSomeAnd, Option, Some, None, List, ap, sym, ◌∙◌, subst, refl, arith, ℤ, pos, ◌+ℤ◌, ◌-ℤ◌, ◌≤ℤ◌}
 use Rattle.std.proofs.Math.IntN.{◌*ℤ◌}
 use Rattle.std.proofs.lemmas.Int.{ints}
 use Rattle.mcf_flows.proofs.IntLaws.{add-mul, sub-mul, zero-mul}
@@ -10,6 +10,7 @@ use Rattle.mcf_matrix_doubles.specs.declared.double.TheConstants.{INFINITY}
 use Rattle.mcf_matrix_doubles.specs.DoublePrices.{RowIsCovered, in_units}
 use Rattle.mcf_matrix_doubles.specs.DoubleTables.{DoubleTable, IsShaped, double_costs}
 use Rattle.mcf_matrix_doubles.specs.Doubles.{double_cost, value_of}
+use Rattle.mcf_matrix_doubles.specs.Rounding.{cost_read, rounded_down}
 use Rattle.mcf_matrix_doubles.proofs.BitRows.{row_at, row_length, row_of}
 use Rattle.mcf_matrix_doubles.proofs.Covering.{cost_is, price_at, reduced_is}
 use Rattle.mcf_matrix_doubles.proofs.Powers.{power_above_zero, scale_back, scale_up}
@@ -26,6 +27,21 @@ pub entry_exact : (bits unit shift : ℕ) (a b m : ℤ) (r : Bool) → (bits ≡
     → IsTrue r ↔ IsSomeAnd (double_cost bits) (λ c. c -ℤ a *ℤ pos (2 ^ unit) -ℤ b *ℤ pos (2 ^ unit) ≡ pos 0)
 entry_exact bits unit shift a b m r other value i =
     exact_core (double_cost bits) (value_of bits) a b (pos (2 ^ unit)) (m *ℤ pos (2 ^ shift)) r (cost_is bits other) value i
+
+-- the same of an entry rounded down
+pub entry_rounded : (bits unit shift : ℕ) (a b m : ℤ) (r : Bool) → (bits ≡ INFINITY → ⊥) → m *ℤ pos (2 ^ shift) ≡ value_of bits
+    → IsTrue r ↔ (rounded_down unit (m *ℤ pos (2 ^ shift)) ≡ (a +ℤ b) *ℤ pos (2 ^ unit))
+    → IsTrue r ↔ IsSomeAnd (cost_read unit true (double_cost bits)) (λ c. c -ℤ a *ℤ pos (2 ^ unit) -ℤ b *ℤ pos (2 ^ unit) ≡ pos 0)
+entry_rounded bits unit shift a b m r other value i =
+    exact_core (cost_read unit true (double_cost bits)) (rounded_down unit (value_of bits)) a b (pos (2 ^ unit)) (rounded_down unit (m *ℤ pos (2 ^ shift))) r
+    (ap (cost_read unit true) (cost_is bits other)) (ap (rounded_down unit) value) i
+
+-- an entry that is read as a flag says
+pub entry_read : (bits unit : ℕ) (a b : ℤ) (flag is_rounded r : Bool) → is_rounded ≡ flag
+    → IsTrue r ↔ IsSomeAnd (cost_read unit flag (double_cost bits)) (λ c. c -ℤ a *ℤ pos (2 ^ unit) -ℤ b *ℤ pos (2 ^ unit) ≡ pos 0)
+    → IsTrue r ↔ IsSomeAnd (cost_read unit is_rounded (double_cost bits)) (λ c. c -ℤ a *ℤ pos (2 ^ unit) -ℤ b *ℤ pos (2 ^ unit) ≡ pos 0)
+entry_read bits unit a b flag is_rounded r e i =
+    subst (λ f. IsTrue r ↔ IsSomeAnd (cost_read unit f (double_cost bits)) (λ c. c -ℤ a *ℤ pos (2 ^ unit) -ℤ b *ℤ pos (2 ^ unit) ≡ pos 0)) (sym e) i
 
 pub to_pair : (o : Option ℤ) (unit : ℕ) (u v : List ℤ) (i j : ℕ)
     → IsSomeAnd o (λ c. c -ℤ at_place u i *ℤ pos (2 ^ unit) -ℤ at_place v j *ℤ pos (2 ^ unit) ≡ pos 0)

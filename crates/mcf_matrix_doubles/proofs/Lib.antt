@@ -3,3 +3,5 @@ pub mod Covering
 pub mod Judging
 pub mod Order
 pub mod Powers
+pub mod Rounding
+pub mod RoundingGaps

@@ -9,3 +9,4 @@ pub use Rattle.mcf_matrix.specs.Plans
 pub mod DoublePrices
 pub mod DoubleTables
 pub mod Doubles
+pub mod Rounding

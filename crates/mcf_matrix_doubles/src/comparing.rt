@@ -1,6 +1,7 @@
 //! A whole number of units compared with a sum of prices, exactly.
 ghost use Rattle.std.specs.Prelude.{◌≡◌, ◌-◌, ◌<◌, ◌≤◌, ◌^◌, ◌*ℤ◌, ◌≤ℤ◌, ◌↔◌, pos, IsTrue, unsigned_abs};
 ghost use Rattle.mcf_flows.specs.WellFormed.{IsUpTo};
+ghost use Rattle.mcf_matrix_doubles.specs.Rounding.{rounded_down};
 
 use crate::double::Scaled;
 
@@ -48,6 +49,18 @@ impl Scaled {
         ensures { IsTrue result ↔ (self.mantissa *ℤ pos (2 ^ self.shift) ≡ sum *ℤ pos (2 ^ unit)) }
     {
         self.is_at_least(sum, unit) && self.is_at_most(sum, unit)
+    }
+
+    /// Whether a sum of prices, in units of 2^unit, is the number rounded down to such units.
+    pub(crate) fn is_rounded(self, sum: i128, unit: u32) -> bool
+        requires sum { IsUpTo (2 ^ 126 - 2) sum }
+        requires mantissa { IsUpTo (2 ^ 53 - 1) self.mantissa }
+        requires normal { 0 < self.shift → 2 ^ 52 ≤ unsigned_abs self.mantissa }
+        ensures { IsTrue result ↔ (rounded_down unit (self.mantissa *ℤ pos (2 ^ self.shift)) ≡ sum *ℤ pos (2 ^ unit)) }
+    {
+        let reaches = self.is_at_least(sum, unit);
+        let reaches_more = self.is_at_least(sum + 1, unit);
+        reaches && !reaches_more
     }
 }
 

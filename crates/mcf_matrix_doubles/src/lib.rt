@@ -5,7 +5,8 @@
 //! It stands on `mcf_matrix`. A finite double is the whole number of units of 2^-1074 that its bits
 //! stand for, -0.0 is 0, and +infinity forbids a pair. Definitions stand in `specs/`: `Doubles`
 //! says what bits stand for, `DoubleTables` which costs a list of them states, `DoublePrices` which
-//! whole numbers prices of one power of 2 are.
+//! whole numbers prices of one power of 2 are, `Rounding` what costs are that are rounded down to
+//! multiples of such a power, and how far from the least that may lead.
 
 mod assignment;
 mod comparing;

@@ -10,10 +10,12 @@ use std::test::Fail;
 // Stands for no column.
 const NO: u32 = u32::MAX;
 
-// What is answered for a matrix: a matching, a cover, or nothing.
+// What is answered for a matrix: a matching, of the entries or of rounded ones, a cover, or
+// nothing.
 #[derive(Clone, Copy, PartialEq, Eq)]
 enum Kind {
     Least,
+    Rounded,
     Infeasible,
     NotShown,
 }
@@ -132,8 +134,8 @@ static WORKED: [Worked; 9] = [
             0x3FF0_0000_0000_0000,
             0x0000_0000_0000_0001,
         ],
-        Kind::NotShown,
-        &[],
+        Kind::Rounded,
+        &[0, 1],
     ),
     // Subnormals.
     (
@@ -154,7 +156,12 @@ static WORKED: [Worked; 9] = [
 fn agrees(answer: &DoubleAssigned, kind: Kind, columns_of: &[u32]) -> bool {
     match answer {
         DoubleAssigned::Least(found) => {
-            kind == Kind::Least && found.column_of.as_slice() == columns_of
+            let shown = if found.is_rounded {
+                Kind::Rounded
+            } else {
+                Kind::Least
+            };
+            kind == shown && found.column_of.as_slice() == columns_of
         }
         DoubleAssigned::Infeasible(_) => kind == Kind::Infeasible,
         DoubleAssigned::NotShown => kind == Kind::NotShown,

@@ -27,6 +27,7 @@ const GREAT: u64 = 0x4341_C379_37E0_8000;
 #[derive(Clone, Copy, PartialEq, Eq)]
 enum Kind {
     Least,
+    Rounded,
     Infeasible,
     NotShown,
 }
@@ -151,7 +152,24 @@ static WORKED: [Worked; 8] = [
     // Masses of another length.
     (&[TENTH, ONE, ONE, ONE], &[3, 4], &[7], Kind::NotShown, &[]),
     // Bits too far apart.
-    (&[1, ONE, ONE, 1], &[1, 1], &[1, 1], Kind::NotShown, &[]),
+    (
+        &[1, ONE, ONE, 1],
+        &[1, 1],
+        &[1, 1],
+        Kind::Rounded,
+        &[
+            Shipment {
+                row: 0,
+                column: 0,
+                amount: 1,
+            },
+            Shipment {
+                row: 1,
+                column: 1,
+                amount: 1,
+            },
+        ],
+    ),
 ];
 
 // Whether each of some entries is among others, which are as many.
@@ -169,7 +187,12 @@ fn are_same(plan: &[Shipment], other: &[Shipment]) -> bool {
 fn agrees(answer: &DoublePlanned, kind: Kind, entries: &[Shipment]) -> bool {
     match answer {
         DoublePlanned::Least(found) => {
-            kind == Kind::Least && are_same(found.shipments.as_slice(), entries)
+            let shown = if found.is_rounded {
+                Kind::Rounded
+            } else {
+                Kind::Least
+            };
+            kind == shown && are_same(found.shipments.as_slice(), entries)
         }
         DoublePlanned::Infeasible(_) => kind == Kind::Infeasible,
         DoublePlanned::NotShown => kind == Kind::NotShown,
@@ -330,6 +353,7 @@ fn is_shown(alloc: Global, judged: &Judged) -> Result<bool, NoMemory> {
         rows,
         columns,
         unit: 1022,
+        is_rounded: false,
     };
     judge_transport(alloc, &matrix, &masses, entries, &prices)
 }

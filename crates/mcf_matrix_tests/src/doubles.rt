@@ -172,6 +172,7 @@ fn is_shown(
         rows,
         columns,
         unit: 1073,
+        is_rounded: false,
     };
     judge_assignment(alloc, &matrix, columns_of, &prices)
 }
@@ -180,6 +181,47 @@ fn is_shown(
 fn assignments_are_judged(rt: HostRuntime) -> Result<(), Fail> {
     for (columns_of, rows, columns, expected) in &JUDGED {
         let holds = is_shown(rt.alloc(), columns_of, rows, columns)?;
+        assert!(rt; holds == *expected);
+    }
+    Ok(())
+}
+
+// The only entry of a matrix, the price of its row in units of 1, whether the entry is rounded down
+// to these, and whether the price shows the matching least.
+static ROUNDED: [(u64, i128, bool, bool); 6] = [
+    (0x3FF8_0000_0000_0000, 1, true, true),
+    (0x3FF8_0000_0000_0000, 1, false, false),
+    (0x3FF8_0000_0000_0000, 2, true, false),
+    (0x3FF8_0000_0000_0000, 0, true, false),
+    (0xBFF8_0000_0000_0000, -2, true, true),
+    (0xBFF8_0000_0000_0000, -1, true, false),
+];
+
+// Whether the price shows the matching of the only entry least.
+fn is_shown_alone(
+    alloc: Global,
+    bits: u64,
+    price: i128,
+    is_rounded: bool,
+) -> Result<bool, NoMemory> {
+    let entries = [bits];
+    let rows = [price];
+    let Ok(matrix) = DoubleMatrix::of(&entries, 1, 1, 1) else {
+        return Ok(false);
+    };
+    let prices = DoublePrices {
+        rows: &rows,
+        columns: &[0],
+        unit: 1074,
+        is_rounded,
+    };
+    judge_assignment(alloc, &matrix, &[0], &prices)
+}
+
+#[test]
+fn rounded_assignments_are_judged(rt: HostRuntime) -> Result<(), Fail> {
+    for (bits, price, is_rounded, expected) in &ROUNDED {
+        let holds = is_shown_alone(rt.alloc(), *bits, *price, *is_rounded)?;
         assert!(rt; holds == *expected);
     }
     Ok(())

@@ -72,8 +72,10 @@ pub enum Planned {
 #[derive(Clone, Debug, PartialEq, Eq)]
 pub enum AssignedDoubles {
     /// The column of each row that has one, and prices of rows and columns, in units of
-    /// 2^(unit - 1074), which show that the exact sum is least.
-    Least { column_of: Vec<Option<usize>>, row_prices: Vec<i128>, column_prices: Vec<i128>, unit: u32 },
+    /// 2^(unit - 1074), which show that the exact sum is least. If `is_rounded`, which comes only if
+    /// the bits of finite costs span more than 118, they show that of the costs rounded down to
+    /// units: the exact sum is then above the least by less than one unit a pair.
+    Least { column_of: Vec<Option<usize>>, row_prices: Vec<i128>, column_prices: Vec<i128>, unit: u32, is_rounded: bool },
     /// Rows and columns that cover all allowed pairs and are fewer than the smaller side has.
     Infeasible { rows: Vec<usize>, columns: Vec<usize> },
     /// The number of costs isn't rows times columns, or a cost is a NaN or -infinity.
@@ -84,8 +86,9 @@ pub enum AssignedDoubles {
 #[derive(Clone, Debug, PartialEq, Eq)]
 pub enum PlannedDoubles {
     /// What goes from which row to which column, and prices of rows and columns, in units of
-    /// 2^(unit - 1074), which show that the exact sum is least.
-    Least { plan: Vec<Shipment>, row_prices: Vec<i128>, column_prices: Vec<i128>, unit: u32 },
+    /// 2^(unit - 1074), which show that the exact sum is least. If `is_rounded`, as for assignments,
+    /// it is above the least by less than one unit times the total supply, if that isn't 0.
+    Least { plan: Vec<Shipment>, row_prices: Vec<i128>, column_prices: Vec<i128>, unit: u32, is_rounded: bool },
     /// Rows that supply more than the columns demand that they may send to; or, by `Take`, columns
     /// that demand more than the rows supply that may send to them.
     Infeasible { side: Side, rows: Vec<usize>, columns: Vec<usize> },
@@ -178,14 +181,15 @@ pub fn transport(costs: &[i64], supplies: &[i64], demands: &[i64]) -> Result<Pla
 /// The least-cost assignment of a matrix of doubles that is stored row by row, exactly. Rows and
 /// columns count from 0, and `f64::INFINITY` forbids a pair.
 pub fn assign_doubles(costs: &[f64], rows: usize, columns: usize) -> Result<AssignedDoubles, Error> {
-    let (mut column_of, mut unit) = (vec![0; rows], 0);
+    let (mut column_of, mut scale) = (vec![0; rows], raw::Scale::default());
     let (mut row_prices, mut column_prices) = (vec![raw::Wide::default(); rows], vec![raw::Wide::default(); columns]);
-    let status = raw::assign_doubles(costs, (rows, columns), &mut column_of, &mut row_prices, &mut column_prices, &mut unit);
+    let status = raw::assign_doubles(costs, (rows, columns), &mut column_of, &mut row_prices, &mut column_prices, &mut scale);
     match status {
         0 => {
             let column_of = column_of.iter().map(|j| Some(*j as usize).filter(|j| *j < columns)).collect();
             let (row_prices, column_prices) = (numbers(&row_prices), numbers(&column_prices));
-            Ok(AssignedDoubles::Least { column_of, row_prices, column_prices, unit })
+            let (unit, is_rounded) = (scale.unit, scale.is_rounded != 0);
+            Ok(AssignedDoubles::Least { column_of, row_prices, column_prices, unit, is_rounded })
         }
         1 => Ok(AssignedDoubles::Infeasible { rows: widely_marked(&row_prices), columns: widely_marked(&column_prices) }),
         raw::INVALID_INPUT => Ok(AssignedDoubles::Refused),
@@ -205,7 +209,8 @@ pub fn transport_doubles(costs: &[f64], supplies: &[i64], demands: &[i64]) -> Re
         0 => {
             plan.truncate(told.used);
             let (row_prices, column_prices) = (numbers(&row_prices), numbers(&column_prices));
-            Ok(PlannedDoubles::Least { plan, row_prices, column_prices, unit: told.unit })
+            let (unit, is_rounded) = (told.scale.unit, told.scale.is_rounded != 0);
+            Ok(PlannedDoubles::Least { plan, row_prices, column_prices, unit, is_rounded })
         }
         1 => {
             let (rows, columns) = (widely_marked(&row_prices), widely_marked(&column_prices));

@@ -124,6 +124,14 @@ pub struct Planned {
     pub side: u32,
 }
 
+/// The scale of prices, as `mcf.h` has it.
+#[repr(C)]
+#[derive(Clone, Copy, Debug, Default)]
+pub struct Scale {
+    pub unit: u32,
+    pub is_rounded: u32,
+}
+
 /// A matrix of doubles, as `mcf.h` has it.
 #[repr(C)]
 struct Doubles {
@@ -149,7 +157,7 @@ struct TransportDoubles {
 pub struct PlannedDoubles {
     pub used: usize,
     pub side: u32,
-    pub unit: u32,
+    pub scale: Scale,
 }
 
 /// A whole number in two words.
@@ -168,7 +176,7 @@ impl Wide {
 
 mod exports {
     use super::{
-        Assignment, Choice, Doubles, FlowProblem, Matrix, Planned, PlannedDoubles, Shipment, Told, Transport, TransportDoubles, Wide,
+        Assignment, Choice, Doubles, FlowProblem, Matrix, Planned, PlannedDoubles, Scale, Shipment, Told, Transport, TransportDoubles, Wide,
     };
 
     #[rustfmt::skip]
@@ -186,7 +194,7 @@ mod exports {
         pub fn mcf_transport_matrix(problem: *const Transport, plan: *mut Shipment, plan_length: usize,
             row_prices: *mut i64, row_prices_length: usize, column_prices: *mut i64, column_prices_length: usize, told: *mut Planned) -> u32;
         pub fn mcf_assign_doubles(matrix: *const Doubles, column_of: *mut u32, column_of_length: usize,
-            row_prices: *mut Wide, row_prices_length: usize, column_prices: *mut Wide, column_prices_length: usize, unit: *mut u32) -> u32;
+            row_prices: *mut Wide, row_prices_length: usize, column_prices: *mut Wide, column_prices_length: usize, scale: *mut Scale) -> u32;
         pub fn mcf_transport_doubles(problem: *const TransportDoubles, plan: *mut Shipment, plan_length: usize,
             row_prices: *mut Wide, row_prices_length: usize, column_prices: *mut Wide, column_prices_length: usize, told: *mut PlannedDoubles) -> u32;
     }
@@ -244,12 +252,12 @@ pub fn transport(costs: &[i64], masses: (&[i64], &[i64]), plan: &mut [Shipment],
 }
 
 pub fn assign_doubles(
-    costs: &[f64], sides: (usize, usize), column_of: &mut [u32], row_prices: &mut [Wide], column_prices: &mut [Wide], unit: &mut u32,
+    costs: &[f64], sides: (usize, usize), column_of: &mut [u32], row_prices: &mut [Wide], column_prices: &mut [Wide], scale: &mut Scale,
 ) -> u32 {
     let matrix = Doubles { costs: costs.as_ptr(), length: costs.len(), rows: sides.0, columns: sides.1, stride: sides.1 };
     unsafe {
         exports::mcf_assign_doubles(&matrix, column_of.as_mut_ptr(), column_of.len(),
-            row_prices.as_mut_ptr(), row_prices.len(), column_prices.as_mut_ptr(), column_prices.len(), unit)
+            row_prices.as_mut_ptr(), row_prices.len(), column_prices.as_mut_ptr(), column_prices.len(), scale)
     }
 }
 

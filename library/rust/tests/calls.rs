@@ -57,6 +57,8 @@ fn doubles() {
     let none = assign_doubles(&[f64::INFINITY, 1.0, f64::INFINITY, 1.0], 2, 2);
     assert_eq!(none, Ok(AssignedDoubles::Infeasible { rows: vec![], columns: vec![1] }));
     assert_eq!(assign_doubles(&[f64::NAN], 1, 1), Ok(AssignedDoubles::Refused));
+    let far = assign_doubles(&[1.0, 1e-300], 1, 2);
+    assert!(matches!(far, Ok(AssignedDoubles::Least { column_of, is_rounded: true, .. }) if column_of == [Some(1)]));
 }
 
 #[test]
