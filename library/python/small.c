@@ -47,8 +47,23 @@ static int has_numpy(void) {
     return intp != NULL;
 }
 
-/* Copies a matrix of 8-byte numbers, with other signs if `negate`. Returns 0 if one is the whole
-   number that would forbid its pair in the library, where it is none. */
+/* The bits of a number of 8 bytes, or of the double that a float of 4 bytes is. */
+static uint64_t bits_at(const char *from, Py_ssize_t size) {
+    uint64_t bits;
+    double wide;
+    float narrow;
+    if (size == 8) {
+        memcpy(&bits, from, 8);
+    } else {
+        memcpy(&narrow, from, 4);
+        wide = narrow;
+        memcpy(&bits, &wide, 8);
+    }
+    return bits;
+}
+
+/* Copies a matrix, with other signs if `negate`. Returns 0 if one is the whole number that would
+   forbid its pair in the library, where it is none. */
 static int copy(const Py_buffer *table, int is_real, int negate, union entries *to) {
     const uint64_t sign = (uint64_t)1 << 63;
     size_t place = 0;
@@ -56,8 +71,7 @@ static int copy(const Py_buffer *table, int is_real, int negate, union entries *
     for (i = 0; i < table->shape[0]; i++) {
         const char *from = (const char *)table->buf + i * table->strides[0];
         for (j = 0; j < table->shape[1]; j++, from += table->strides[1], place++) {
-            uint64_t bits;
-            memcpy(&bits, from, 8);
+            uint64_t bits = bits_at(from, table->itemsize);
             if (negate) bits = is_real ? bits ^ sign : 0 - bits;
             if (!is_real && bits == sign - 1) return 0;
             to->bits[place] = bits;
@@ -122,11 +136,12 @@ static PyObject *pairs(const uint32_t *column_of, size_t rows, size_t columns) {
     return both;
 }
 
-/* Whether a buffer is a small matrix, and whether it is one of doubles. */
+/* Whether a buffer is a small matrix, and whether it is one of floats. */
 static int is_small(const Py_buffer *table, int *is_real) {
     const char *format = table->format ? table->format : "";
-    *is_real = !strcmp(format, "d");
-    return table->ndim == 2 && table->itemsize == 8 &&
+    int is_narrow = !strcmp(format, "f") && table->itemsize == 4;
+    *is_real = is_narrow || !strcmp(format, "d");
+    return table->ndim == 2 && (is_narrow || table->itemsize == 8) &&
            (*is_real || !strcmp(format, "l") || !strcmp(format, "q")) && 0 < table->shape[0] &&
            table->shape[0] <= MOST && 0 < table->shape[1] && table->shape[1] <= MOST;
 }

@@ -43,7 +43,7 @@ class Small(unittest.TestCase):
 
     def test_answers(self):
         """The extension answers what it is for."""
-        for dtype in (np.int64, np.longlong, np.float64):
+        for dtype in (np.int64, np.longlong, np.float64, np.float32):
             table = np.array([[4, 1, 3], [2, 0, 5], [3, 2, 2]], dtype=dtype)
             for matrix in (
                 table,
@@ -73,7 +73,8 @@ class Small(unittest.TestCase):
             np.zeros((2, 2, 2)),
             np.zeros((51, 3)),
             np.zeros((3, 51)),
-            np.zeros((2, 2), dtype=np.float32),
+            np.zeros((2, 2), dtype=np.float16),
+            np.zeros((2, 2), dtype=np.int32),
             np.zeros((2, 2), dtype=">f8"),
             np.zeros((2, 2), dtype=complex),
             np.array([[1, "a"], [2, 3]], dtype=object),
@@ -107,6 +108,9 @@ class Small(unittest.TestCase):
                 weights = (9, 3, 9, 2, 1, 9, 9, 4, 0.1, 0.1, 1)
                 flat = rng.choices(entries, weights, k=shape[0] * shape[1])
                 table = np.array(flat).reshape(shape)
+            if table.dtype == float and rng.random() < 0.3:
+                with np.errstate(over="ignore"):
+                    table = table.astype(np.float32)
             table = rng.choice((table, table.T, table[::-1, ::-1], np.asfortranarray(table)))
             self.assert_alike(table, rng.random() < 0.5)
 
