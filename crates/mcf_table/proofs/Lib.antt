@@ -3,6 +3,7 @@ pub mod BlankLemmas
 pub mod CellLemmas
 pub mod CutLemmas
 pub mod FieldLemmas
+pub mod HeadLemmas
 pub mod LineEndLemmas
 pub mod RowLemmas
 pub mod Unambiguous

@@ -4,13 +4,14 @@
 //!
 //! It builds on `mcf_text`. The definitions are in `specs/`: `Rows` says what a field and a row
 //! are, `Texts` which records a text says and which fault it has, `LineEnds` and `Blanks` what
-//! doesn't count, `Written` how rows are a text.
+//! doesn't count, `Written` how rows are a text, `Heads` which column has a head.
 
 mod blanks;
 mod cells;
 mod cuts;
 mod fault;
 mod fields;
+mod heads;
 mod laws;
 mod line_ends;
 mod reading;
@@ -18,6 +19,7 @@ mod records;
 mod rows;
 
 pub use fault::{FieldFault, TextFault};
+pub use heads::{CellPlace, Column};
 pub use laws::{texts_are_unambiguous, written_tables_read_back};
 pub use reading::records_of;
 pub use records::Records;

@@ -1,7 +1,8 @@
 //! Texts of tables: `python/mcf_plan/tables.py`, which reads them by Python's module csv, gives the
 //! same rows, lines and faults.
 use mcf_table::{
-    FieldFault, Records, TextFault, records_of, texts_are_unambiguous, written_tables_read_back,
+    CellPlace, Column, FieldFault, Records, TextFault, records_of, texts_are_unambiguous,
+    written_tables_read_back,
 };
 use mcf_text::NoMemory;
 use std::alloc::Global;
@@ -74,6 +75,45 @@ static FAULTS: [(&[u8], u8, usize, FieldFault); 5] = [
     (b"\"a\"b\"", b',', 1, FieldFault::AfterQuote),
 ];
 
+// Texts, what separates their fields, heads, and the columns with these.
+static COLUMNS: [(&[u8], u8, &[u8], Column); 9] = [
+    (b"Name,SUPPLY,name \nA,1,x\n", b',', b"name", Column::Twice),
+    (
+        b"Name,SUPPLY,name \nA,1,x\n",
+        b',',
+        b"supply",
+        Column::At(1),
+    ),
+    (
+        b"Name,SUPPLY,name \nA,1,x\n",
+        b',',
+        b"cost",
+        Column::Missing,
+    ),
+    (b"Name,SUPPLY,name \nA,1,x\n", b',', b"a", Column::Missing),
+    (b"from;to;cost;;Cost\n", b';', b"from", Column::At(0)),
+    (b"from;to;cost;;Cost\n", b';', b"to", Column::At(1)),
+    (b"from;to;cost;;Cost\n", b';', b"cost", Column::Twice),
+    (b"from;to;cost;;Cost\n", b';', b"", Column::At(3)),
+    (b"", b',', b"name", Column::Missing),
+];
+
+// A cell's line, and its place in its row.
+type Spot = (usize, usize);
+
+// Texts, what separates their fields, and the filled cells beyond the last head.
+static BEYOND: [(&[u8], u8, &[Spot]); 5] = [
+    (
+        b"from;to;cost;;Cost\na;b;1;2;3;4\n\nc;d;;;;;;5;6\n;;;;;\n",
+        b';',
+        &[(2, 5), (4, 7), (4, 8)],
+    ),
+    (b"a\n,x\n1, ,y\n,,\"\"\n", b',', &[(2, 1), (3, 2)]),
+    (b"a,\n1,2,3\n\"p\nq\",,\n,,,z\n", b',', &[(2, 2), (5, 3)]),
+    (b"Name,SUPPLY,name \nA,1,x\n", b',', &[]),
+    (b"", b',', &[]),
+];
+
 // The rows of a text, whose fields a semicolon, a tab or a comma separates.
 fn read(alloc: Global, text: &[u8], separator: u8) -> Result<Result<Records, TextFault>, NoMemory> {
     match separator {
@@ -132,6 +172,46 @@ fn texts_have_faults(rt: HostRuntime) -> Result<(), Fail> {
             Err(fault) => *fault == TextFault { line, kind },
         };
         assert!(rt; is_fault);
+    }
+    Ok(())
+}
+
+// Whether these are the cells, by their lines.
+fn are_at(records: &Records, cells: &[CellPlace], wanted: &[Spot]) -> bool {
+    if cells.len() != wanted.len() {
+        return false;
+    }
+    for i in 0..cells.len() {
+        let CellPlace { row, place } = cells[i];
+        if row >= records.len() || (records.line(row), place) != wanted[i] {
+            return false;
+        }
+    }
+    true
+}
+
+#[test]
+fn tables_have_columns(rt: HostRuntime) -> Result<(), Fail> {
+    for (text, separator, head, wanted) in COLUMNS {
+        let read = read(rt.alloc(), text, separator)?;
+        let is_column = match &read {
+            Ok(records) => records.column_of(head) == wanted,
+            Err(_) => false,
+        };
+        assert!(rt; is_column);
+    }
+    Ok(())
+}
+
+#[test]
+fn tables_have_cells_beyond(rt: HostRuntime) -> Result<(), Fail> {
+    for (text, separator, wanted) in BEYOND {
+        let read = read(rt.alloc(), text, separator)?;
+        let are_beyond = match &read {
+            Ok(records) => are_at(records, &records.beyond(rt.alloc())?, wanted),
+            Err(_) => false,
+        };
+        assert!(rt; are_beyond);
     }
     Ok(())
 }

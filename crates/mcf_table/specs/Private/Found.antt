@@ -8,6 +8,8 @@ use Rattle.mcf_table.specs.LineEnds.{line_feeds}
 use Rattle.mcf_table.specs.Rows.{Breaks, IsField, IsRow, doubled, ended, ends_field, quote, space}
 use Rattle.mcf_table.specs.Texts.{AreRecords, Record, is_kept}
 use Rattle.mcf_table.specs.declared.fault.FieldFault.{FieldFault}
+use Rattle.mcf_table.specs.declared.heads.Column.{Column}
+use Rattle.mcf_table.specs.declared.heads.Column.TheVariants.{Missing, Twice, At}
 use Rattle.mcf_table.specs.declared.records.RowPart.{RowPart}
 
 -- the byte stands at this place, and nowhere before
@@ -121,3 +123,14 @@ pub record IsReadTo (separator : ℕ) (text : List ℕ) (cells : List (List ℕ)
   pub within : All (IsWithin cells) parts
   pub line_is : line ≡ 1 + line_feeds (take at text)
   pub few : line ≤ at + 1
+
+-- the column that was found, and also at this place
+abbrev pub also_at : Column → ℕ → Column
+also_at Missing place = At place
+also_at Twice place = Twice
+also_at (At other) place = Twice
+
+-- the column that was found, and also at these places
+abbrev pub also_at_all : Column → List ℕ → Column
+also_at_all found [] = found
+also_at_all found (place ∷ places) = also_at_all (also_at found place) places

@@ -1,0 +1,117 @@
+//! The columns of a table, by the heads in its first row.
+ghost use Rattle.std.specs.Prelude.{◌≡◌};
+ghost use Rattle.std.specs.Str.{str_eq_ignore_ascii_case};
+ghost use Rattle.mcf_table.specs.Private.Found.{also_at};
+
+use crate::records::Records;
+use mcf_text::NoMemory;
+use std::alloc::Global;
+
+/// Where a table has the column with a head.
+#[derive(Clone, Copy, Debug, PartialEq, Eq)]
+pub enum Column {
+    /// No column has this head.
+    Missing,
+    /// Two columns or more have it.
+    Twice,
+    /// Only the column at this place has it; places are counted from 0.
+    At(usize),
+}
+
+/// Where a cell stands.
+#[derive(Clone, Copy, Debug, PartialEq, Eq)]
+pub struct CellPlace {
+    /// Its row; rows are counted from 0.
+    pub row: usize,
+    /// Its place in the row, from 0.
+    pub place: usize,
+}
+
+impl Records {
+    ghost use Rattle.std.specs.Prelude.{◌≡◌, ◌<◌, ◌++◌, IfOk, OnOk, length};
+    ghost use Rattle.mcf_table.specs.Heads.{beyond, cells_of, column_of, filled_from, heads, in_row};
+
+    /// The column with this head. The cells of the first row are the heads; an ASCII letter is the
+    /// same in either case.
+    pub fn column_of(&self, head: &[u8]) -> Column
+        ensures { result ≡ column_of head.now self.now }
+    {
+        let count = self.head_count();
+        let mut found = Column::Missing;
+        let mut place = 0;
+        'heads: while place < count {
+            if is_same(self.cell(0, place), head) {
+                found = also_at(found, place);
+            }
+            place += 1;
+        }
+        found
+    }
+
+    /// The cells that aren't empty and stand beyond the last head, row by row.
+    ///
+    /// # Errors
+    ///
+    /// `NoMemory` if an allocation is refused.
+    pub fn beyond(&self, alloc: Global) -> Result<Vec<CellPlace>, NoMemory>
+        ensures { IfOk result (λ found. found.items ≡ beyond self.now) }
+    {
+        let first = self.head_count();
+        let mut found = Vec::new(alloc);
+        let mut row = 0;
+        'rows: while row < self.len() {
+            self.push_filled(&mut found, row, first)?;
+            row += 1;
+        }
+        Ok(found)
+    }
+
+    // The number of heads.
+    fn head_count(&self) -> usize
+        ensures { result ≡ length (heads self.now) }
+    {
+        if self.len() == 0 {
+            0
+        } else {
+            self.cell_count(0)
+        }
+    }
+
+    // Appends the places of the row's cells that aren't empty, from this place on.
+    fn push_filled(
+        &self,
+        found: &mut Vec<CellPlace>,
+        row: usize,
+        first: usize,
+    ) -> Result<(), NoMemory>
+        requires { row < length self.now }
+        ensures { OnOk result (found.new.items ≡ found.old.items ++ in_row row (filled_from first (cells_of self.now row))) }
+    {
+        let count = self.cell_count(row);
+        let mut place = first;
+        'cells: while place < count {
+            if !self.cell(row, place).is_empty() {
+                found.push(CellPlace { row, place })?;
+            }
+            place += 1;
+        }
+        Ok(())
+    }
+}
+
+// Whether the heads are the same, with ASCII letters in either case.
+fn is_same(one: &[u8], other: &[u8]) -> bool
+    ensures { result ≡ str_eq_ignore_ascii_case one.now other.now }
+{
+    one.eq_ignore_ascii_case(other)
+}
+
+// The column that was found, and also at this place.
+fn also_at(found: Column, place: usize) -> Column
+    ensures { result ≡ also_at found place }
+{
+    match found {
+        Column::Missing => Column::At(place),
+        _ => Column::Twice,
+    }
+}
