@@ -32,7 +32,7 @@ import mcf
 
 # The seconds after which no further round of a cell starts, and the most rounds.
 SECONDS, ROUNDS = 3.0, 40
-SQUARES = (20, 100, 200, 500, 1000, 2000, 5000)
+SQUARES = (20, 100, 200, 500, 1000, 2000, 3000, 5000)
 RECTANGLES = ((100, 300), (100, 1000), (1000, 100), (1000, 3000), (500, 5000))
 POINTS = (20, 50, 100, 200, 500, 1000)
 # The greatest ratio to scipy's time for small matrices, for others, and for great random ones; and
