@@ -6,5 +6,6 @@ pub mod FieldLemmas
 pub mod HeadLemmas
 pub mod LineEndLemmas
 pub mod RowLemmas
+pub mod SeparatorLemmas
 pub mod Unambiguous
 pub mod WrittenLemmas

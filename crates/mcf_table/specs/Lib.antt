@@ -4,5 +4,6 @@ pub mod Laws
 pub mod LineEnds
 pub mod Private
 pub mod Rows
+pub mod Separators
 pub mod Texts
 pub mod Written

@@ -113,7 +113,7 @@ fn closing_quote(text: &[u8]) -> Option<usize>
 }
 
 // Whether the first byte is a quote.
-fn is_quote(text: &[u8]) -> bool
+pub(crate) fn is_quote(text: &[u8]) -> bool
     ensures yes { IsTrue result → (0 < length text.now) × (slice_index text.now 0 ≡ quote) }
     ensures no { IsFalse result → NoQuote text.now }
 {

@@ -4,7 +4,8 @@
 //!
 //! It builds on `mcf_text`. The definitions are in `specs/`: `Rows` says what a field and a row
 //! are, `Texts` which records a text says and which fault it has, `LineEnds` and `Blanks` what
-//! doesn't count, `Written` how rows are a text, `Heads` which column has a head.
+//! doesn't count, `Written` how rows are a text, `Heads` which column has a head, `Separators`
+//! what separates fields.
 
 mod blanks;
 mod cells;
@@ -17,9 +18,11 @@ mod line_ends;
 mod reading;
 mod records;
 mod rows;
+mod separators;
 
 pub use fault::{FieldFault, TextFault};
 pub use heads::{CellPlace, Column};
 pub use laws::{texts_are_unambiguous, written_tables_read_back};
 pub use reading::records_of;
 pub use records::Records;
+pub use separators::separator_of;

@@ -1,8 +1,8 @@
 //! Texts of tables: `python/mcf_plan/tables.py`, which reads them by Python's module csv, gives the
 //! same rows, lines and faults.
 use mcf_table::{
-    CellPlace, Column, FieldFault, Records, TextFault, records_of, texts_are_unambiguous,
-    written_tables_read_back,
+    CellPlace, Column, FieldFault, Records, TextFault, records_of, separator_of,
+    texts_are_unambiguous, written_tables_read_back,
 };
 use mcf_text::NoMemory;
 use std::alloc::Global;
@@ -114,6 +114,25 @@ static BEYOND: [(&[u8], u8, &[Spot]); 5] = [
     (b"", b',', &[]),
 ];
 
+// Heads that texts may have.
+static HEADS: [&[u8]; 3] = [b"from", b"to", b"cost"];
+
+// Texts, and what separates their fields if these heads are wanted.
+static SEPARATORS: [(&[u8], u8); 12] = [
+    (b"from;to;cost,x,y,z\n", b';'),
+    (b"\r\n \r\nfrom\tTo\tcost\r\na,b,c,d\r\n", b'\t'),
+    (b"a;b,c\n", b','),
+    (b"a;b;c,d\n", b';'),
+    (b"", b','),
+    (b"\n \n", b','),
+    (b"\xEF\xBB\xBF\"from\" ; \"\"To\"\";x,from,y,z,u\n", b';'),
+    (b"from,to;cost;x\n", b';'),
+    (b"cost;cost;cost,to\n", b';'),
+    (b"x\ty;z\rfrom,to,cost\n", b';'),
+    (b"\xC5\xBF;\xEF\xAC\x81,x\n", b','),
+    (b"from", b','),
+];
+
 // The rows of a text, whose fields a semicolon, a tab or a comma separates.
 fn read(alloc: Global, text: &[u8], separator: u8) -> Result<Result<Records, TextFault>, NoMemory> {
     match separator {
@@ -212,6 +231,14 @@ fn tables_have_cells_beyond(rt: HostRuntime) -> Result<(), Fail> {
             Err(_) => false,
         };
         assert!(rt; are_beyond);
+    }
+    Ok(())
+}
+
+#[test]
+fn heads_show_separators(rt: HostRuntime) -> Result<(), Fail> {
+    for (text, wanted) in SEPARATORS {
+        assert!(rt; separator_of(text, &HEADS) == wanted);
     }
     Ok(())
 }

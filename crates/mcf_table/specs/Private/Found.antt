@@ -1,16 +1,18 @@
 -- What the reading of a field finds.
-use Rattle.std.specs.Prelude.{◌≡◌, ℕ, ◌+◌, ◌<◌, ◌≤◌, ◌==◌, Bool, true, false, ⊤, List, [], ◌∷◌, ◌++◌, length, take, drop, replicate, slice_index, nat_eq, if◌then◌else◌, All, map, filter}
+use Rattle.std.specs.Prelude.{◌≡◌, ℕ, ◌+◌, ◌<◌, ◌≤◌, ◌==◌, ◌⊎◌, Bool, true, false, ⊤, List, [], ◌∷◌, ◌++◌, length, take, drop, replicate, slice_index, nat_eq, if◌then◌else◌, All, map, filter}
 use Rattle.std.specs.List.{AllZip, list_any, starts_with}
 use Rattle.memchr.specs.Find.{is_byte}
 use Rattle.mcf_text.specs.Lines.{line_feed}
 use Rattle.mcf_table.specs.Blanks.{trimmed}
 use Rattle.mcf_table.specs.LineEnds.{line_feeds}
 use Rattle.mcf_table.specs.Rows.{Breaks, IsField, IsRow, doubled, ended, ends_field, quote, space}
+use Rattle.mcf_table.specs.Separators.{parts_of, wanted_count}
 use Rattle.mcf_table.specs.Texts.{AreRecords, Record, is_kept}
 use Rattle.mcf_table.specs.declared.fault.FieldFault.{FieldFault}
 use Rattle.mcf_table.specs.declared.heads.Column.{Column}
 use Rattle.mcf_table.specs.declared.heads.Column.TheVariants.{Missing, Twice, At}
 use Rattle.mcf_table.specs.declared.records.RowPart.{RowPart}
+use Rattle.mcf_table.specs.declared.separators.Rank.{Rank}
 
 -- the byte stands at this place, and nowhere before
 pub record IsFirstAt (byte : ℕ) (text : List ℕ) (place : ℕ) : Type 0 where
@@ -134,3 +136,12 @@ also_at (At other) place = Twice
 abbrev pub also_at_all : Column → List ℕ → Column
 also_at_all found [] = found
 also_at_all found (place ∷ places) = also_at_all (also_at found place) places
+
+-- the first splits better than the second
+abbrev pub IsAbove : Rank → Rank → Type 0
+IsAbove one other = (other.wanted < one.wanted) ⊎ ((other.wanted ≡ one.wanted) × (other.count < one.count))
+
+-- how well the byte splits the line
+pub record IsRank (line : List ℕ) (heads : List (List ℕ)) (byte : ℕ) (rank : Rank) : Type 0 where
+  pub wanted : rank.wanted ≡ wanted_count heads (parts_of byte line)
+  pub count : rank.count + 1 ≡ length (parts_of byte line)

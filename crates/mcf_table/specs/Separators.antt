@@ -1,0 +1,66 @@
+-- What separates the fields of a text, as the line of its heads shows.
+-- Source: own
+use Rattle.std.specs.Prelude.{◌≡◌, ℕ, ◌<◌, ◌==◌, Bool, ◌||◌, ◌⊎◌, if◌then◌else◌, List, [], ◌∷◌, ◌++◌, length, filter, reverse, count_by, slice_index_or, All}
+use Rattle.std.specs.List.{list_any, slice_split}
+use Rattle.std.specs.Str.{str_eq_ignore_ascii_case}
+use Rattle.mcf_text.specs.Lines.{line_feed}
+use Rattle.mcf_table.specs.Blanks.{trimmed}
+use Rattle.mcf_table.specs.LineEnds.{carriage_return, unmarked}
+use Rattle.mcf_table.specs.Rows.{quote}
+use Rattle.mcf_table.specs.Texts.{is_filled}
+
+-- what heads may show as their separator: a comma, a semicolon, a tab
+abbrev pub shown_separators : List ℕ
+shown_separators = 44 ∷ 59 ∷ 9 ∷ []
+
+-- the byte ends a line; between a carriage return and its line feed stands an empty one
+abbrev pub ends_line : ℕ → Bool
+ends_line b = b == line_feed || b == carriage_return
+
+-- the line isn't blank
+abbrev pub is_written : List ℕ → Bool
+is_written line = is_filled (trimmed line)
+
+-- the first of these lines that isn't blank; empty if there is none
+abbrev pub first_written : List (List ℕ) → List ℕ
+first_written lines = slice_index_or (filter is_written lines) 0 []
+
+-- the first line of the text that isn't blank
+abbrev pub head_line : List ℕ → List ℕ
+head_line text = first_written (slice_split ends_line (unmarked text))
+
+-- the text without the quotes with which it begins
+abbrev pub front_unquoted : List ℕ → List ℕ
+front_unquoted [] = []
+front_unquoted (b ∷ bs) = if b == quote then front_unquoted bs else b ∷ bs
+
+-- the text without the quotes with which it ends
+abbrev pub back_unquoted : List ℕ → List ℕ
+back_unquoted text = reverse (front_unquoted (reverse text))
+
+-- the part is this head, without blanks at its ends, and without quotes there then
+abbrev pub is_head : List ℕ → List ℕ → Bool
+is_head head part = str_eq_ignore_ascii_case (back_unquoted (front_unquoted (trimmed part))) head
+
+-- the parts of the line between these bytes
+abbrev pub parts_of : ℕ → List ℕ → List (List ℕ)
+parts_of byte line = slice_split (λ b. b == byte) line
+
+-- how many of the wanted heads are among these parts
+abbrev pub wanted_count : List (List ℕ) → List (List ℕ) → ℕ
+wanted_count wanted parts = count_by (λ head. list_any (is_head head) parts) wanted
+
+-- the first parts have more of the wanted heads than the second, or as many, and are more
+abbrev pub AreBetter : List (List ℕ) → List (List ℕ) → List (List ℕ) → Type 0
+AreBetter wanted parts other =
+    (wanted_count wanted other < wanted_count wanted parts)
+    ⊎ ((wanted_count wanted other ≡ wanted_count wanted parts) × (length other < length parts))
+
+-- The byte is the first of a comma, a semicolon and a tab that splits the line best: better than
+-- each before it, and no worse than each after it.
+pub record SplitsBest (line : List ℕ) (wanted : List (List ℕ)) (byte : ℕ) : Type 0 where
+  pub front : List ℕ
+  pub back : List ℕ
+  pub among : shown_separators ≡ front ++ byte ∷ back
+  pub better : All (λ other. AreBetter wanted (parts_of byte line) (parts_of other line)) front
+  pub no_worse : All (λ other. ¬ AreBetter wanted (parts_of other line) (parts_of byte line)) back
