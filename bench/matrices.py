@@ -1,19 +1,21 @@
 #!/usr/bin/env python3
 """Times assignments of cost matrices, a tracker's frames and transport plans, called from Python,
-beside scipy and POT. All calls of ours are judged.
+beside scipy, dlib and POT. All calls of ours are judged.
 
     python3 bench/matrices.py [PART ..] [--most ROWS] [--seed N]
 
 PART
   squares     matrices of 20 to 5,000 rows, by family
   rectangles  matrices with more columns than rows, and the reverse
+  dlib        squares of integers, beside dlib, whose solve is timed alone
   frames      2,000 frames of a tracker: 20 to 200 boxes, 1 - IoU, pairs beyond a gate forbidden
   transport   optimal transport between points of the plane, beside POT
   memory      the peak of memory beside the matrix, in bytes an entry
 
 Times are processor seconds, the least of some rounds in turn. A cell is our time over the peer's,
 with the peer's milliseconds in brackets; `*` marks one above the goal. Costs must be equal, or ours
-less, by exact sums. Needs numpy, scipy, for `transport` POT (python3-pot), and the library.
+less, by exact sums. Needs numpy, scipy and the library; for `transport` POT (python3-pot), and for
+`dlib` a C++ compiler and dlib (libdlib-dev).
 """
 import argparse
 import fractions
@@ -21,6 +23,7 @@ import os
 import pathlib
 import subprocess
 import sys
+import tempfile
 import time
 
 import numpy as np
@@ -34,12 +37,13 @@ import mcf
 SECONDS, ROUNDS = 3.0, 40
 SQUARES = (20, 100, 200, 500, 1000, 2000, 3000, 5000)
 RECTANGLES = ((100, 300), (100, 1000), (1000, 100), (1000, 3000), (500, 5000))
+DLIB = (20, 100, 200, 500)
 POINTS = (20, 50, 100, 200, 500, 1000)
 # The greatest ratio to scipy's time for small matrices, for others, and for great random ones; and
 # to POT's time.
 GOALS = {"small": 1.2, "all": 0.8, "random": 0.2, "transport": 0.6}
 # Families that a search has to go through whole are timed up to this many rows.
-HARD = {"i * j": 1000, "rank 3": 2000}
+HARD = {"i * j": 1000, "rank 3": 3000}
 
 
 def boxes(chance, count):
@@ -192,6 +196,32 @@ def rectangles(words):
     table("Rectangles, beside scipy", [f"{n} x {m}" for n, m in shapes], rows)
 
 
+def with_dlib(words):
+    """Squares of integers, by families whose entries are integers."""
+    peer = pathlib.Path(tempfile.mkdtemp()) / "peer"
+    source = TOP / "bench/peers/assign/matrix.cc"
+    built = subprocess.run(["g++", "-O3", "-DNDEBUG", source, "-o", peer], capture_output=True)
+    if built.returncode:
+        print("dlib: skipped: its program can't be built")
+        return
+    chance = np.random.default_rng(words.seed)
+    families = [f for f in FAMILIES if FAMILIES[f](chance, 2, 2).dtype == np.int64]
+
+    def cells(family):
+        for size in DLIB:
+            matrix = FAMILIES[family](np.random.default_rng(words.seed + size), size, size)
+            matrix.tofile(peer.parent / "costs")
+            rounds = str(min(ROUNDS, max(1, 2000000 // size**2)))
+            command = [peer, peer.parent / "costs", str(size), rounds]
+            seconds, cost = subprocess.check_output(command, text=True).split()
+            assert exact_cost(matrix, mcf.linear_sum_assignment(matrix)) == int(cost), family
+            ours = least(lambda: mcf.linear_sum_assignment(matrix))[0]
+            yield cell(ours, float(seconds), GOALS["small" if size < 100 else "all"])
+
+    rows = ((family, cells(family)) for family in families)
+    table("Squares, beside dlib", [str(size) for size in DLIB], rows)
+
+
 def frames(words):
     """A tracker that matches the boxes of each frame with those of the one before."""
     chance = np.random.default_rng(words.seed)
@@ -261,6 +291,7 @@ def memory(_words):
 
 
 PARTS = {f.__name__: f for f in (squares, rectangles, frames, transport, memory)}
+PARTS["dlib"] = with_dlib
 
 
 def main():
