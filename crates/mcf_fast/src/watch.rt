@@ -43,8 +43,8 @@ const LARGE_NODES: u32 = 24_576;
 const WIDE_NODES: u32 = 50_000;
 
 // Up to this many nodes, the simplex is faster if the tree is deep, so that cycles are long, as in
-// road nets: after six quarters their cycles have 88 to 130 arcs on average at 2^15 and 2^16 nodes,
-// and those of other families 5 to 61.
+// road nets: after six quarters the cycles of twelve of them have 88 to 130 arcs on average at 2^15
+// and 2^16 nodes. Those of netgen and its kind, which get as far as this test, have 27 to 61.
 const DEEP_NODES: u32 = 100_000;
 
 const LONG_CYCLE: u64 = 75;
