@@ -12,6 +12,7 @@ mod Filling
 mod Reading
 mod RowSteps
 mod Reaches
+pub mod FaultLists
 pub mod FaultTests
 pub mod Proper
 mod Capped

@@ -1,6 +1,6 @@
--- Models with which nothing is wrong are those without a first fault.
-use Rattle.std.proofs.Common.{◌≡◌, ℕ, suc, ◌+◌, ◌≤◌, Bool, true, false, ◌&&◌, List, [], ◌∷◌, length, map, refl, ap, sym, ◌∙◌, arith, ℤ, pos, inl, inr}
-use Rattle.std.specs.Prelude.{Option, Some, None, option_map, nat_le, ◌↔◌}
+-- Models with which nothing is wrong are those without a first fault, and those without a fault.
+use Rattle.std.proofs.Common.{◌≡◌, ℕ, suc, ◌+◌, ◌≤◌, Bool, true, false, ◌&&◌, List, [], ◌∷◌, ◌++◌, cond, length, map, refl, ap, sym, ◌∙◌, arith, ℤ, pos, inl, inr}
+use Rattle.std.specs.Prelude.{Option, Some, None, option_map, filter, find, nat_le, ◌↔◌}
 use Rattle.std.specs.List.{All}
 use Rattle.std.specs.Option.{is_none, option_or}
 use Rattle.std.proofs.lemmas.List.Elements.{All-cons, All-head, All-tail, All-map}
@@ -10,7 +10,7 @@ use Rattle.mcf_model.specs.declared.faults.RouteFault.{RouteFault}
 use Rattle.mcf_model.specs.declared.faults.RouteFault.TheVariants.{Place, Steps, Room, FallingCost, BothWays, NoLimit}
 use Rattle.mcf_model.specs.declared.rows.RouteRow.{RouteRow}
 use Rattle.mcf_model.specs.declared.rows.Step.{Step}
-use Rattle.mcf_model.specs.Faults.{AreListed, applies, earns, fault_from, is_place, model_fault, route_faults, row_fault, some_earn}
+use Rattle.mcf_model.specs.Faults.{AreListed, applies, earns, fault_from, faults_from, is_place, model_fault, route_faults, row_fault, some_earn}
 use Rattle.mcf_model.specs.Laws.{IsBounded, IsProper, StepsTake}
 use Rattle.mcf_model.specs.Model.{CostAtLeast, IsLimited, IsSoundRoute, Route}
 use Rattle.mcf_model.specs.Tables.{model_of, own_steps, route_of}
@@ -33,6 +33,33 @@ module _ (test : RouteRow → Option RouteFault) where
   all_pass k [] h = refl
   all_pass k (row ∷ rows) h =
       rw (All-head (λ row. test row ≡ None) row rows h) (all_pass (suc k) rows (All-tail (λ row. test row ≡ None) row rows h))
+
+unmapped : {X Y : Type 0} (f : X → Y) (xs : List X) → map f xs ≡ [] → xs ≡ []
+unmapped f [] e = refl
+unmapped f (x ∷ xs) e = cc e
+
+pub neither : {X : Type 0} (xs ys : List X) → xs ++ ys ≡ [] → (xs ≡ []) × (ys ≡ [])
+neither [] ys e = (refl, e)
+neither (x ∷ xs) ys e = cc e
+
+unfiltered : {X : Type 0} (p : X → Bool) (xs : List X) → filter p xs ≡ [] → find p xs ≡ None
+unfiltered p [] e = refl
+unfiltered p (x ∷ xs) e = go (p x) e (unfiltered p xs)
+  where
+    go : (b : Bool) → cond b (x ∷ filter p xs) (filter p xs) ≡ [] → (filter p xs ≡ [] → find p xs ≡ None) → cond b (Some x) (find p xs) ≡ None
+    go true e later = cc e
+    go false e later = later e
+
+-- without faults, each route has no first fault
+pub each_clear : (places : ℕ) (steps : List Step) (earning : Bool) (number : ℕ) (rows : List RouteRow)
+    → faults_from places steps earning number rows ≡ [] → All (λ row. row_fault places steps earning row ≡ None) rows
+each_clear places steps earning number [] e = λ k d z. absurd (omega arith)
+each_clear places steps earning number (row ∷ rows) e =
+    let found = filter (applies places steps earning row) route_faults in
+    let number_it : RouteFault → ModelFault = λ what. record { route = number; what = what } in
+    let both = neither (map number_it found) (faults_from places steps earning (suc number) rows) e in
+    All-cons (λ row. row_fault places steps earning row ≡ None) row rows (unfiltered (applies places steps earning row) route_faults (unmapped number_it found both.0))
+    (each_clear places steps earning (suc number) rows both.1)
 
 -- ---- one route
 

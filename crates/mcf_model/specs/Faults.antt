@@ -1,6 +1,6 @@
--- Faults of models: the first route that has a fault, and its first fault.
+-- Faults of models: all of them, and the first route that has one, with its first fault.
 -- Source: own
-use Rattle.std.specs.Prelude.{ℕ, suc, ◌+◌, ◌≤◌, ◌==◌, nat_le, Bool, false, not, ◌&&◌, ◌||◌, List, [], ◌∷◌, length, find, ℤ, pos, int_lt, Option, Some, None, option_map, Result, Ok, Err}
+use Rattle.std.specs.Prelude.{ℕ, suc, ◌+◌, ◌≤◌, ◌==◌, nat_le, Bool, false, not, ◌&&◌, ◌||◌, List, [], ◌∷◌, ◌++◌, length, map, filter, find, ℤ, pos, int_lt, Option, Some, None, option_map, Result, Ok, Err}
 use Rattle.std.specs.List.{All, list_any}
 use Rattle.std.specs.Option.{is_none, option_or}
 use Rattle.std.specs.Ordering.{int_eq}
@@ -61,6 +61,13 @@ applies places steps earning row NoLimit = earning && is_none row.last_most
 -- the faults of a route, in the order of their tests
 abbrev pub route_faults : List RouteFault
 route_faults = Place ∷ Steps ∷ Room ∷ FallingCost ∷ BothWays ∷ NoLimit ∷ []
+
+-- all faults of the routes, which are numbered from a given number
+abbrev pub faults_from : ℕ → List Step → Bool → ℕ → List RouteRow → List ModelFault
+faults_from places steps earning number [] = []
+faults_from places steps earning number (row ∷ rows) =
+    map (λ what. record { route = number; what = what }) (filter (applies places steps earning row) route_faults)
+    ++ faults_from places steps earning (suc number) rows
 
 -- the first fault of a route
 abbrev pub row_fault : ℕ → List Step → Bool → RouteRow → Option RouteFault

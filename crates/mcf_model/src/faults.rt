@@ -1,9 +1,11 @@
 //! Faults of models.
-ghost use Rattle.std.specs.Prelude.{◌≡◌, ◌≤◌, Some, None, int_lt, pos, drop, length, not, ◌&&◌, ◌||◌};
-ghost use Rattle.mcf_model.specs.Faults.{applies, earns, falls, fault_from, first_cost, is_below, is_place, is_wrong_both_ways, model_fault, row_fault, some_earn, takes_below};
+ghost use Rattle.std.specs.Prelude.{◌≡◌, ◌≤◌, ◌++◌, IfOk, OnOk, int_lt, pos, drop, filter, length, map, not, ◌&&◌, ◌||◌};
+ghost use Rattle.mcf_model.specs.Faults.{applies, earns, falls, faults_from, first_cost, is_below, is_place, is_wrong_both_ways, model_fault, route_faults, row_fault, some_earn, takes_below};
 ghost use Rattle.mcf_model.specs.Tables.{own_steps, route_of};
 
 use crate::rows::{RouteRow, Step, own_steps};
+use mcf_text::NoMemory;
+use std::alloc::Global;
 
 /// A fault of a route. The tests are made in the order of the cases.
 #[derive(Clone, Copy, Debug, PartialEq, Eq)]
@@ -22,12 +24,22 @@ pub enum RouteFault {
     NoLimit,
 }
 
-/// A route of a model, counted from 1, and its first fault.
+/// A route of a model, counted from 1, and a fault of it.
 #[derive(Clone, Copy, Debug, PartialEq, Eq)]
 pub struct ModelFault {
     pub route: usize,
     pub what: RouteFault,
 }
+
+// The faults, in the order of their tests.
+static ALL: [RouteFault; 6] = [
+    RouteFault::Place,
+    RouteFault::Steps,
+    RouteFault::Room,
+    RouteFault::FallingCost,
+    RouteFault::BothWays,
+    RouteFault::NoLimit,
+];
 
 // Returns whether a number is that of a place.
 fn is_place(places: usize, place: u32) -> bool
@@ -128,32 +140,65 @@ fn is_wrong_both_ways(own: &[Step], row: RouteRow) -> bool
     row.both && (row.least != 0 || earning)
 }
 
-// Returns the first fault of a route.
-fn row_fault(places: usize, steps: &[Step], earning: bool, row: RouteRow) -> Option<RouteFault>
-    ensures { result ≡ row_fault places steps.now earning row }
-{
-    let own = own_steps(steps, row);
-    let tail_is_place = is_place(places, row.tail);
-    let head_is_place = is_place(places, row.head);
-    if !(tail_is_place && head_is_place) {
-        return Some(RouteFault::Place);
+// What the faults of a route depend on beside it: the number of places, the table of steps, and
+// whether some cost of the model is below 0.
+#[derive(Clone, Copy)]
+struct Setting<'m> {
+    places: usize,
+    steps: &'m [Step],
+    earning: bool,
+}
+
+impl Setting<'_> {
+    // Returns whether a route has a fault.
+    fn applies(self, row: RouteRow, what: RouteFault) -> bool
+        ensures { result ≡ applies self.entry.places self.entry.steps.now self.entry.earning row what }
+    {
+        let own = own_steps(self.steps, row);
+        match what {
+            RouteFault::Place => {
+                let tail_is_place = is_place(self.places, row.tail);
+                let head_is_place = is_place(self.places, row.head);
+                !(tail_is_place && head_is_place)
+            }
+            RouteFault::Steps => {
+                row.first_step as usize + row.step_count as usize > self.steps.len()
+            }
+            RouteFault::Room => takes_below(own, row.both, row.last_most),
+            RouteFault::FallingCost => falls(own, row.last_cost),
+            RouteFault::BothWays => is_wrong_both_ways(own, row),
+            RouteFault::NoLimit => self.earning && row.last_most.is_none(),
+        }
     }
-    if row.first_step as usize + row.step_count as usize > steps.len() {
-        return Some(RouteFault::Steps);
+
+    // Returns the first fault of a route.
+    fn first_of(self, row: RouteRow) -> Option<RouteFault>
+        ensures { result ≡ row_fault self.entry.places self.entry.steps.now self.entry.earning row }
+    {
+        ALL.iter().copied().find(|what| self.applies(row, *what))
     }
-    if takes_below(own, row.both, row.last_most) {
-        return Some(RouteFault::Room);
+
+    // Appends the faults of a route with this number.
+    fn push_all(
+        self,
+        number: usize,
+        row: RouteRow,
+        found: &mut Vec<ModelFault>,
+    ) -> Result<(), NoMemory>
+        ensures { OnOk result (found.new.items ≡ found.old.items ++ map (λ what. record { route = number; what = what }) (filter (applies self.entry.places self.entry.steps.now self.entry.earning row) route_faults)) }
+    {
+        for place in 0..ALL.len() {
+            let what = ALL[place];
+            let is_there = self.applies(row, what);
+            if is_there {
+                found.push(ModelFault {
+                    route: number,
+                    what,
+                })?;
+            }
+        }
+        Ok(())
     }
-    if falls(own, row.last_cost) {
-        return Some(RouteFault::FallingCost);
-    }
-    if is_wrong_both_ways(own, row) {
-        return Some(RouteFault::BothWays);
-    }
-    if earning && row.last_most.is_none() {
-        return Some(RouteFault::NoLimit);
-    }
-    None
 }
 
 // Returns whether a cost of a route is below 0.
@@ -177,19 +222,45 @@ pub fn some_earn(steps: &[Step], rows: &[RouteRow]) -> bool
     false
 }
 
-/// Returns the first route that has a fault, and its first fault, in a model with this number of
-/// places and this table of steps. `earning` says whether some cost of the model is below 0: then
-/// each route needs a limit.
-pub fn first_fault(
+/// Returns all faults of routes, route by route, in a model with this number of places and this
+/// table of steps. `earning` says whether some cost of the model is below 0: then each route needs
+/// a limit.
+///
+/// # Errors
+///
+/// `NoMemory` if an allocation is refused.
+pub fn all_faults(
+    alloc: Global,
     places: usize,
     steps: &[Step],
     earning: bool,
     rows: &[RouteRow],
-) -> Option<ModelFault>
-    ensures { result ≡ fault_from (row_fault places steps.now earning) 1 rows.now }
+) -> Result<Vec<ModelFault>, NoMemory>
+    ensures { IfOk result (λ found. found.items ≡ faults_from places steps.now earning 1 rows.now) }
 {
+    let setting = Setting {
+        places,
+        steps,
+        earning,
+    };
+    let mut found = Vec::new(alloc);
     for place in 0..rows.len() {
-        match row_fault(places, steps, earning, rows[place]) {
+        setting.push_all(place + 1, rows[place], &mut found)?;
+    }
+    Ok(found)
+}
+
+// Returns the first fault of a model of routes alone: of the first route that has one.
+pub(crate) fn model_fault(places: usize, steps: &[Step], rows: &[RouteRow]) -> Option<ModelFault>
+    ensures { result ≡ model_fault places steps.now rows.now }
+{
+    let setting = Setting {
+        places,
+        steps,
+        earning: some_earn(steps, rows),
+    };
+    for place in 0..rows.len() {
+        match setting.first_of(rows[place]) {
             Some(what) => {
                 return Some(ModelFault {
                     route: place + 1,
@@ -200,12 +271,4 @@ pub fn first_fault(
         }
     }
     None
-}
-
-// Returns the first fault of a model of routes alone.
-pub(crate) fn model_fault(places: usize, steps: &[Step], rows: &[RouteRow]) -> Option<ModelFault>
-    ensures { result ≡ model_fault places steps.now rows.now }
-{
-    let earning = some_earn(steps, rows);
-    first_fault(places, steps, earning, rows)
 }

@@ -19,7 +19,7 @@ mod rows;
 
 pub use arcs::arcs_of;
 pub use carried::plan_of;
-pub use faults::{ModelFault, RouteFault, first_fault, some_earn};
+pub use faults::{ModelFault, RouteFault, all_faults, some_earn};
 pub use laws::{
     blocked_models_have_no_plan, blocking_sets_are_bottlenecks, bottlenecks_have_no_plan,
     finer_plans_undercut_none, flows_are_plans, plans_are_flows, shown_flows_cost_the_same,

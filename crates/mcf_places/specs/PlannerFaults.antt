@@ -1,11 +1,12 @@
--- Faults of planners' problems: the first one.
+-- Faults of planners' problems: all of them.
 -- Source: own
-use Rattle.std.specs.Prelude.{ℕ, suc, ◌≤◌, nat_lt, Bool, true, false, ◌&&◌, ◌||◌, List, [], ◌∷◌, length, map, pos, ◌+ℤ◌, ◌≤ℤ◌, int_lt, if◌then◌else◌, ◌⊎◌, Option, Some, None, option_map, Result, Ok, Err}
+use Rattle.std.specs.Prelude.{◌≡◌, ℕ, suc, ◌≤◌, nat_lt, Bool, true, false, ◌&&◌, ◌||◌, List, [], ◌∷◌, ◌++◌, length, map, pos, ◌+ℤ◌, ◌≤ℤ◌, int_lt, if◌then◌else◌, ◌⊎◌, Option, Some, None, Result, Ok, Err}
+use Rattle.std.specs.Global.{Vec}
 use Rattle.std.specs.List.{All, list_any}
-use Rattle.std.specs.Option.{is_none, option_or}
+use Rattle.std.specs.Option.{is_none}
 use Rattle.mcf_model.specs.declared.rows.RouteRow.{RouteRow}
 use Rattle.mcf_model.specs.declared.rows.Step.{Step}
-use Rattle.mcf_model.specs.Faults.{fault_from, row_fault, some_earn}
+use Rattle.mcf_model.specs.Faults.{faults_from, some_earn}
 use Rattle.mcf_model.specs.Laws.{StepsTake}
 use Rattle.mcf_model.specs.Model.{CostAtLeast, IsLimited}
 use Rattle.mcf_model.specs.Tables.{route_of}
@@ -32,53 +33,45 @@ is_open None = false
 abbrev pub earning : List Place → List Step → List RouteRow → Bool
 earning places steps rows = list_any (λ p. place_earns p.through) places || some_earn steps rows
 
--- the first place whose bounds have no limit, if the places are numbered from a given number
-abbrev pub first_open : ℕ → List Place → Option ℕ
-first_open v [] = None
-first_open v (p ∷ places) = if is_open p.through then Some v else first_open (suc v) places
+-- this fault, if the test holds
+abbrev pub fault_if : Bool → PlannerFault → List PlannerFault
+fault_if true fault = fault ∷ []
+fault_if false fault = []
 
--- a fault, if the test holds
-abbrev pub fault_if : Bool → PlannerFault → Option PlannerFault
-fault_if true fault = Some fault
-fault_if false fault = None
+-- the numbers of the elements for which a test holds, if the first has a given number
+abbrev pub numbers_of : {X : Type 0} → (X → Bool) → ℕ → List X → List ℕ
+numbers_of test number [] = []
+numbers_of test number (x ∷ xs) =
+    if test x then number ∷ numbers_of test (suc number) xs else numbers_of test (suc number) xs
 
--- the first place whose bounds have no limit, if some cost is below 0
-abbrev pub open_fault : Bool → List Place → Option PlannerFault
-open_fault true places = option_map NoLimit (first_open 1 places)
-open_fault false places = None
+-- the places whose bounds have no limit, if some cost is below 0
+abbrev pub open_faults : Bool → List Place → List PlannerFault
+open_faults true places = map NoLimit (numbers_of (λ p. is_open p.through) 1 places)
+open_faults false places = []
 
 -- a route is used both ways, and what passes through one of its ends has bounds
 abbrev pub is_returning : List Place → RouteRow → Bool
 is_returning places row = row.both && (has_bounds places row.tail || has_bounds places row.head)
 
--- the first such route, if the routes are numbered from a given number
-abbrev pub first_returning : List Place → ℕ → List RouteRow → Option ℕ
-first_returning places number [] = None
-first_returning places number (row ∷ rows) = if is_returning places row then Some number else first_returning places (suc number) rows
-
--- the first fault: too many places, too great supplies, a penalty below 0, bounds without a limit
--- where some cost is below 0, a fault of a route, or a route both ways at a place with bounds
-abbrev pub planner_fault : List Place → List Step → List RouteRow → Policy → Option PlannerFault
-planner_fault places steps rows policy =
-    option_or (fault_if (nat_lt PLACE_LIMIT (length places)) Size)
-    (option_or (fault_if (int_lt (pos SUM_LIMIT) (all_given places +ℤ all_wanted places)) Total)
-    (option_or (fault_if (int_lt (unit_penalty policy.penalty) (pos 0)) Penalty)
-    (option_or (open_fault (earning places steps rows) places)
-    (option_or (option_map Routes (fault_from (row_fault (length places) steps (earning places steps rows)) 1 rows))
-    (option_map BothWays (first_returning places 1 rows))))))
+-- all faults: too many places, too great supplies, a penalty below 0, bounds without a limit where
+-- some cost is below 0, faults of routes, and routes both ways at a place with bounds
+abbrev pub planner_faults : List Place → List Step → List RouteRow → Policy → List PlannerFault
+planner_faults places steps rows policy =
+    fault_if (nat_lt PLACE_LIMIT (length places)) Size
+    ++ (fault_if (int_lt (pos SUM_LIMIT) (all_given places +ℤ all_wanted places)) Total
+    ++ (fault_if (int_lt (unit_penalty policy.penalty) (pos 0)) Penalty
+    ++ (open_faults (earning places steps rows) places
+    ++ (map Routes (faults_from (length places) steps (earning places steps rows) 1 rows)
+    ++ map BothWays (numbers_of (is_returning places) 1 rows)))))
 
 -- the planner's problem of places, a table of steps, rows of routes, and a policy
 abbrev pub planner_of : List Place → List Step → List RouteRow → Policy → Planner
 planner_of places steps rows policy = record { places = places; routes = map (route_of steps) rows; policy = policy }
 
--- the first fault, or the problem if there is none
-abbrev pub planner_unless : Option PlannerFault → Planner → Result Planner PlannerFault
-planner_unless (Some fault) P = Err fault
-planner_unless None P = Ok P
-
--- the result of making a planner's problem: it, or the first fault
-abbrev pub made_of_places : List Place → List Step → List RouteRow → Policy → Result Planner PlannerFault
-made_of_places places steps rows policy = planner_unless (planner_fault places steps rows policy) (planner_of places steps rows policy)
+-- The result of making a planner's problem: it if there is no fault, or else all faults.
+abbrev pub IsMade : List Place → List Step → List RouteRow → Policy → Result Planner (Vec PlannerFault) → Type 0
+IsMade places steps rows policy (Ok P) = (P ≡ planner_of places steps rows policy) × (planner_faults places steps rows policy ≡ [])
+IsMade places steps rows policy (Err found) = (found.items ≡ planner_faults places steps rows policy) × ¬ (found.items ≡ [])
 
 -- ---- problems without faults
 

@@ -1,12 +1,16 @@
 //! Faults of planners' problems.
-ghost use Rattle.std.specs.Prelude.{◌≡◌, ◌≤◌, ◌<ℤ◌, ◌≤ℤ◌, ◌+ℤ◌, ◌^◌, Some, None, pos, suc, ◌||◌, length, int_lt};
+ghost use Rattle.std.specs.Prelude.{◌≡◌, ◌≤◌, ◌<ℤ◌, ◌≤ℤ◌, ◌+ℤ◌, ◌++◌, ◌^◌, IfOk, OnOk, pos, suc, ◌||◌, length, map, int_lt};
 ghost use Rattle.std.specs.List.{list_any};
-ghost use Rattle.mcf_places.specs.PlannerFaults.{earning, first_open, first_returning, is_open, is_returning, open_fault, place_earns, planner_fault};
+ghost use Rattle.mcf_places.specs.declared.faults.PlannerFault.TheVariants.{BothWays, NoLimit, Routes};
+ghost use Rattle.mcf_places.specs.PlannerFaults.{earning, fault_if, is_open, is_returning, numbers_of, place_earns, planner_faults};
 ghost use Rattle.mcf_places.specs.PlannerLaws.{has_bounds};
 ghost use Rattle.mcf_places.specs.Planners.{all_given, all_wanted, given, unit_penalty, wanted};
 
-use crate::places::{Bounds, Place, Policy};
-use mcf_model::{ModelFault, RouteRow, Step, first_fault, some_earn};
+use crate::places::{Bounds, Place};
+use crate::problem::Parts;
+use mcf_model::{ModelFault, RouteRow, all_faults, some_earn};
+use mcf_text::NoMemory;
+use std::alloc::Global;
 
 /// The greatest number of places that a planner's problem may have.
 pub const PLACE_LIMIT: usize = 1_000_000_000;
@@ -25,7 +29,7 @@ pub enum PlannerFault {
     Penalty,
     /// The bounds of this place, counted from 1, have no limit, and some cost is below 0.
     NoLimit(usize),
-    /// The first route that has a fault, and its first fault.
+    /// A route that has a fault, and the fault.
     Routes(ModelFault),
     /// This route, counted from 1, is used both ways, and what passes through one of its ends has
     /// bounds. Two routes, one for each way, may take its place.
@@ -111,29 +115,27 @@ fn places_earn(places: &[Place]) -> bool
     false
 }
 
-// Returns the first place whose bounds have no limit.
-fn first_open(places: &[Place]) -> Option<usize>
-    ensures { result ≡ first_open 1 places.now }
+// Appends a fault, if the test holds.
+fn push_if(found: &mut Vec<PlannerFault>, test: bool, fault: PlannerFault) -> Result<(), NoMemory>
+    ensures { OnOk result (found.new.items ≡ found.old.items ++ fault_if test fault) }
 {
-    for place in 0..places.len() {
-        if is_open(places[place].through) {
-            return Some(place + 1);
-        }
+    if test {
+        found.push(fault)?;
     }
-    None
+    Ok(())
 }
 
-// Returns the first place whose bounds have no limit, if some cost is below 0.
-fn open_fault(earning: bool, places: &[Place]) -> Option<PlannerFault>
-    ensures { result ≡ open_fault earning places.now }
+// Appends the places whose bounds have no limit.
+fn push_open(found: &mut Vec<PlannerFault>, places: &[Place]) -> Result<(), NoMemory>
+    ensures { OnOk result (found.new.items ≡ found.old.items ++ map NoLimit (numbers_of (λ p. is_open p.through) 1 places.now)) }
 {
-    if !earning {
-        return None;
+    for place in 0..places.len() {
+        let test = is_open(places[place].through);
+        if test {
+            found.push(PlannerFault::NoLimit(place + 1))?;
+        }
     }
-    match first_open(places) {
-        Some(place) => Some(PlannerFault::NoLimit(place)),
-        None => None,
-    }
+    Ok(())
 }
 
 // Returns whether what passes through the place with a number has bounds.
@@ -157,16 +159,31 @@ fn is_returning(places: &[Place], row: RouteRow) -> bool
     row.both && (at_tail || at_head)
 }
 
-// Returns the first such route.
-fn first_returning(places: &[Place], rows: &[RouteRow]) -> Option<usize>
-    ensures { result ≡ first_returning places.now 1 rows.now }
+// Appends such routes.
+fn push_returning(
+    found: &mut Vec<PlannerFault>,
+    places: &[Place],
+    rows: &[RouteRow],
+) -> Result<(), NoMemory>
+    ensures { OnOk result (found.new.items ≡ found.old.items ++ map BothWays (numbers_of (is_returning places.now) 1 rows.now)) }
 {
     for route in 0..rows.len() {
-        if is_returning(places, rows[route]) {
-            return Some(route + 1);
+        let test = is_returning(places, rows[route]);
+        if test {
+            found.push(PlannerFault::BothWays(route + 1))?;
         }
     }
-    None
+    Ok(())
+}
+
+// Appends faults of routes.
+fn push_routes(found: &mut Vec<PlannerFault>, faults: &[ModelFault]) -> Result<(), NoMemory>
+    ensures { OnOk result (found.new.items ≡ found.old.items ++ map Routes faults.now) }
+{
+    for place in 0..faults.len() {
+        found.push(PlannerFault::Routes(faults[place]))?;
+    }
+    Ok(())
 }
 
 // Returns whether the sum of all that places give and all that they want is too great.
@@ -187,36 +204,40 @@ pub(crate) fn unit_penalty(penalty: Option<i64>) -> i64
     }
 }
 
-// Returns the first fault of a planner's problem.
-pub(crate) fn planner_fault(
-    places: &[Place],
-    steps: &[Step],
-    rows: &[RouteRow],
-    policy: Policy,
-) -> Option<PlannerFault>
-    ensures { result ≡ planner_fault places.now steps.now rows.now policy }
+// Returns whether some cost of a planner's problem is below 0.
+fn earning(parts: Parts<'_>) -> bool
+    ensures { result ≡ earning parts.entry.places.now parts.entry.steps.now parts.entry.rows.now }
 {
-    if places.len() > PLACE_LIMIT {
-        return Some(PlannerFault::Size);
+    let places_earn = places_earn(parts.places);
+    let routes_earn = some_earn(parts.steps, parts.rows);
+    places_earn || routes_earn
+}
+
+// Returns all faults of a planner's problem.
+pub(crate) fn planner_faults(alloc: Global, parts: Parts<'_>) -> Result<Vec<PlannerFault>, NoMemory>
+    ensures { IfOk result (λ found. found.items ≡ planner_faults parts.entry.places.now parts.entry.steps.now parts.entry.rows.now parts.entry.policy) }
+{
+    let Parts {
+        places,
+        steps,
+        rows,
+        policy,
+    } = parts;
+    let earning = earning(parts);
+    let of_routes = all_faults(alloc, places.len(), steps, earning, rows)?;
+    let is_dear = is_too_much(places);
+    let mut found = Vec::new(alloc);
+    push_if(&mut found, places.len() > PLACE_LIMIT, PlannerFault::Size)?;
+    push_if(&mut found, is_dear, PlannerFault::Total)?;
+    push_if(
+        &mut found,
+        unit_penalty(policy.penalty) < 0,
+        PlannerFault::Penalty,
+    )?;
+    if earning {
+        push_open(&mut found, places)?;
     }
-    if is_too_much(places) {
-        return Some(PlannerFault::Total);
-    }
-    if unit_penalty(policy.penalty) < 0 {
-        return Some(PlannerFault::Penalty);
-    }
-    let places_earn = places_earn(places);
-    let routes_earn = some_earn(steps, rows);
-    let earning = places_earn || routes_earn;
-    let open = open_fault(earning, places);
-    if open.is_some() {
-        return open;
-    }
-    if let Some(fault) = first_fault(places.len(), steps, earning, rows) {
-        return Some(PlannerFault::Routes(fault));
-    }
-    match first_returning(places, rows) {
-        Some(route) => Some(PlannerFault::BothWays(route)),
-        None => None,
-    }
+    push_routes(&mut found, &of_routes)?;
+    push_returning(&mut found, places, rows)?;
+    Ok(found)
 }

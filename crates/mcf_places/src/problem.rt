@@ -2,11 +2,13 @@
 ghost use Rattle.std.specs.Prelude.{◌≡◌, IfOk, length, map};
 ghost use Rattle.mcf_model.specs.Tables.{route_of};
 ghost use Rattle.mcf_model.specs.Faults.{AreListed};
-ghost use Rattle.mcf_places.specs.PlannerFaults.{IsProperPlanner, made_of_places};
+ghost use Rattle.mcf_places.specs.PlannerFaults.{IsMade, IsProperPlanner};
 
-use crate::faults::{PlannerFault, planner_fault};
+use crate::faults::{PlannerFault, planner_faults};
 use crate::places::{Place, Policy};
 use mcf_model::{RouteRow, Step};
+use mcf_text::NoMemory;
+use std::alloc::Global;
 use std::marker::Model;
 
 /// A planner's problem without faults: places with bounds on what passes through them, routes
@@ -49,25 +51,35 @@ impl Planner {
     /// whether supplies may stay and demands may be missing.
     ///
     /// # Errors
-    /// The first fault, in the order of the cases of `PlannerFault`.
+    ///
+    /// All faults, in the order of the cases of `PlannerFault`, and then of places, routes and
+    /// the faults of each route; `NoMemory` if an allocation is refused.
     pub fn of(
+        alloc: Global,
         places: Vec<Place>,
         steps: Vec<Step>,
         rows: Vec<RouteRow>,
         policy: Policy,
-    ) -> Result<Planner, PlannerFault>
-        ensures exact { result ≡ made_of_places places.items steps.items rows.items policy }
-        ensures proper { IfOk result IsProperPlanner }
+    ) -> Result<Result<Planner, Vec<PlannerFault>>, NoMemory>
+        ensures exact { IfOk result (IsMade places.items steps.items rows.items policy) }
+        ensures proper { IfOk result (λ made. IfOk made IsProperPlanner) }
     {
-        match planner_fault(&places, &steps, &rows, policy) {
-            Some(fault) => Err(fault),
-            None => Ok(Planner {
-                places,
-                steps,
-                rows,
-                policy,
-            }),
+        let parts = Parts {
+            places: &places,
+            steps: &steps,
+            rows: &rows,
+            policy,
+        };
+        let faults = planner_faults(alloc, parts)?;
+        if !faults.is_empty() {
+            return Ok(Err(faults));
         }
+        Ok(Ok(Planner {
+            places,
+            steps,
+            rows,
+            policy,
+        }))
     }
 
     /// Returns the places, in order.

@@ -1,5 +1,5 @@
 //! Planners' problems: their faults, and what they say of themselves.
-use mcf_model::{ModelFault, RouteFault, RouteRow, Step, first_fault, some_earn};
+use mcf_model::{ModelFault, RouteFault, RouteRow, Step, all_faults, some_earn};
 use mcf_places::{Bounds, Place, Planner, PlannerFault, Policy, model_of, plan_of};
 use mcf_text::NoMemory;
 use std::alloc::Global;
@@ -28,14 +28,14 @@ const WIDE: Bounds = Bounds {
     cost: 1,
 };
 
-// The second of two places, a route between them, a penalty, and the fault of the problem.
+// The second of two places, a route between them, a penalty, and the faults of the problem.
 #[derive(Clone, Copy)]
 struct FaultRow {
     supply: i64,
     through: Option<Bounds>,
     route: RouteRow,
     penalty: Option<i64>,
-    fault: Option<PlannerFault>,
+    faults: &'static [PlannerFault],
 }
 
 const GOOD: FaultRow = FaultRow {
@@ -43,24 +43,34 @@ const GOOD: FaultRow = FaultRow {
     through: Some(WIDE),
     route: ROUTE,
     penalty: Some(5),
-    fault: None,
+    faults: &[],
 };
 
-const ROWS: [FaultRow; 8] = [
+const UNLIMITED: PlannerFault = PlannerFault::Routes(ModelFault {
+    route: 1,
+    what: RouteFault::NoLimit,
+});
+
+const NOWHERE: PlannerFault = PlannerFault::Routes(ModelFault {
+    route: 1,
+    what: RouteFault::Place,
+});
+
+const ROWS: [FaultRow; 9] = [
     GOOD,
     FaultRow {
         supply: i64::MIN,
-        fault: Some(PlannerFault::Total),
+        faults: &[PlannerFault::Total],
         ..GOOD
     },
     FaultRow {
         penalty: Some(-1),
-        fault: Some(PlannerFault::Penalty),
+        faults: &[PlannerFault::Penalty],
         ..GOOD
     },
     FaultRow {
         through: Some(Bounds { cost: -1, ..WIDE }),
-        fault: Some(PlannerFault::NoLimit(2)),
+        faults: &[PlannerFault::NoLimit(2), UNLIMITED],
         ..GOOD
     },
     FaultRow {
@@ -69,10 +79,7 @@ const ROWS: [FaultRow; 8] = [
             most: Some(9),
             ..WIDE
         }),
-        fault: Some(PlannerFault::Routes(ModelFault {
-            route: 1,
-            what: RouteFault::NoLimit,
-        })),
+        faults: &[UNLIMITED],
         ..GOOD
     },
     FaultRow {
@@ -80,7 +87,7 @@ const ROWS: [FaultRow; 8] = [
             both: true,
             ..ROUTE
         },
-        fault: Some(PlannerFault::BothWays(1)),
+        faults: &[PlannerFault::BothWays(1)],
         ..GOOD
     },
     FaultRow {
@@ -93,16 +100,34 @@ const ROWS: [FaultRow; 8] = [
     },
     FaultRow {
         route: RouteRow { head: 3, ..ROUTE },
-        fault: Some(PlannerFault::Routes(ModelFault {
-            route: 1,
-            what: RouteFault::Place,
-        })),
+        faults: &[NOWHERE],
+        ..GOOD
+    },
+    FaultRow {
+        supply: i64::MIN,
+        penalty: Some(-1),
+        through: Some(Bounds { cost: -1, ..WIDE }),
+        route: RouteRow {
+            head: 3,
+            both: true,
+            ..ROUTE
+        },
+        faults: &[
+            PlannerFault::Total,
+            PlannerFault::Penalty,
+            PlannerFault::NoLimit(2),
+            NOWHERE,
+            UNLIMITED,
+        ],
         ..GOOD
     },
 ];
 
-// Returns the problem of a row, or its fault.
-fn problem_of(alloc: Global, row: &FaultRow) -> Result<Result<Planner, PlannerFault>, NoMemory> {
+// The result of making a problem.
+type Made = Result<Planner, Vec<PlannerFault>>;
+
+// Returns the problem of a row, or its faults.
+fn problem_of(alloc: Global, row: &FaultRow) -> Result<Made, NoMemory> {
     let first = Place {
         supply: 4,
         through: None,
@@ -118,20 +143,19 @@ fn problem_of(alloc: Global, row: &FaultRow) -> Result<Result<Planner, PlannerFa
         penalty: row.penalty,
         ..POLICY
     };
-    Ok(Planner::of(places, steps, routes, policy))
+    Planner::of(alloc, places, steps, routes, policy)
 }
 
-// Returns whether the fault of a row is the expected one.
+// Returns whether the faults of a row are the expected ones.
 fn is_as_said(alloc: Global, row: &FaultRow) -> Result<bool, NoMemory> {
-    let found = match problem_of(alloc, row)? {
-        Ok(_) => None,
-        Err(fault) => Some(fault),
-    };
-    Ok(found == row.fault)
+    match problem_of(alloc, row)? {
+        Ok(_) => Ok(row.faults.is_empty()),
+        Err(faults) => Ok(faults.as_slice() == row.faults),
+    }
 }
 
 #[test]
-fn the_first_fault_is_named(rt: HostRuntime) -> Result<(), Fail> {
+fn all_faults_are_named(rt: HostRuntime) -> Result<(), Fail> {
     let rows = ROWS;
     for row in &rows {
         let fits = is_as_said(rt.alloc(), row)?;
@@ -188,11 +212,11 @@ fn routes_are_judged_alone(rt: HostRuntime) -> Result<(), Fail> {
     let steps: [Step; 0] = [];
     let rows = [ROUTE];
     assert!(rt; !some_earn(&steps, &rows));
-    let fault = first_fault(2, &steps, true, &rows);
-    let want = ModelFault {
+    let found = all_faults(rt.alloc(), 2, &steps, true, &rows)?;
+    let want = [ModelFault {
         route: 1,
         what: RouteFault::NoLimit,
-    };
-    assert!(rt; fault == Some(want));
+    }];
+    assert!(rt; found.as_slice() == want.as_slice());
     Ok(())
 }

@@ -134,7 +134,7 @@ fn problem_of(
     let places = vec![in alloc; factory, depot, first, second]?;
     let steps: Vec<Step> = Vec::new(alloc);
     let routes = routes_of(alloc, limit)?;
-    match Planner::of(places, steps, routes, policy) {
+    match Planner::of(alloc, places, steps, routes, policy)? {
         Ok(planner) => Ok(Some(planner)),
         Err(_) => Ok(None),
     }
