@@ -1,7 +1,7 @@
 #![tactic(auto)]
 
-//! The tests of texts, tables and their numbers, instances, answers and the checker: what no clause
-//! says, and each public call with ample memory.
+//! The tests of texts, tables, their names and numbers, instances, answers and the checker: what no
+//! clause says, and each public call with ample memory.
 //!
 //! They stand in a crate of their own, since a crate with tests is proved twice, and apart from
 //! those of the solver, so that their proofs wait for no engine. It has no other function.
@@ -22,6 +22,8 @@ mod decimals;
 mod feeding;
 #[cfg(test)]
 mod instances;
+#[cfg(test)]
+mod names;
 #[cfg(test)]
 mod sets;
 #[cfg(test)]

@@ -1,0 +1,3 @@
+pub mod NameFaults
+pub mod Names
+pub mod Private
