@@ -2,6 +2,7 @@ pub mod Blanks
 pub mod Heads
 pub mod Laws
 pub mod LineEnds
+pub mod NamedSeparators
 pub mod Private
 pub mod Rows
 pub mod Separators

@@ -4,8 +4,8 @@
 //!
 //! It builds on `mcf_text`. The definitions are in `specs/`: `Rows` says what a field and a row
 //! are, `Texts` which records a text says and which fault it has, `LineEnds` and `Blanks` what
-//! doesn't count, `Written` how rows are a text, `Heads` which column has a head, `Separators`
-//! what separates fields.
+//! doesn't count, `Written` how rows are a text, `Heads` which column has a head, `Separators` and
+//! `NamedSeparators` what separates fields.
 
 mod blanks;
 mod cells;
@@ -15,6 +15,7 @@ mod fields;
 mod heads;
 mod laws;
 mod line_ends;
+mod named;
 mod reading;
 mod records;
 mod rows;
@@ -23,6 +24,7 @@ mod separators;
 pub use fault::{FieldFault, TextFault};
 pub use heads::{CellPlace, Column};
 pub use laws::{texts_are_unambiguous, written_tables_read_back};
+pub use named::named_separator;
 pub use reading::records_of;
 pub use records::Records;
 pub use separators::separator_of;

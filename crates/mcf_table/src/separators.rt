@@ -130,7 +130,7 @@ fn is_end_quote(text: &[u8]) -> bool
 }
 
 // The first line that isn't blank; empty if there is none.
-fn first_written(text: &[u8]) -> &[u8]
+pub(crate) fn first_written(text: &[u8]) -> &[u8]
     ensures { result.now ≡ first_written (slice_split ends_line text.now) }
 {
     let mut rest = text;

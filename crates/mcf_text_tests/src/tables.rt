@@ -1,7 +1,7 @@
 //! Texts of tables: `python/mcf_plan/tables.py`, which reads them by Python's module csv, gives the
 //! same rows, lines and faults.
 use mcf_table::{
-    CellPlace, Column, FieldFault, Records, TextFault, records_of, separator_of,
+    CellPlace, Column, FieldFault, Records, TextFault, named_separator, records_of, separator_of,
     texts_are_unambiguous, written_tables_read_back,
 };
 use mcf_text::NoMemory;
@@ -133,6 +133,29 @@ static SEPARATORS: [(&[u8], u8); 12] = [
     (b"from", b','),
 ];
 
+// Texts, and the separators that they name; the tools also take a quote at one end alone, and a
+// separator beyond ASCII.
+static NAMED: [(&[u8], Option<u8>); 18] = [
+    (b"sep=;\na;b\n", Some(b';')),
+    (b"\"sep=,\"\r\na,b", Some(b',')),
+    (b"\n \nSEP=\t\nx", Some(b'\t')),
+    (b"\xEF\xBB\xBFSep=| \t\xC2\xA0", Some(b'|')),
+    (b"\"sEp=;\"  ", Some(b';')),
+    (b"sep==\na=b", Some(b'=')),
+    (b"sep= \n", None),
+    (b"sep=", None),
+    (b"sep=\"", None),
+    (b"sep=;;", None),
+    (b" sep=;", None),
+    (b"set=;", None),
+    (b"sep=\xC3\xA4", None),
+    (b"", None),
+    (b"a;b\nsep=;", None),
+    (b"\"sep=;", None),
+    (b"sep=;\"", None),
+    (b"\"sep=\"\"", None),
+];
+
 // The rows of a text, whose fields a semicolon, a tab or a comma separates.
 fn read(alloc: Global, text: &[u8], separator: u8) -> Result<Result<Records, TextFault>, NoMemory> {
     match separator {
@@ -239,6 +262,14 @@ fn tables_have_cells_beyond(rt: HostRuntime) -> Result<(), Fail> {
 fn heads_show_separators(rt: HostRuntime) -> Result<(), Fail> {
     for (text, wanted) in SEPARATORS {
         assert!(rt; separator_of(text, &HEADS) == wanted);
+    }
+    Ok(())
+}
+
+#[test]
+fn texts_name_separators(rt: HostRuntime) -> Result<(), Fail> {
+    for (text, wanted) in NAMED {
+        assert!(rt; named_separator(text) == wanted);
     }
     Ok(())
 }
