@@ -1,6 +1,6 @@
 -- What a cell says as a number.
 -- Source: own
-use Rattle.std.specs.Prelude.{◌≡◌, ℕ, ◌-◌, ◌==◌, nat_lt, nat_eq, Bool, not, ◌&&◌, ◌||◌, if◌then◌else◌, List, [], ◌∷◌, length, take, filter, Option, Some, None, unwrap_or, FitsSigned, true, false, ◌⊎◌}
+use Rattle.std.specs.Prelude.{◌≡◌, ℕ, ◌-◌, ◌==◌, nat_lt, nat_eq, Bool, not, ◌&&◌, ◌||◌, if◌then◌else◌, List, [], ◌∷◌, length, take, filter, Option, Some, None, unwrap_or, Result, Ok, Err, ℤ, pos, neg_ℤ, int_le, int_lt, ◌^◌, FitsSigned, true, false, ◌⊎◌}
 use Rattle.std.specs.Int.{w128}
 use Rattle.std.specs.Char.{is_ascii_digit}
 use Rattle.std.specs.List.{list_any, before_first, after_first, position_or_len, starts_with, suffix_len}
@@ -106,3 +106,16 @@ IsFault mark cell fault =
     × ¬ (FitsSigned w128 ((number_value (unwrap_or mark Point) cell).mantissa)))
     ⊎ ((fault ≡ text_fault (unwrap_or mark Point) cell) × (is_open mark cell ≡ false)
     × (is_number (unwrap_or mark Point) cell ≡ false))
+
+-- the whole number fits 128 bits, one of which is its sign
+abbrev pub fits_128 : ℤ → Bool
+fits_128 z = int_le (neg_ℤ (pos (2 ^ 127))) z && int_lt z (pos (2 ^ 127))
+
+-- What the cell says, if this mark is settled, or a point, if none is: its number, or why it isn't
+-- read.
+unfoldable pub read_number : Option Mark → List ℕ → Result Decimal NumberFault
+read_number mark cell =
+    if is_open mark cell then Err Either
+    else if not (is_number (unwrap_or mark Point) cell) then Err (text_fault (unwrap_or mark Point) cell)
+    else if fits_128 ((number_value (unwrap_or mark Point) cell).mantissa) then Ok (number_value (unwrap_or mark Point) cell)
+    else Err TooLong

@@ -2,7 +2,7 @@
 ghost use Rattle.std.specs.Prelude.{◌≡◌, IfOk, IfErr};
 ghost use Rattle.std.specs.List.{list_any};
 ghost use Rattle.mcf_decimal.specs.Exponents.{is_mark};
-ghost use Rattle.mcf_decimal.specs.Numbers.{IsFault, IsNumber, is_either, is_open, mark_in, mark_inside, text_fault};
+ghost use Rattle.mcf_decimal.specs.Numbers.{IsFault, IsNumber, is_either, is_open, mark_in, mark_inside, read_number, text_fault};
 ghost use Rattle.mcf_decimal.specs.Signs.{unsigned};
 
 use crate::cells::{is_number, number_value, split_at_mark};
@@ -21,9 +21,11 @@ use crate::signs::split_sign;
 /// `Either` if no mark is settled and the cell is another number under each; `TooLong` if the
 /// digits don't fit 128 bits; or else, for no number, `Empty`, `Exponent`, `OtherMark` (a number,
 /// if the other mark stands before decimals) or `NoNumber`, the first that is so.
+#[tactic(auto, unfolding(crate::specs::Numbers::read_number))]
 pub fn number(cell: &[u8], mark: Option<Mark>) -> Result<Decimal, NumberFault>
     ensures ok { IfOk result (IsNumber mark cell.now) }
     ensures err { IfErr result (IsFault mark cell.now) }
+    ensures value { result ≡ read_number mark cell.now }
 {
     if is_open(mark, cell) {
         return Err(NumberFault::Either);
