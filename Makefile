@@ -44,7 +44,7 @@ edits: kit
 
 # Refuses each allocation in turn in tests of a few worked rows, or with ALL=1 in every test. It
 # proves and builds the tests first, which takes as long as make.
-WITH_TESTS = mcf_suite_tests mcf_text_tests mcf_net_tests mcf_tests mcf_engine_tests mcf_matrix_tests mcf_plan_tests
+WITH_TESTS = mcf_suite_tests mcf_text_tests mcf_reading_tests mcf_net_tests mcf_tests mcf_engine_tests mcf_matrix_tests mcf_plan_tests
 memory-test: kit
 	@python3 scripts/refuse_memory.py $(if $(ALL),,--only six_rows) $(WITH_TESTS)
 

@@ -1,0 +1,4 @@
+pub mod HeadLemmas
+pub mod MarkLemmas
+pub mod Ranges
+pub mod StepLemmas

@@ -1,0 +1,153 @@
+//! The heads of the columns that are read.
+ghost use Rattle.std.specs.Prelude.{◌≡◌, ◌+◌, ◌<◌, ◌^◌, ◌++◌, IfOk, OnOk, length};
+ghost use Rattle.std.specs.List.{flat_map, range_with_len};
+ghost use Rattle.mcf_table.specs.Heads.{heads};
+ghost use Rattle.mcf_reading.specs.HeadTexts.{column_under, further_count, head_step, head_text, head_word, is_there, route_heads, step_heads, step_text};
+ghost use Rattle.mcf_reading.specs.ShownMarks.{route_number_heads};
+
+use crate::locations::Head;
+use mcf_table::{Column, Records};
+use mcf_text::{NoMemory, put_number};
+use std::alloc::Global;
+
+// The word of a head.
+fn head_word(head: Head) -> &'static [u8]
+    ensures { result.now ≡ head_word head }
+{
+    match head {
+        Head::Name => b"name",
+        Head::Supply => b"supply",
+        Head::Least => b"least",
+        Head::Most(_) => b"most",
+        Head::Cost(_) => b"cost",
+        Head::From => b"from",
+        Head::To => b"to",
+        Head::Both => b"both",
+    }
+}
+
+// The step of which a head speaks, or the first.
+fn head_step(head: Head) -> usize
+    ensures { result ≡ head_step head }
+{
+    match head {
+        Head::Most(step) => step,
+        Head::Cost(step) => step,
+        _ => 1,
+    }
+}
+
+// Appends, from the second step on, a space and the number of the step.
+fn put_step(text: &mut Vec<u8>, step: usize) -> Result<(), NoMemory>
+    ensures { OnOk result (text.new.items ≡ text.old.items ++ step_text step) }
+{
+    if step < 2 {
+        return Ok(());
+    }
+    text.push(b' ')?;
+    put_number(text, step as i128)
+}
+
+// The text of a head.
+#[tactic(auto, unfolding(crate::specs::HeadTexts::head_text))]
+fn head_text(alloc: Global, head: Head) -> Result<Vec<u8>, NoMemory>
+    ensures { IfOk result (λ made. made.items ≡ head_text head) }
+{
+    let mut text = Vec::new(alloc);
+    text.extend_from_slice(head_word(head))?;
+    put_step(&mut text, head_step(head))?;
+    Ok(text)
+}
+
+// The column of a table that has a head.
+#[tactic(auto, unfolding(crate::specs::HeadTexts::column_under))]
+pub(crate) fn column_under(alloc: Global, records: &Records, head: Head) -> Result<Column, NoMemory>
+    ensures { IfOk result (λ column. column ≡ column_under records.now head) }
+{
+    let text = head_text(alloc, head)?;
+    Ok(records.column_of(&text))
+}
+
+// Whether one column or more has the head.
+fn is_there(column: Column) -> bool
+    ensures { result ≡ is_there column }
+{
+    match column {
+        Column::Missing => false,
+        _ => true,
+    }
+}
+
+// Whether a column has the head of a step's most.
+fn has_step(alloc: Global, records: &Records, step: usize) -> Result<bool, NoMemory>
+    ensures { IfOk result (λ has. has ≡ is_there (column_under records.now (Head.Most step))) }
+{
+    let column = column_under(alloc, records, Head::Most(step))?;
+    Ok(is_there(column))
+}
+
+// How many heads there are.
+fn head_count(records: &Records) -> usize
+    ensures { result ≡ length (heads records.now) }
+{
+    if records.len() == 0 {
+        0
+    } else {
+        records.cell_count(0)
+    }
+}
+
+// How many steps follow the first.
+pub(crate) fn further_count(alloc: Global, records: &Records) -> Result<usize, NoMemory>
+    ensures count { IfOk result (λ count. count ≡ further_count records.now) }
+    ensures few { IfOk result (λ count. count + 4 < 2 ^ 64) }
+{
+    let limit = head_count(records).saturating_sub(4);
+    for count in 0..limit {
+        let has = has_step(alloc, records, 2 + count)?;
+        if !has {
+            return Ok(count);
+        }
+    }
+    Ok(limit)
+}
+
+// Appends the heads of steps.
+fn push_steps(heads: &mut Vec<Head>, first: usize, count: usize) -> Result<(), NoMemory>
+    requires { first + count < 2 ^ 64 }
+    ensures { OnOk result (heads.new.items ≡ heads.old.items ++ flat_map step_heads (range_with_len first count)) }
+{
+    for place in 0..count {
+        heads.push(Head::Most(first + place))?;
+        heads.push(Head::Cost(first + place))?;
+    }
+    Ok(())
+}
+
+// The heads that are looked for in the table of routes.
+pub(crate) fn route_heads(alloc: Global, records: &Records) -> Result<Vec<Head>, NoMemory>
+    ensures { IfOk result (λ made. made.items ≡ route_heads records.now) }
+{
+    let count = further_count(alloc, records)?;
+    let mut heads = vec![in alloc;
+        Head::From,
+        Head::To,
+        Head::Most(1),
+        Head::Cost(1),
+        Head::Least,
+        Head::Both,
+    ]?;
+    push_steps(&mut heads, 2, count)?;
+    Ok(heads)
+}
+
+// The heads of the columns of numbers in the table of routes.
+pub(crate) fn route_number_heads(alloc: Global, records: &Records) -> Result<Vec<Head>, NoMemory>
+    ensures { IfOk result (λ made. made.items ≡ route_number_heads records.now) }
+{
+    let count = further_count(alloc, records)?;
+    let mut heads = Vec::new(alloc);
+    heads.push(Head::Least)?;
+    push_steps(&mut heads, 1, count + 1)?;
+    Ok(heads)
+}

@@ -1,0 +1,13 @@
+#![tactic(auto)]
+
+//! Tests of the reading of two tables: one of each kind of fault, and each public call with ample
+//! memory.
+//!
+//! They are a crate of their own, since a crate with tests is proved twice.
+
+#[cfg(test)]
+mod entries;
+#[cfg(test)]
+mod faults;
+#[cfg(test)]
+mod texts;
