@@ -14,4 +14,6 @@ mod places_planned;
 #[cfg(test)]
 mod plans;
 #[cfg(test)]
+mod roster;
+#[cfg(test)]
 mod tried;

@@ -1,0 +1,10 @@
+mod RangeSums
+mod PairSums
+mod Balances
+mod Exchange
+mod SetSums
+mod Contests
+mod ProperRosters
+mod ProperModels
+mod RowSteps
+mod ToldAnswers

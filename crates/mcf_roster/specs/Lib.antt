@@ -1,0 +1,16 @@
+pub use Rattle.mcf_model.specs.Model
+pub use Rattle.mcf_model.specs.Tables
+pub use Rattle.mcf_model.specs.Bottlenecks
+pub use Rattle.mcf_model.specs.Faults
+pub use Rattle.mcf_model.specs.Laws
+pub use Rattle.mcf_model.specs.Arcs
+pub use Rattle.mcf_instance.specs.Arrays
+pub use Rattle.mcf_flows.specs.Limits
+pub mod Rosters
+pub mod Models
+pub mod RosterFaults
+pub mod Competitions
+pub mod RosterLaws
+pub mod RosterAnswers
+pub mod TableRows
+pub mod ToldTests
