@@ -4,10 +4,10 @@ use mcf_flows::{Code, Side};
 use mcf_instance::ArrayFault;
 use mcf_planner::Planner as Engine;
 use mcf_roster::{
-    Competition, LeastChoice, Pair, Range, Roster, RosterAnswer, RosterFault, choice_of, least,
-    model_of,
+    Competition, LeastChoice, Origin, Pair, Range, Roster, RosterAnswer, RosterFault, choice_of,
+    least, model_of, origin_of,
 };
-use mcf_text::{ArcId, NoMemory};
+use mcf_text::{ArcId, NoMemory, NodeId};
 use std::alloc::Global;
 use std::test::Fail;
 
@@ -239,5 +239,28 @@ fn a_cost_beyond_the_limits(rt: HostRuntime) -> Result<(), Fail> {
     let answer = answer_of(rt.alloc(), &[ONE], &[ONE], &pairs)?;
     let want = ArrayFault::Arc(ArcId::new(2), Code::Cost);
     assert!(rt; fault_in(&answer) == Some(want));
+    Ok(())
+}
+
+// After the arcs of two pairs, two persons have one each, and then a thing.
+#[test]
+fn faults_of_the_network_have_origins(rt: HostRuntime) -> Result<(), Fail> {
+    let pairs = [pair(1, 1, 5), pair(2, 1, 6)];
+    let Ok(roster) = made(rt.alloc(), &[ONE, ONE], &[ONE], &pairs)? else {
+        assert!(rt; false);
+        return Ok(());
+    };
+    let arcs = [
+        (2, Origin::OfPair(2)),
+        (3, Origin::OfPerson(1)),
+        (4, Origin::OfPerson(2)),
+        (5, Origin::OfThing(1)),
+    ];
+    for (arc, want) in &arcs {
+        let fault = ArrayFault::Arc(ArcId::new(*arc), Code::Cost);
+        assert!(rt; origin_of(&roster, fault) == *want);
+    }
+    let hub = origin_of(&roster, ArrayFault::Supply(NodeId::new(4)));
+    assert!(rt; hub == Origin::OfAll);
     Ok(())
 }

@@ -7,4 +7,5 @@ mod Contests
 mod ProperRosters
 mod ProperModels
 mod RowSteps
+mod OriginLists
 mod ToldAnswers

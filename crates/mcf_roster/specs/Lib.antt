@@ -12,5 +12,6 @@ pub mod RosterFaults
 pub mod Competitions
 pub mod RosterLaws
 pub mod RosterAnswers
+pub mod Origins
 pub mod TableRows
 pub mod ToldTests
