@@ -55,6 +55,7 @@ lint:
 	@scripts/pictures.py check
 	@scripts/allocations.py
 	@python3 python/tests/plans.py check
+	@python3 python/tests/rosters.py check
 	@scripts/lint.sh
 
 quick:

@@ -6,6 +6,8 @@
 //! They are a crate of their own, since a crate with tests is proved twice.
 
 #[cfg(test)]
+mod chosen;
+#[cfg(test)]
 mod faults;
 #[cfg(test)]
 mod places;
