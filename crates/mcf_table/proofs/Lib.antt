@@ -4,6 +4,7 @@ pub mod CellLemmas
 pub mod CutLemmas
 pub mod FieldLemmas
 pub mod HeadLemmas
+pub mod HeadRowLemmas
 pub mod LineEndLemmas
 pub mod RowLemmas
 pub mod SeparatorLemmas

@@ -1,4 +1,5 @@
 pub mod Blanks
+pub mod HeadRows
 pub mod Heads
 pub mod Laws
 pub mod LineEnds

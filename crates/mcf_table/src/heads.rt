@@ -7,6 +7,9 @@ use crate::records::Records;
 use mcf_text::NoMemory;
 use std::alloc::Global;
 
+// How many rows may be that of the heads.
+const LOOKED: usize = 10;
+
 /// Where a table has the column with a head.
 #[derive(Clone, Copy, Debug, PartialEq, Eq)]
 pub enum Column {
@@ -28,7 +31,9 @@ pub struct CellPlace {
 }
 
 impl Records {
-    ghost use Rattle.std.specs.Prelude.{◌≡◌, ◌<◌, ◌++◌, IfOk, OnOk, length};
+    ghost use Rattle.std.specs.Prelude.{◌≡◌, ◌<◌, ◌++◌, IfOk, OnOk, length, map};
+    ghost use Rattle.std.specs.List.{list_all};
+    ghost use Rattle.mcf_table.specs.HeadRows.{has_cell, head_row};
     ghost use Rattle.mcf_table.specs.Heads.{beyond, cells_of, column_of, filled_from, heads, in_row};
 
     /// The column with this head. The cells of the first row are the heads; an ASCII letter is the
@@ -64,6 +69,42 @@ impl Records {
             row += 1;
         }
         Ok(found)
+    }
+
+    /// The row of the heads: the first of the ten rows from this one on that has all the wanted
+    /// heads, or this one if none of them has. Rows are counted from 0; an ASCII letter is the same
+    /// in either case.
+    pub fn head_row(&self, from: usize, wanted: &[&[u8]]) -> usize
+        ensures { result ≡ head_row from (map (λ head. head.now) wanted.now) self.now }
+    {
+        let end = self.len().min(from.saturating_add(LOOKED));
+        'rows: for row in from..end {
+            if self.has_heads(row, wanted) {
+                return row;
+            }
+        }
+        from
+    }
+
+    // Whether the row has all these heads.
+    fn has_heads(&self, row: usize, wanted: &[&[u8]]) -> bool
+        requires { row < length self.now }
+        ensures { result ≡ list_all (λ head. has_cell head.now (cells_of self.now row)) wanted.now }
+    {
+        wanted.iter().all(|head| self.has_head(row, *head))
+    }
+
+    // Whether the row has this head.
+    fn has_head(&self, row: usize, head: &[u8]) -> bool
+        requires { row < length self.now }
+        ensures { result ≡ has_cell head.now (cells_of self.now row) }
+    {
+        'cells: for place in 0..self.cell_count(row) {
+            if is_same(self.cell(row, place), head) {
+                return true;
+            }
+        }
+        false
     }
 
     // The number of heads.

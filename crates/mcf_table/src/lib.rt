@@ -4,8 +4,8 @@
 //!
 //! It builds on `mcf_text`. The definitions are in `specs/`: `Rows` says what a field and a row
 //! are, `Texts` which records a text says and which fault it has, `LineEnds` and `Blanks` what
-//! doesn't count, `Written` how rows are a text, `Heads` which column has a head, `Separators` and
-//! `NamedSeparators` what separates fields.
+//! doesn't count, `Written` how rows are a text, `HeadRows` which row has the heads, `Heads` which
+//! column has a head, `Separators` and `NamedSeparators` what separates fields.
 
 mod blanks;
 mod cells;

@@ -36,7 +36,7 @@ impl Model for Records {
 }
 
 impl Records {
-    ghost use Rattle.std.specs.Prelude.{◌≡◌, ◌<◌, [], All, length, map, slice_index_or};
+    ghost use Rattle.std.specs.Prelude.{◌≡◌, ◌<◌, [], All, drop, length, map, slice_index_or};
     ghost use Rattle.mcf_table.specs.Texts.{no_record};
     ghost use Rattle.mcf_table.specs.Private.Found.{IsWithin, row_in};
 
@@ -46,6 +46,16 @@ impl Records {
         ensures { result ≡ map (row_in cells) parts.items }
     {
         Records { cells, parts }
+    }
+
+    /// The rows without so many in front, all if there are fewer.
+    pub fn drop_front(mut self, count: usize) -> Records
+        ensures { result ≡ drop count self }
+    {
+        let len = self.parts.len();
+        self.parts.rotate_left(count.min(len));
+        self.parts.truncate(len.saturating_sub(count));
+        self
     }
 
     /// The number of rows.

@@ -21,6 +21,8 @@ mod decimals;
 #[cfg(test)]
 mod feeding;
 #[cfg(test)]
+mod head_rows;
+#[cfg(test)]
 mod instances;
 #[cfg(test)]
 mod names;
