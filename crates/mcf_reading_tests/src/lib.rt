@@ -11,3 +11,5 @@ mod entries;
 mod faults;
 #[cfg(test)]
 mod texts;
+#[cfg(test)]
+mod units;

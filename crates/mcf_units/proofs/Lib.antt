@@ -1,0 +1,3 @@
+mod MadeProblems
+mod RowRoutes
+mod Scaling

@@ -1,0 +1,10 @@
+pub use Rattle.mcf_decimal.specs.Decimals
+pub use Rattle.mcf_reading.specs.Faults
+pub use Rattle.mcf_reading.specs.Reading
+pub use Rattle.mcf_reading.specs.RouteRows
+pub use Rattle.mcf_places.specs.Planners
+pub use Rattle.mcf_places.specs.PlannerFaults
+pub mod Scales
+pub mod Wholes
+pub mod GreatNumbers
+pub mod Answers
