@@ -2,6 +2,7 @@ pub mod Answered
 pub mod BlankLemmas
 pub mod CellLemmas
 pub mod CutLemmas
+pub mod EditLemmas
 pub mod FieldLemmas
 pub mod HeadLemmas
 pub mod HeadRowLemmas

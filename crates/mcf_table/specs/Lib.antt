@@ -4,6 +4,7 @@ pub mod Heads
 pub mod Laws
 pub mod LineEnds
 pub mod NamedSeparators
+pub mod NearHeads
 pub mod Private
 pub mod Rows
 pub mod Separators

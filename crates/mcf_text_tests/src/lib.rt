@@ -27,6 +27,8 @@ mod instances;
 #[cfg(test)]
 mod names;
 #[cfg(test)]
+mod near_heads;
+#[cfg(test)]
 mod sets;
 #[cfg(test)]
 mod tables;
