@@ -1,7 +1,7 @@
 //! What separates the fields of a text, as the line of its heads shows.
 ghost use Rattle.std.specs.Prelude.{◌≡◌, ◌+◌, ◌<◌, ◌==◌, ◌-◌, ◌⊎◌, IsTrue, IsFalse, count_by, false, length, map, position, slice_index};
 ghost use Rattle.std.specs.List.{list_any, slice_split};
-ghost use Rattle.mcf_table.specs.Rows.{quote};
+ghost use Rattle.mcf_table.specs.Rows.{IsSeparator, quote};
 ghost use Rattle.mcf_table.specs.Separators.{SplitsBest, back_unquoted, ends_line, first_written, front_unquoted, head_line, is_head, is_written, parts_of};
 ghost use Rattle.mcf_table.specs.Private.Found.{IsAbove, IsRank};
 
@@ -24,7 +24,8 @@ pub(crate) struct Rank {
 /// among those into most heads; the first of these three if they split it alike. An ASCII letter is
 /// the same in either case.
 pub fn separator_of(text: &[u8], wanted: &[&[u8]]) -> u8
-    ensures { SplitsBest (head_line text.now) (map (λ head. head.now) wanted.now) result }
+    ensures best { SplitsBest (head_line text.now) (map (λ head. head.now) wanted.now) result }
+    ensures allowed { IsSeparator result }
 {
     let line = first_written(unmarked(text));
     let comma = rank_of(line, b',', wanted);

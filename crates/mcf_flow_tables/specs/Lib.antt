@@ -1,0 +1,9 @@
+pub use Rattle.mcf_table.specs.Texts
+pub use Rattle.mcf_table.specs.HeadRows
+pub use Rattle.mcf_table.specs.NamedSeparators
+pub use Rattle.mcf_table.specs.Separators
+pub use Rattle.mcf_reading.specs.Reading
+pub use Rattle.mcf_units.specs.Answers
+pub use Rattle.mcf_places.specs.Answers as PlannerAnswers
+pub mod TableTexts
+pub mod TableAnswers

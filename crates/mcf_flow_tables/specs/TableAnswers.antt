@@ -1,0 +1,52 @@
+-- The answer to a table of places and a table of routes. No network is named here.
+-- Source: own
+use Rattle.std.specs.Prelude.{◌≡◌, ℕ, Bool, true, false, ◌&&◌, List, Option, Some, None, Ok, Err}
+use Rattle.std.specs.Option.{is_none}
+use Rattle.mcf_places.specs.Answers.{IsPlannerAnswer}
+use Rattle.mcf_reading.specs.Reading.{Entries, read_tables}
+use Rattle.mcf_table.specs.Texts.{Record}
+use Rattle.mcf_table.specs.declared.fault.TextFault.{TextFault}
+use Rattle.mcf_units.specs.Answers.{IsMadeOf}
+use Rattle.mcf_units.specs.declared.making.Made.TheVariants.{Improper as ImproperProblem, TooGreat as GreatNumbers}
+use Rattle.mcf_units.specs.declared.terms.Terms.{Terms}
+use Rattle.mcf_units.specs.Scales.{scales_of}
+use Rattle.mcf_units.specs.Wholes.{planner_in}
+use Rattle.mcf_flow_tables.specs.declared.answering.ProblemAnswer.{ProblemAnswer}
+use Rattle.mcf_flow_tables.specs.declared.answering.ProblemAnswer.TheVariants.{Improper, Solved, TooGreat}
+use Rattle.mcf_flow_tables.specs.declared.answering.TableAnswer.{TableAnswer}
+use Rattle.mcf_flow_tables.specs.declared.answering.TableAnswer.TheVariants.{Faults, Problem}
+use Rattle.mcf_flow_tables.specs.declared.flow_answer.FlowAnswer.{FlowAnswer}
+use Rattle.mcf_flow_tables.specs.declared.flow_answer.FlowAnswer.TheVariants.{NoTables, Tables}
+use Rattle.mcf_flow_tables.specs.declared.options.Options.{Options}
+use Rattle.mcf_flow_tables.specs.TableTexts.{IsBrokenText, IsTableOf, place_wanted, route_wanted}
+
+-- The answer to what tables say: each number that is too great; or all faults of the problem; or a
+-- least plan of it, in the units of the tables, or a bottleneck, or the first number beyond the
+-- limits.
+abbrev pub IsProblemAnswer : Entries → Terms → ProblemAnswer → Type 0
+IsProblemAnswer said terms (Solved s) =
+    (s.scales ≡ scales_of said terms.penalty) × IsPlannerAnswer (planner_in s.scales said terms) s.answer
+IsProblemAnswer said terms (TooGreat faults) = IsMadeOf said terms (GreatNumbers faults)
+IsProblemAnswer said terms (Improper faults) = IsMadeOf said terms (ImproperProblem faults)
+
+-- The answer to the rows of two tables: all faults of heads and cells; or, if there are none, the
+-- answer to what they say.
+abbrev pub IsTableAnswer : List Record → List Record → Options → TableAnswer → Type 0
+IsTableAnswer places routes options (Faults faults) = read_tables options.mark places routes ≡ Err faults
+IsTableAnswer places routes options (Problem answer) =
+    (said : Entries) × (read_tables options.mark places routes ≡ Ok said) × IsProblemAnswer said options.terms answer
+
+-- the text is a table, or it is none for this reason
+abbrev pub IsBrokenBy : List (List ℕ) → List ℕ → Option TextFault → Type 0
+IsBrokenBy wanted text None = (records : List Record) × IsTableOf wanted text records
+IsBrokenBy wanted text (Some fault) = IsBrokenText wanted text fault
+
+-- The answer to two texts: why one is no table, or both aren't; or their rows, and the answer to
+-- these.
+abbrev pub IsFlowAnswer : List ℕ → List ℕ → Options → FlowAnswer → Type 0
+IsFlowAnswer places routes options (NoTables broken) =
+    IsBrokenBy place_wanted places broken.places × IsBrokenBy route_wanted routes broken.routes
+    × ((is_none broken.places && is_none broken.routes) ≡ false)
+IsFlowAnswer places routes options (Tables said) =
+    IsTableOf place_wanted places said.places × IsTableOf route_wanted routes said.routes
+    × IsTableAnswer said.places said.routes options said.answer

@@ -1,0 +1,80 @@
+//! The answer to what two tables say.
+ghost use Rattle.std.specs.Prelude.{◌≡◌, IfOk};
+ghost use Rattle.mcf_flow_tables.specs.TableAnswers.{IsProblemAnswer, IsTableAnswer};
+
+use crate::options::Options;
+use mcf_model::Solves;
+use mcf_places::{PlannerAnswer, PlannerFault, least};
+use mcf_reading::{Faults, Tables, read};
+use mcf_table::Records;
+use mcf_text::NoMemory;
+use mcf_units::{GreatFault, Made, Scales, Terms, problem};
+use std::alloc::Global;
+
+/// The answer to a problem in whole numbers, and their units.
+#[derive(Drop)]
+pub struct SolvedProblem {
+    /// The units of amounts and of costs.
+    pub scales: Scales,
+    /// A least plan, or a bottleneck, or the first number beyond the limits.
+    pub answer: PlannerAnswer,
+}
+
+/// The answer to tables whose heads and cells have no fault.
+#[derive(Drop)]
+pub enum ProblemAnswer {
+    /// All numbers that are too great in whole units.
+    TooGreat(Vec<GreatFault>),
+    /// All faults of the problem.
+    Improper(Vec<PlannerFault>),
+    /// The answer to the problem.
+    Solved(SolvedProblem),
+}
+
+/// The answer to the rows of two tables.
+#[derive(Drop)]
+pub enum TableAnswer {
+    /// All faults of heads and cells.
+    Faults(Faults),
+    /// The answer to what the tables say.
+    Problem(ProblemAnswer),
+}
+
+// The answer to what tables say.
+fn problem_answer<S: Solves>(
+    alloc: Global,
+    solver: &mut S,
+    tables: &Tables,
+    terms: Terms,
+) -> Result<ProblemAnswer, NoMemory>
+    ensures { IfOk result (IsProblemAnswer tables.now terms) }
+{
+    match problem(alloc, tables, terms)? {
+        Made::Problem(made) => {
+            let scales = made.scales;
+            let answer = least(alloc, solver, &made.planner)?;
+            Ok(ProblemAnswer::Solved(SolvedProblem { scales, answer }))
+        }
+        Made::TooGreat(faults) => Ok(ProblemAnswer::TooGreat(faults)),
+        Made::Improper(faults) => Ok(ProblemAnswer::Improper(faults)),
+    }
+}
+
+// The answer to the rows of two tables.
+pub(crate) fn table_answer<S: Solves>(
+    alloc: Global,
+    solver: &mut S,
+    places: &Records,
+    routes: &Records,
+    options: Options,
+) -> Result<TableAnswer, NoMemory>
+    ensures { IfOk result (IsTableAnswer places.now routes.now options) }
+{
+    match read(alloc, places, routes, options.mark)? {
+        Ok(tables) => {
+            let answer = problem_answer(alloc, solver, &tables, options.terms)?;
+            Ok(TableAnswer::Problem(answer))
+        }
+        Err(faults) => Ok(TableAnswer::Faults(faults)),
+    }
+}

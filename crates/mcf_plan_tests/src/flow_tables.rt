@@ -1,0 +1,125 @@
+//! Plans for the texts of two tables, by the engine of the suite.
+use mcf_choice::Choice;
+use mcf_decimal::Mark;
+use mcf_flow_tables::{
+    Broken, FlowAnswer, Options, ProblemAnswer, SaidTables, TableAnswer, Texts, plan_tables,
+};
+use mcf_places::{LeastPlannerPlan, PlannerAnswer};
+use mcf_planner::Planner as Engine;
+use mcf_reading::{ColumnAt, Fault, FaultKind, Head, Location, Table};
+use mcf_table::{FieldFault, TextFault};
+use mcf_text::NoMemory;
+use mcf_units::{Scales, Terms};
+use std::alloc::Global;
+use std::test::Fail;
+
+const PLACES: &[u8] = b"sep=;\nTwo mills\nname;supply\nMill;12,5\nGraz;\nWien;-14\n";
+
+const ROUTES: &[u8] =
+    b"from,to,most,cost,most 2,cost 2\nMill,Graz,10,\"1,5\",,2\nGraz,Wien,,\"0,25\",,\n";
+
+const OPTIONS: Options = Options {
+    mark: Some(Mark::Comma),
+    terms: Terms {
+        unused: false,
+        short: true,
+        penalty: None,
+    },
+};
+
+// The answer to two texts.
+fn answer_to(alloc: Global, places: &[u8], routes: &[u8]) -> Result<FlowAnswer, NoMemory> {
+    let mut engine = Engine {
+        choice: Choice::default(),
+    };
+    plan_tables(alloc, &mut engine, Texts { places, routes }, OPTIONS)
+}
+
+// Whether a plan is that of the tables, in tenths of a unit and hundredths of a cost: 10 units at
+// 1.5 and 2.5 at 2, then all at 0.25, and 1.5 are missing.
+fn is_plan(found: &LeastPlannerPlan) -> bool {
+    let (carries, missing) = ([125i128, 125], [0i128, 0, 15]);
+    found.plan.carries.as_slice() == carries.as_slice()
+        && found.plan.missing.as_slice() == missing.as_slice()
+        && found.cost == 10 * 10 * 150 + 25 * 200 + 125 * 25
+}
+
+// Whether the tables have the plan, and their rows know their lines.
+fn is_solved(said: &SaidTables) -> bool {
+    let scales = Scales {
+        amounts: 1,
+        costs: 2,
+    };
+    let has_lines = said.places.len() == 4 && said.places.line(1) == 4;
+    match &said.answer {
+        TableAnswer::Problem(ProblemAnswer::Solved(solved)) => match &solved.answer {
+            PlannerAnswer::Least(found) => {
+                has_lines && solved.scales == scales && is_plan(found)
+            }
+            _ => false,
+        },
+        _ => false,
+    }
+}
+
+// Whether the texts are tables, and these have the plan.
+fn is_planned(answer: &FlowAnswer) -> bool {
+    match answer {
+        FlowAnswer::Tables(said) => is_solved(said),
+        FlowAnswer::NoTables(_) => false,
+    }
+}
+
+#[test]
+fn tables_have_a_least_plan(rt: HostRuntime) -> Result<(), Fail> {
+    let answer = answer_to(rt.alloc(), PLACES, ROUTES)?;
+    assert!(rt; is_planned(&answer));
+    Ok(())
+}
+
+// The faults of texts, if they are no tables.
+fn broken(answer: &FlowAnswer) -> Option<Broken> {
+    match answer {
+        FlowAnswer::NoTables(found) => Some(*found),
+        FlowAnswer::Tables(_) => None,
+    }
+}
+
+#[test]
+fn broken_texts_are_told(rt: HostRuntime) -> Result<(), Fail> {
+    let answer = answer_to(rt.alloc(), PLACES, b"from,to,most,cost\n\"Mill,Graz,1,1\n")?;
+    let fault = TextFault {
+        line: 2,
+        kind: FieldFault::Unclosed,
+    };
+    let want = Broken {
+        places: None,
+        routes: Some(fault),
+    };
+    assert!(rt; broken(&answer) == Some(want));
+    Ok(())
+}
+
+// Whether the tables have this fault alone.
+fn is_fault(answer: &FlowAnswer, fault: Fault) -> bool {
+    match answer {
+        FlowAnswer::Tables(said) => match &said.answer {
+            TableAnswer::Faults(faults) => faults.list() == [fault].as_slice(),
+            TableAnswer::Problem(_) => false,
+        },
+        FlowAnswer::NoTables(_) => false,
+    }
+}
+
+#[test]
+fn faults_of_tables_are_told(rt: HostRuntime) -> Result<(), Fail> {
+    let answer = answer_to(rt.alloc(), PLACES, b"from,to,most,cost\nMill,Linz,1,1\n")?;
+    let at = Location {
+        table: Table::Routes,
+        row: 1,
+        column: ColumnAt::Under(Head::To),
+    };
+    let kind = FaultKind::NoPlace;
+    assert!(rt; is_fault(&answer, Fault { at, kind }));
+    Ok(())
+}
