@@ -1,12 +1,9 @@
 //! The range of the bits that the entries of a matrix have.
 
-use mcf_matrix_doubles::{DoubleMatrix, INFINITY, Scaled};
+use mcf_matrix_doubles::{DoubleMatrix, EXACT_BITS, INFINITY, Scaled};
 
 // The bits of whole costs: 2^49 is below 10^15, the limit of a cost.
 const WHOLE_BITS: u32 = 49;
-
-// The greatest span of bits for which the refinement's sums of prices fit 128 bits.
-const EXACT_BITS: u32 = 118;
 
 // All bits of a double but its sign: as numbers, sizes are in the order of their values.
 const SIZE_BITS: u64 = (1 << 63) - 1;

@@ -1,6 +1,6 @@
 -- What is answered for a matrix of doubles with supplies and demands.
 -- Source: own
-use Rattle.std.specs.Prelude.{⊤, ℤ, List}
+use Rattle.std.specs.Prelude.{◌≡◌, ⊤, false, IsTrue, ℤ, List}
 use Rattle.mcf_matrix.specs.Costs.{Costs}
 use Rattle.mcf_matrix.specs.Cuts.{IsTransportCut}
 use Rattle.mcf_matrix.specs.declared.shipment.Shipment.{Shipment}
@@ -8,6 +8,7 @@ use Rattle.mcf_matrix.specs.PlaceSums.{at_place, sum_below}
 use Rattle.mcf_matrix.specs.Plans.{IsLeastPlan, IsPlan, IsShownPlan}
 use Rattle.mcf_matrix_doubles.specs.DoublePrices.{in_units}
 use Rattle.mcf_matrix_doubles.specs.Rounding.{IsNearlyLeastPlan, costs_read, most_lost}
+use Rattle.mcf_matrix_doubles.specs.Spans.{IsNarrow, IsWide}
 use Rattle.mcf_double_solver.specs.declared.planning.DoublePlanned.{DoublePlanned}
 use Rattle.mcf_double_solver.specs.declared.planning.DoublePlanned.TheVariants.{Least, Infeasible, NotShown}
 
@@ -31,3 +32,15 @@ IsNearPlanAnswer m supplies demands (Least found) =
     IsNearlyLeastPlan m supplies demands found.shipments.items (most_lost found.unit found.is_rounded (sum_below (at_place supplies) m.rows))
 IsNearPlanAnswer m supplies demands (Infeasible cut) = ⊤
 IsNearPlanAnswer m supplies demands NotShown = ⊤
+
+-- if the bits of the costs span 118 places at most, the plan is answered for the costs themselves
+abbrev pub IsExactPlanIfNarrow : Costs → DoublePlanned → Type 0
+IsExactPlanIfNarrow m (Least found) = IsNarrow m → found.is_rounded ≡ false
+IsExactPlanIfNarrow m (Infeasible cut) = ⊤
+IsExactPlanIfNarrow m NotShown = ⊤
+
+-- a plan is answered for costs rounded down only if their bits span more, as the unit shows
+abbrev pub IsRoundedPlanOnlyIfWide : Costs → DoublePlanned → Type 0
+IsRoundedPlanOnlyIfWide m (Least found) = IsTrue found.is_rounded → IsWide found.unit m
+IsRoundedPlanOnlyIfWide m (Infeasible cut) = ⊤
+IsRoundedPlanOnlyIfWide m NotShown = ⊤

@@ -8,5 +8,6 @@ pub use Rattle.mcf_matrix.specs.Plans
 pub use Rattle.mcf_matrix_doubles.specs.DoublePrices
 pub use Rattle.mcf_matrix_doubles.specs.DoubleTables
 pub use Rattle.mcf_matrix_doubles.specs.Rounding
+pub use Rattle.mcf_matrix_doubles.specs.Spans
 pub mod DoubleAnswers
 pub mod DoublePlanAnswers

@@ -1,8 +1,9 @@
 //! Least assignments of doubles: a search finds them, and a judge checks them.
 ghost use Rattle.std.specs.Prelude.{◌≤◌, ◌+◌, IfOk, OnErr};
 ghost use Rattle.mcf_matrix_doubles.specs.DoubleTables.{double_costs};
-ghost use Rattle.mcf_double_solver.specs.DoubleAnswers.{IsNearAnswer, IsRightAnswer, IsShownAnswer};
+ghost use Rattle.mcf_double_solver.specs.DoubleAnswers.{IsExactIfNarrow, IsNearAnswer, IsRightAnswer, IsRoundedOnlyIfWide, IsShownAnswer};
 
+use crate::rounding::may_answer;
 use mcf_double_search::{Cover, DoubleAssignment, DoubleFound, find_assignment};
 use mcf_matrix_doubles::{DoubleMatrix, DoublePrices, judge_assignment, judge_cover};
 use mcf_text::NoMemory;
@@ -24,9 +25,10 @@ pub enum DoubleAssigned {
 /// cover that shows that there is none. Costs are exact: a finite double is the number that its
 /// bits stand for, and +infinity forbids its pair.
 ///
-/// If the bits of finite entries span more than 118 places, the answer may be a least assignment of
-/// the costs rounded down to multiples of a power of 2: then `is_rounded` tells so, and no
-/// assignment costs less by as much as one unit of the prices a pair.
+/// Unless the bits of finite entries span more than 118 places, the answer is exact. If they do, it
+/// may be a least assignment of the costs rounded down to multiples of a power of 2, and
+/// `is_rounded` tells so: no assignment costs less by as much as one unit of the prices a pair, and
+/// the greatest size of an entry is at least 2^117 units.
 ///
 /// The answer is proved right, since a judge checks it. No proof says that the search finds one:
 /// `NotShown` means that it gave up, or that the judge refused its result.
@@ -38,6 +40,8 @@ pub fn assign(alloc: Global, matrix: &DoubleMatrix<'_>) -> Result<DoubleAssigned
     ensures shown { IfOk result (IsShownAnswer (double_costs matrix.now)) }
     ensures right { IfOk result (IsRightAnswer (double_costs matrix.now)) }
     ensures near { IfOk result (IsNearAnswer (double_costs matrix.now)) }
+    ensures exact { IfOk result (IsExactIfNarrow (double_costs matrix.now)) }
+    ensures wide { IfOk result (IsRoundedOnlyIfWide (double_costs matrix.now)) }
     ensures wants { OnErr result (1 ≤ matrix.now.rows + matrix.now.columns) }
 {
     match find_assignment(alloc, matrix)? {
@@ -47,7 +51,7 @@ pub fn assign(alloc: Global, matrix: &DoubleMatrix<'_>) -> Result<DoubleAssigned
     }
 }
 
-// Returns an assignment if its prices show that it is least.
+// Returns an assignment if its prices show that it is least, and it may be one of rounded costs.
 fn judged(
     alloc: Global,
     matrix: &DoubleMatrix<'_>,
@@ -56,6 +60,8 @@ fn judged(
     ensures shown { IfOk result (IsShownAnswer (double_costs matrix.now)) }
     ensures right { IfOk result (IsRightAnswer (double_costs matrix.now)) }
     ensures near { IfOk result (IsNearAnswer (double_costs matrix.now)) }
+    ensures exact { IfOk result (IsExactIfNarrow (double_costs matrix.now)) }
+    ensures wide { IfOk result (IsRoundedOnlyIfWide (double_costs matrix.now)) }
     ensures wants { OnErr result (1 ≤ matrix.now.rows + matrix.now.columns) }
 {
     let prices = DoublePrices {
@@ -64,8 +70,9 @@ fn judged(
         unit: found.unit,
         is_rounded: found.is_rounded,
     };
+    let is_allowed = may_answer(matrix, found.unit, found.is_rounded);
     let is_shown = judge_assignment(alloc, matrix, found.column_of.as_slice(), &prices)?;
-    if is_shown {
+    if is_shown && is_allowed {
         return Ok(DoubleAssigned::Least(found));
     }
     Ok(DoubleAssigned::NotShown)
@@ -76,6 +83,8 @@ fn judged_cover(matrix: &DoubleMatrix<'_>, cover: Cover) -> DoubleAssigned
     ensures shown { IsShownAnswer (double_costs matrix.now) result }
     ensures right { IsRightAnswer (double_costs matrix.now) result }
     ensures near { IsNearAnswer (double_costs matrix.now) result }
+    ensures exact { IsExactIfNarrow (double_costs matrix.now) result }
+    ensures wide { IsRoundedOnlyIfWide (double_costs matrix.now) result }
 {
     if judge_cover(matrix, cover.rows.as_slice(), cover.columns.as_slice()) {
         return DoubleAssigned::Infeasible(cover);

@@ -7,6 +7,7 @@
 
 mod assigning;
 mod planning;
+mod rounding;
 
 pub use assigning::{DoubleAssigned, assign};
 pub use mcf_double_search::{Cover, Cut, DoubleAssignment, DoublePlan};

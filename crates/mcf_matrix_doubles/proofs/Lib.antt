@@ -5,3 +5,4 @@ pub mod Order
 pub mod Powers
 pub mod Rounding
 pub mod RoundingGaps
+pub mod Spans

@@ -10,3 +10,4 @@ pub mod DoublePrices
 pub mod DoubleTables
 pub mod Doubles
 pub mod Rounding
+pub mod Spans
