@@ -287,12 +287,12 @@ struct mcf_scale {
 
 /* Assigns rows and columns as mcf_assign_matrix does, with doubles for costs, which it reads
    exactly: no other assignment has a smaller exact sum. The prices are whole numbers of the units
-   of `scale`. If the bits of finite entries span more than 118, `is_rounded` may become 1, and is 0
-   otherwise: the assignment is then a least one of the entries rounded down to units, and its exact
-   sum is above the least by less than one unit a pair. MCF_INVALID_INPUT: rows overlap or don't end
-   within `length`, or an entry is a NaN or -infinity. MCF_NOT_SHOWN decides nothing; no matrix with
-   it is known. `column_of` and `scale` are unchanged from status 1 on, and the prices are from 2
-   on. */
+   of `scale`. `is_rounded` becomes 1 only if the bits of finite entries span more than 118 places:
+   the assignment is then a least one of the entries rounded down to units, its exact sum is above
+   the least by less than one unit a pair, and the greatest size of an entry is at least 2^117
+   units. MCF_INVALID_INPUT: rows overlap or don't end within `length`, or an entry is a NaN or
+   -infinity. MCF_NOT_SHOWN decides nothing; no matrix with it is known. `column_of` and `scale` are
+   unchanged from status 1 on, and the prices are from 2 on. */
 uint32_t mcf_assign_doubles(const struct mcf_doubles *matrix, uint32_t *column_of,
                             size_t column_of_length, struct mcf_wide *row_prices,
                             size_t row_prices_length, struct mcf_wide *column_prices,

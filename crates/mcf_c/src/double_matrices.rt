@@ -1,5 +1,5 @@
 //! Least assignments of cost matrices of doubles in arrays, and the judge of such assignments.
-ghost use Rattle.std.specs.Prelude.{◌≡◌, ◌≢◌, ◌≤◌, ◌⊎◌, ◌↔◌, ◌+◌, ℕ, List, length, min, pos, true, false};
+ghost use Rattle.std.specs.Prelude.{◌≡◌, ◌≢◌, ◌≤◌, ◌⊎◌, ◌↔◌, ◌+◌, ℕ, IsTrue, List, length, min, pos, true, false};
 ghost use Rattle.mcf_c.specs.DoubleMatrices.{HandsWideCover, costs_by, double_costs_of, doubles_of, gap_by, tells_rounded, wide_values};
 ghost use Rattle.mcf_matrix.specs.Covers.{IsShortCover};
 ghost use Rattle.mcf_matrix.specs.Matchings.{IsLeastMatching, IsMatching};
@@ -7,6 +7,7 @@ ghost use Rattle.mcf_matrix.specs.MatrixPrices.{IsShownMatching};
 ghost use Rattle.mcf_matrix_doubles.specs.DoublePrices.{AreSmallPrices, in_units};
 ghost use Rattle.mcf_matrix_doubles.specs.DoubleTables.{IsDoubleMatrix, double_costs};
 ghost use Rattle.mcf_matrix_doubles.specs.Rounding.{IsNearlyLeastMatching, costs_read, most_lost};
+ghost use Rattle.mcf_matrix_doubles.specs.Spans.{IsNarrow, IsWide};
 
 use crate::statuses::{
     ACCEPTED, BLOCKED, BUFFER_TOO_SMALL, FLOW, INVALID_INPUT, NO_MEMORY, NOT_SHOWN, REJECTED,
@@ -59,9 +60,10 @@ fn are_lines(matrix: &McfDoubles<'_>, columns_of: usize, rows: usize, columns: u
 /// of each row, or a number that is no column's for a row without one, and prices of rows and
 /// columns that show the assignment, in units of 2^unit * 2^-1074.
 ///
-/// If the bits of finite entries span more than 118 places, the assignment may be a least one of
-/// the entries rounded down to such units, and `scale` tells so: no assignment costs less by as
-/// much as one unit a pair.
+/// Unless the bits of finite entries span more than 118 places, the assignment is exact. If they
+/// do, it may be a least one of the entries rounded down to such units, and `scale` tells so: no
+/// assignment costs less by as much as one unit a pair, and the greatest size of an entry is at
+/// least 2^117 units.
 ///
 /// The status is 0 for an assignment. It is 1 if there is none: the prices then mark by 1 rows and
 /// columns that cover all allowed pairs and are fewer than the smaller side has, and by 0 all
@@ -82,6 +84,8 @@ pub extern "C" fn mcf_assign_doubles(
     ensures shown { result ≡ 0 → IsShownMatching (costs_by scale.new matrix.now) column_of.new (in_units scale.new.unit (wide_values row_prices.new)) (in_units scale.new.unit (wide_values column_prices.new)) }
     ensures least { result ≡ 0 → IsLeastMatching (costs_by scale.new matrix.now) column_of.new }
     ensures near { result ≡ 0 → IsNearlyLeastMatching (double_costs_of matrix.now) column_of.new (gap_by scale.new matrix.now) }
+    ensures exact { result ≡ 0 → IsNarrow (double_costs_of matrix.now) → tells_rounded scale.new ≡ false }
+    ensures wide { result ≡ 0 → IsTrue (tells_rounded scale.new) → IsWide scale.new.unit (double_costs_of matrix.now) }
     ensures cover { result ≡ 1 → HandsWideCover (double_costs_of matrix.now) row_prices.new column_prices.new }
     ensures none { result ≡ 1 → (x : List ℕ) → ¬ IsMatching (double_costs_of matrix.now) x }
     ensures within { result ≤ 1 → IsDoubleMatrix (doubles_of matrix.now) }
@@ -129,6 +133,8 @@ fn assign_lines(
     ensures shown { result ≡ 0 → IsShownMatching (costs_read scale.new.unit (tells_rounded scale.new) (double_costs matrix.now)) column_of.new (in_units scale.new.unit (wide_values row_prices.new)) (in_units scale.new.unit (wide_values column_prices.new)) }
     ensures least { result ≡ 0 → IsLeastMatching (costs_read scale.new.unit (tells_rounded scale.new) (double_costs matrix.now)) column_of.new }
     ensures near { result ≡ 0 → IsNearlyLeastMatching (double_costs matrix.now) column_of.new (most_lost scale.new.unit (tells_rounded scale.new) (pos (min matrix.now.rows matrix.now.columns))) }
+    ensures exact { result ≡ 0 → IsNarrow (double_costs matrix.now) → tells_rounded scale.new ≡ false }
+    ensures wide { result ≡ 0 → IsTrue (tells_rounded scale.new) → IsWide scale.new.unit (double_costs matrix.now) }
     ensures cover { result ≡ 1 → HandsWideCover (double_costs matrix.now) row_prices.new column_prices.new }
     ensures none { result ≡ 1 → (x : List ℕ) → ¬ IsMatching (double_costs matrix.now) x }
     ensures memory { result ≡ 3 → 1 ≤ matrix.now.rows + matrix.now.columns }

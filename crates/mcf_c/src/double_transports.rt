@@ -1,11 +1,12 @@
 //! Least transport plans of cost matrices of doubles in arrays, and the judge of such plans.
-ghost use Rattle.std.specs.Prelude.{◌≡◌, ◌≤◌, ◌+◌, ◌⊎◌, ◌↔◌, List, drop, length, map, take};
+ghost use Rattle.std.specs.Prelude.{◌≡◌, ◌≤◌, ◌+◌, ◌⊎◌, ◌↔◌, IsTrue, List, drop, false, length, map, take};
 ghost use Rattle.mcf_matrix.specs.declared.shipment.Shipment.{Shipment};
 ghost use Rattle.mcf_matrix.specs.Plans.{IsLeastPlan, IsPlan, IsShownPlan};
 ghost use Rattle.mcf_matrix_doubles.specs.DoublePrices.{AreSmallPrices, in_units};
 ghost use Rattle.mcf_matrix_doubles.specs.DoubleTables.{IsDoubleMatrix};
 ghost use Rattle.mcf_c.specs.DoubleMatrices.{costs_by, double_costs_of, doubles_of, plan_gap_by, tells_rounded, wide_values};
 ghost use Rattle.mcf_matrix_doubles.specs.Rounding.{IsNearlyLeastPlan};
+ghost use Rattle.mcf_matrix_doubles.specs.Spans.{IsNarrow, IsWide};
 ghost use Rattle.mcf_c.specs.Handing.{mark_of};
 ghost use Rattle.mcf_c.specs.Transports.{HandsPlan, HasRooms, MarksCut};
 ghost use Rattle.mcf_c.specs.Verdicts.{side_number};
@@ -45,9 +46,10 @@ pub struct McfDoublePlanned {
 /// entries to the beginning of a buffer, and prices of rows and columns that show it, in units of
 /// 2^unit * 2^-1074.
 ///
-/// If the bits of finite entries span more than 118 places, the plan may be a least one for the
-/// entries rounded down to such units, and the scale tells so: no plan costs less by as much as one
-/// unit times the total supply, if that isn't 0.
+/// Unless the bits of finite entries span more than 118 places, the plan is exact. If they do, it
+/// may be a least one for the entries rounded down to such units, and the scale tells so: no plan
+/// costs less by as much as one unit times the total supply, if that isn't 0, and the greatest size
+/// of an entry is at least 2^117 units.
 ///
 /// The status is 0 for a plan; 1 if there is none: the prices then mark by 1 rows and columns that
 /// have more to send, or to take, than they can, and all others by 0; 2 if rows overlap or don't
@@ -70,6 +72,8 @@ pub extern "C" fn mcf_transport_doubles(
     ensures side { result ≡ 0 → told.new.side ≡ 0 }
     ensures least { result ≡ 0 → IsLeastPlan (costs_by told.new.scale problem.now.matrix) problem.now.supplies.now problem.now.demands.now (take told.new.used room.new) }
     ensures near { result ≡ 0 → IsNearlyLeastPlan (double_costs_of problem.now.matrix) problem.now.supplies.now problem.now.demands.now (take told.new.used room.new) (plan_gap_by told.new.scale problem.now.matrix problem.now.supplies.now) }
+    ensures exact { result ≡ 0 → IsNarrow (double_costs_of problem.now.matrix) → tells_rounded told.new.scale ≡ false }
+    ensures wide { result ≡ 0 → IsTrue (tells_rounded told.new.scale) → IsWide told.new.scale.unit (double_costs_of problem.now.matrix) }
     ensures cut { result ≡ 1 → MarksCut (double_costs_of problem.now.matrix) problem.now.supplies.now problem.now.demands.now (wide_values row_prices.new) (wide_values column_prices.new) told.new.side }
     ensures unused { result ≡ 1 → (told.new.used ≡ 0) × (told.new.scale.unit ≡ 0) × (told.new.scale.is_rounded ≡ 0) }
     ensures none { result ≡ 1 → (plan : List Shipment) → ¬ IsPlan (double_costs_of problem.now.matrix) problem.now.supplies.now problem.now.demands.now plan }

@@ -1,5 +1,5 @@
 -- Numbers rounded down to multiples of a power of 2.
-use Rattle.std.proofs.Common.{◌≡◌, ℕ, suc, ◌+◌, ◌-◌, ◌*◌, ◌/◌, ◌%◌, ◌^◌, ◌<◌, ◌≤◌, Bool, true, false, not, IsTrue, ◌↔◌, IfSome, IsSome, IsSomeAnd, Option, Some, None, List, unwrap_or, ap, sym, ◌∙◌, subst, refl, arith, ℤ, pos, negsuc, neg_ℤ, ◌+ℤ◌, ◌-ℤ◌, ◌≤ℤ◌}
+use Rattle.std.proofs.Common.{◌≡◌, ℕ, suc, ◌+◌, ◌-◌, ◌*◌, ◌/◌, ◌%◌, ◌^◌, ◌<◌, Bool, true, false, not, IsTrue, ◌↔◌, IfSome, IsSome, Option, Some, None, List, unwrap_or, ap, ◌∙◌, refl, arith, ℤ, pos, negsuc, neg_ℤ, ◌+ℤ◌, ◌-ℤ◌, ◌≤ℤ◌}
 use Rattle.std.proofs.Math.IntN.{◌*ℤ◌, *ℤ_comm, pos-*ℤ-pos}
 use Rattle.std.proofs.Math.Nat.{div-add-mod, mod-lt, mul_comm}
 use Rattle.std.proofs.lemmas.Int.{by_lt_z, ints}

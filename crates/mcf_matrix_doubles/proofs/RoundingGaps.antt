@@ -1,5 +1,5 @@
 -- How far from the least what is least for costs rounded down may be.
-use Rattle.std.proofs.Common.{◌≡◌, ℕ, ◌-◌, ◌^◌, ◌<◌, zero, suc, Bool, true, false, IsTrue, IfOk, Result, Ok, Err, List, length, get_or, min, nat_lt, unwrap_or, ap, sym, ◌∙◌, subst, refl, arith, ℤ, pos, ◌+ℤ◌, ◌≤ℤ◌}
+use Rattle.std.proofs.Common.{◌≡◌, ℕ, zero, suc, Bool, true, false, IsTrue, IfOk, Result, Ok, Err, List, get_or, min, nat_lt, unwrap_or, ap, sym, ◌∙◌, arith, ℤ, pos, ◌+ℤ◌, ◌≤ℤ◌}
 use Rattle.std.proofs.Math.IntN.{◌*ℤ◌}
 use Rattle.std.proofs.lemmas.Int.{ints}
 use Rattle.mcf_flows.specs.Network.{when}
@@ -10,7 +10,7 @@ use Rattle.mcf_matrix.specs.Matchings.{IsLeastMatching, IsMatching, matching_cos
 use Rattle.mcf_matrix.specs.PlaceSums.{at_place, sum_below}
 use Rattle.mcf_matrix.specs.Plans.{IsLeastPlan, IsPlan, IsShipment, plan_cost, plan_sum}
 use Rattle.mcf_matrix.proofs.PlaceSums.{count_is_sum, sum_below-add, sum_below-le, sum_below-same}
-use Rattle.mcf_matrix.proofs.PlanSums.{by_ends, plan_sum-add, plan_sum-le, plan_sum-same}
+use Rattle.mcf_matrix.proofs.PlanSums.{by_ends, plan_sum-add, plan_sum-le}
 use Rattle.mcf_matrix_doubles.specs.Rounding.{IsNearlyLeastMatching, IsNearlyLeastPlan, cost_read, costs_read, most_lost}
 use Rattle.mcf_matrix_doubles.proofs.Rounding.{allowed_same, lost_is, read_lost}
 

@@ -1,7 +1,7 @@
 //! What the bits of doubles stand for, and which lists of them are matrices.
 use mcf_matrix_doubles::{
-    DoubleFault, DoubleMatrix, DoublePrices, INFINITY, Scaled, are_small_prices, judge_assignment,
-    judge_cover, none_below,
+    DoubleFault, DoubleMatrix, DoublePrices, INFINITY, Scaled, are_small_prices, is_wide,
+    judge_assignment, judge_cover, none_below,
 };
 use mcf_text::NoMemory;
 use std::alloc::Global;
@@ -249,6 +249,40 @@ fn is_cover(rows: &[bool], columns: &[bool]) -> bool {
 fn covers_are_judged(rt: HostRuntime) -> Result<(), Fail> {
     for (rows, columns, expected) in &COVERS {
         assert!(rt; is_cover(rows, columns) == *expected);
+    }
+    Ok(())
+}
+
+// Two entries, the exponent of a unit, and whether their bits span more than 118 places, as it
+// shows: 1.0 is 2^1074, and beside it stand 2^-117, 2^-118, +infinity and 0.0.
+static SPANS: [(u64, u64, u32, bool); 12] = [
+    (0x3FF0_0000_0000_0000, 0x38A0_0000_0000_0000, 956, false),
+    (0x3FF0_0000_0000_0000, 0x38A0_0000_0000_0000, 957, false),
+    (0x3FF0_0000_0000_0000, 0x38A0_0000_0000_0000, 958, false),
+    (0x3FF0_0000_0000_0000, 0x3890_0000_0000_0000, 956, false),
+    (0x3FF0_0000_0000_0000, 0x3890_0000_0000_0000, 957, true),
+    (0x3FF0_0000_0000_0000, 0x3890_0000_0000_0000, 958, false),
+    (0x3890_0000_0000_0000, 0xBFF0_0000_0000_0000, 957, true),
+    (0xB890_0000_0000_0000, 0x3FF0_0000_0000_0000, 957, true),
+    (INFINITY, 0x3890_0000_0000_0000, 957, false),
+    (0x3FF0_0000_0000_0000, INFINITY, 957, false),
+    (0x3FF0_0000_0000_0000, 0, 957, false),
+    (0x8000_0000_0000_0000, 0x3FF0_0000_0000_0000, 957, false),
+];
+
+// Whether the bits of two entries span more than 118 places, as a unit shows.
+fn are_wide(first: u64, second: u64, unit: u32) -> bool {
+    let entries = [first, second];
+    let Ok(matrix) = DoubleMatrix::of(&entries, 2, 1, 1) else {
+        return false;
+    };
+    is_wide(&matrix, unit)
+}
+
+#[test]
+fn spans_are_measured(rt: HostRuntime) -> Result<(), Fail> {
+    for (first, second, unit, expected) in &SPANS {
+        assert!(rt; are_wide(*first, *second, *unit) == *expected);
     }
     Ok(())
 }
