@@ -41,9 +41,19 @@ pub record HasNoPlannerPlan (P : Planner) (b : PlannerBottleneck) : Type 0 where
   pub is_bottleneck : IsPlannerBottleneck P (set_in b) b.side
   pub none : (x : Plan) → ¬ IsPlan P x
 
--- the first fault of the network of a model of the problem
+-- the least that is missing in a plan; none in finer units misses less either
+pub record IsLeastMissing (most : ℤ) (P : Planner) : Type 0 where
+  pub plan : Plan
+  pub is_plan : IsPlan P plan
+  pub misses : total_missing P plan ≡ most
+  pub least : (other : Plan) → IsPlan P other → most ≤ℤ total_missing P other
+  pub least_in_finer_units : (k : ℤ) (other : Plan) → pos 1 ≤ℤ k → IsPlan (finer k P) other → (k *ℤ most) ≤ℤ total_missing (finer k P) other
+
+-- the first fault of the network of a model of the problem, in which as much may be missing as
+-- places want, or the least that is missing in a plan
 pub record IsBeyond (P : Planner) (fault : ArrayFault) : Type 0 where
   pub most : ℤ
+  pub all_or_least : (most ≡ when P.policy.short (all_wanted P.places)) ⊎ IsLeastMissing most P
   pub beyond : array_fault limits (network_of (reach_of (model_of most P)) (model_of most P)) ≡ Some fault
 
 -- a least plan; or places that are a bottleneck; or the first number beyond the limits
@@ -59,14 +69,6 @@ abbrev pub has_stages : Bool → Option ℤ → Bool
 has_stages true None = true
 has_stages true (Some penalty) = false
 has_stages false penalty = false
-
--- the least that is missing in a plan; none in finer units misses less either
-pub record IsLeastMissing (most : ℤ) (P : Planner) : Type 0 where
-  pub plan : Plan
-  pub is_plan : IsPlan P plan
-  pub misses : total_missing P plan ≡ most
-  pub least : (other : Plan) → IsPlan P other → most ≤ℤ total_missing P other
-  pub least_in_finer_units : (k : ℤ) (other : Plan) → pos 1 ≤ℤ k → IsPlan (finer k P) other → (k *ℤ most) ≤ℤ total_missing (finer k P) other
 
 -- a model in which no more than `most` is missing stands for the problem: its least plans are least
 -- plans of the problem, in finer units, too; and it has all plans, or it has the one that misses
