@@ -1,14 +1,16 @@
 -- The answer to a table of places and a table of routes. No network is named here.
 -- Source: own
-use Rattle.std.specs.Prelude.{◌≡◌, ℕ, Bool, true, false, ◌&&◌, List, Option, Some, None, Ok, Err}
+use Rattle.std.specs.Prelude.{◌≡◌, ℕ, false, ◌&&◌, List, [], Option, Some, None, Ok, Err}
 use Rattle.std.specs.Option.{is_none}
 use Rattle.mcf_places.specs.Answers.{IsPlannerAnswer}
+use Rattle.mcf_places.specs.PlannerFaults.{IsProperPlanner}
 use Rattle.mcf_reading.specs.Reading.{Entries, read_tables}
 use Rattle.mcf_table.specs.Texts.{Record}
 use Rattle.mcf_table.specs.declared.fault.TextFault.{TextFault}
 use Rattle.mcf_units.specs.Answers.{IsMadeOf}
 use Rattle.mcf_units.specs.declared.making.Made.TheVariants.{Improper as ImproperProblem, TooGreat as GreatNumbers}
 use Rattle.mcf_units.specs.declared.terms.Terms.{Terms}
+use Rattle.mcf_units.specs.GreatNumbers.{great_faults}
 use Rattle.mcf_units.specs.Scales.{scales_of}
 use Rattle.mcf_units.specs.Wholes.{planner_in}
 use Rattle.mcf_flow_tables.specs.declared.answering.ProblemAnswer.{ProblemAnswer}
@@ -20,12 +22,13 @@ use Rattle.mcf_flow_tables.specs.declared.flow_answer.FlowAnswer.TheVariants.{No
 use Rattle.mcf_flow_tables.specs.declared.options.Options.{Options}
 use Rattle.mcf_flow_tables.specs.TableTexts.{IsBrokenText, IsTableOf, place_wanted, route_wanted}
 
--- The answer to what tables say: each number that is too great; or all faults of the problem; or a
--- least plan of it, in the units of the tables, or a bottleneck, or the first number beyond the
--- limits.
+-- The answer to what tables say: each number that is too great; or all faults of the problem; or, if
+-- there are none of either, a least plan of it, in the units of the tables, or a bottleneck, or the
+-- first number beyond the limits.
 abbrev pub IsProblemAnswer : Entries → Terms → ProblemAnswer → Type 0
 IsProblemAnswer said terms (Solved s) =
-    (s.scales ≡ scales_of said terms.penalty) × IsPlannerAnswer (planner_in s.scales said terms) s.answer
+    (s.scales ≡ scales_of said terms.penalty) × (great_faults s.scales said terms ≡ [])
+    × IsProperPlanner (planner_in s.scales said terms) × IsPlannerAnswer (planner_in s.scales said terms) s.answer
 IsProblemAnswer said terms (TooGreat faults) = IsMadeOf said terms (GreatNumbers faults)
 IsProblemAnswer said terms (Improper faults) = IsMadeOf said terms (ImproperProblem faults)
 
