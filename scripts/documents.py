@@ -1,8 +1,8 @@
 #!/usr/bin/env python3
 """Generates documents from the code and the spec files.
 
-    scripts/documents.py write     writes DEFINITIONS, CONTRACTS, HEADLINE, CHOSEN, RUNS and MADE
-                                   in docs/
+    scripts/documents.py write     writes DEFINITIONS, CONTRACTS, HEADLINE, CHOSEN, RUNS, MADE,
+                                   PLANS and TABLES in docs/
     scripts/documents.py check     lists those that differ from what `write` would write, public
                                    names without a comment, pages that are too long, commands and
                                    links of pages that lead nowhere, and blocks that don't say how
@@ -10,8 +10,8 @@
     scripts/documents.py run [PAGE ..]
                                    runs the blocks of these pages, or of all pages that run
 
-scripts/headline.md, chosen.md, runs.md and made.md have the handwritten parts of the last four; a
-line there that begins with `@` is a placeholder for a generated part.
+scripts/headline.md, chosen.md, runs.md, made.md, plans.md and tables.md have the handwritten parts
+of the last six; a line there that begins with `@` is a placeholder for a generated part.
 """
 import collections
 import pathlib
@@ -380,7 +380,7 @@ def contracts_page():
     return CONTRACTS_HEAD + "\n" + made + "\n" + text[text.index(BY_HAND) :]
 
 
-# ---- docs/HEADLINE.md and docs/MADE.md
+# ---- docs/HEADLINE.md and the pages after it
 
 Part = collections.namedtuple("Part", "clauses names")
 
@@ -391,7 +391,18 @@ FUNCTIONS = {
     "run": ("mcf_solver", "running.rt"),
     "serve": ("mcf_suite", "serving.rt"),
     "judge": ("mcf_checker", "command.rt"),
+    "plan_tables": ("mcf_flow_tables", "flow_answer.rt"),
 }
+
+# What PLANS names and TABLES defines, in the order in which TABLES needs it.
+TABLE_NAMES = """
+Reads named_separator head_line SplitsBest head_row
+cells_of head_faults place_columns route_columns all_step_columns settled_mark number_cells
+is_filled cell_at read_number read_amount is_no_limit read_limit is_yes way_kind number_of name_kind
+no_place_kind cell_faults
+great_faults planner_faults IsProperPlanner steps_in rows_in
+IsBeyond shortage_of
+"""
 
 # The content of a part: the definitions that these clauses cite, these definitions, and all that
 # they need, except those of an earlier part and those that a later part names here.
@@ -409,6 +420,8 @@ PARTS = {
     ),
     "runs": Part({"run": None, "serve": None, "judge": None}, []),
     "made": Part({}, ["HasMadeFlow", "HasShapedFlow", "IsMadeBy"]),
+    "plans": Part({"plan_tables": None}, []),
+    "tables": Part({}, TABLE_NAMES.split()),
 }
 
 # The definitions that the page names without their text. For the verdict, a clause of `check` says
@@ -520,7 +533,10 @@ class Specs:
         text = definition.text
         for now, (of, path, was) in self.modules[key[:2]].imports.items():
             if path.endswith(".TheConstants"):
-                text = re.sub(rf"\b{now}\b", constant(of, path, was), text)
+                number = constant(of, path, was)
+                argument = f"({number})" if " " in number else number
+                text = re.sub(rf"(?<=\w ){now}\b", argument, text)
+                text = re.sub(rf"\b{now}\b", number, text)
             elif now != was:
                 own = f"{path.split('.')[-2]}.{was}" if path.endswith(".TheVariants") else was
                 text = re.sub(rf"(?<![\w'-]){re.escape(now)}(?![\w'-])", own, text)
@@ -553,7 +569,8 @@ def type_text(crate, path):
 
 
 def models():
-    """The views by which clauses see values, by the names of the types that define one."""
+    """The views by which clauses see values, by the names of the types that define one. A name that
+    an import renamed becomes its own name again."""
     files = [
         path for crate in libraries() for path in sorted((CRATES / crate / "src").glob("**/*.rt"))
     ]
@@ -562,7 +579,8 @@ def models():
             r"^impl Model for (\w+) \{\n(.*?)^\}", path.read_text(), re.M | re.S
         ):
             if value := re.search(r"ghost Value = \{ (.*?) \}", body):
-                yield name, value[1]
+                renamed = {now: was for was, now in re.findall(r"(\w+) as (\w+)", body)}
+                yield name, re.sub(r"\w+", lambda m: renamed.get(m[0], m[0]), value[1])
 
 
 class Page:
@@ -651,11 +669,13 @@ PAGES = {
     "CHOSEN.md": lambda: page("chosen.md", "rules"),
     "RUNS.md": lambda: page("runs.md", "runs"),
     "MADE.md": lambda: page("made.md", "made"),
+    "PLANS.md": lambda: page("plans.md", "plans"),
+    "TABLES.md": lambda: page("tables.md", "tables"),
 }
 
 
 # The most words of a page.
-LENGTHS = {"README.md": 600, "docs/HEADLINE.md": 8000}
+LENGTHS = {"README.md": 600, "docs/HEADLINE.md": 8000, "docs/PLANS.md": 8000}
 
 
 def faults():

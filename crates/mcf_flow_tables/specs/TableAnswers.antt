@@ -22,9 +22,9 @@ use Rattle.mcf_flow_tables.specs.declared.flow_answer.FlowAnswer.TheVariants.{No
 use Rattle.mcf_flow_tables.specs.declared.options.Options.{Options}
 use Rattle.mcf_flow_tables.specs.TableTexts.{IsBrokenText, IsTableOf, place_wanted, route_wanted}
 
--- The answer to what tables say: each number that is too great; or all faults of the problem; or, if
--- there are none of either, a least plan of it, in the units of the tables, or a bottleneck, or the
--- first number beyond the limits.
+-- The answer to what tables say: each number that is too great; or all faults of the problem; or,
+-- if there are none of either, a least plan of it, in the units of the tables, or a bottleneck, or
+-- the first number beyond the limits.
 abbrev pub IsProblemAnswer : Entries → Terms → ProblemAnswer → Type 0
 IsProblemAnswer said terms (Solved s) =
     (s.scales ≡ scales_of said terms.penalty) × (great_faults s.scales said terms ≡ [])
