@@ -107,7 +107,7 @@ module _ (k : ℤ) (k1 : pos 1 ≤ℤ k) where
       lt_false : (a b : ℤ) → b ≤ℤ a → int_lt a b ≡ false
       lt_false a b h = grind (arith, ints)
 
-  given_times : (p : Place) → given (finer_place k p) ≡ k *ℤ given p
+  pub given_times : (p : Place) → given (finer_place k p) ≡ k *ℤ given p
   given_times p = max_times p.supply
 
   pub wanted_times : (p : Place) → wanted (finer_place k p) ≡ k *ℤ wanted p

@@ -14,5 +14,6 @@ mod ToldSets
 mod PlannerCuts
 mod ToldAnswers
 mod FinerModels
+mod FinerCuts
 mod ArcOrigins
 mod Stages

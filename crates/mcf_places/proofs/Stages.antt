@@ -22,6 +22,7 @@ use Rattle.mcf_places.specs.declared.told.PlannerBottleneck.{PlannerBottleneck}
 use Rattle.mcf_places.specs.Answers.{HasNoPlannerPlan, IsBestPlannerPlan, IsLeastMissing, IsToldBottleneck, StandsFor, has_stages}
 use Rattle.mcf_places.specs.FinerPlanners.{finer, finer_plan}
 use Rattle.mcf_places.specs.Models.{amounts_by, supplies_of, model_of, plan_of, routes_of}
+use Rattle.mcf_places.specs.PlannerBottlenecks.{PlannerBottlenecksHaveNoPlan}
 use Rattle.mcf_places.specs.PlannerFaults.{IsProperPlanner}
 use Rattle.mcf_places.specs.PlannerLaws.{LeavesEnough}
 use Rattle.mcf_places.specs.Planners.{EachPlace, IsBalancedAt, IsLeastPlan, IsPlan, Plan, Planner, all_wanted, cost, given, passes, place_sum, total_missing, wanted}
@@ -32,7 +33,7 @@ use Rattle.mcf_places.proofs.Exchange.{model_plan_is_plan, plans_are_model_plans
 use Rattle.mcf_places.proofs.FinerModels.{all_wanted_finer, missing_times, model_finer, plan_finer, shortage_finer, sound_finer}
 use Rattle.mcf_places.proofs.LeastPlans.{least_model_plans_are_least_lem, misses_no_more}
 use Rattle.mcf_places.proofs.Shortages.{free_cost, misses_least, plan_unfree, proper_free}
-use Rattle.mcf_places.proofs.ToldAnswers.{no_plan_unfree, told_bottleneck}
+use Rattle.mcf_places.proofs.ToldAnswers.{no_plan_unfree, none_finer, told_bottleneck}
 
 -- the last of a list
 pub last_is : (before : List ℤ) (last d : ℤ) → get_or (before ++ last ∷ []) (length (before ++ last ∷ []) - 1) d ≡ last
@@ -104,13 +105,15 @@ found_places most P b h = h.are_places
 -- ---- from an answer for the model
 
 -- a model that has all plans
-pub no_plan_told : (most : ℤ) (P : Planner) → IsProperPlanner P → most ≡ when P.policy.short (all_wanted P.places) → (b : Bottleneck)
-    (made : PlannerBottleneck) → HasNoPlan (model_of most P) b → IsToldBottleneck P b made → HasNoPlannerPlan P made
-no_plan_told most P proper all b made h told =
+pub no_plan_told : PlannerBottlenecksHaveNoPlan → (most : ℤ) (P : Planner) → IsProperPlanner P → most ≡ when P.policy.short (all_wanted P.places)
+    → (b : Bottleneck) (made : PlannerBottleneck) → HasNoPlan (model_of most P) b → IsToldBottleneck P b made → HasNoPlannerPlan P made
+no_plan_told law most P proper all b made h told =
+    let stuck = told_bottleneck most P b made proper.sound all h.is_bottleneck told in
     record {
       entry_by_place = told.entry_by_place;
       exit_by_place = told.exit_by_place;
-      is_bottleneck = told_bottleneck most P b made proper.sound all h.is_bottleneck told;
+      is_bottleneck = stuck;
+      none_in_finer_units = λ k x k1. none_finer law P made proper.sound stuck k x k1;
       none = λ x is.
           h.none (routes_of P x)
           (plans_are_model_plans_lem most P x proper.sound.routes is (subst (λ z. total_missing P x ≤ℤ z) (sym all) (misses_no_more P x is))).is_plan;
@@ -135,11 +138,11 @@ module _ (most : ℤ) (P : Planner) (proper : IsProperPlanner P) (stands : Stand
             ∙ ap (total_missing P) (sym e);
       }
 
-  pub no_planner_plan : (b : Bottleneck) (made : PlannerBottleneck) → HasNoPlan (model_of most P) b → IsToldBottleneck P b made → HasNoPlannerPlan P made
-  no_planner_plan b made h told = go stands.all_or_least
+  pub no_planner_plan : PlannerBottlenecksHaveNoPlan → (b : Bottleneck) (made : PlannerBottleneck) → HasNoPlan (model_of most P) b → IsToldBottleneck P b made → HasNoPlannerPlan P made
+  no_planner_plan law b made h told = go stands.all_or_least
     where
       go : (most ≡ when P.policy.short (all_wanted P.places)) ⊎ IsLeastMissing most P → HasNoPlannerPlan P made
-      go (inl all) = no_plan_told most P proper all b made h told
+      go (inl all) = no_plan_told law most P proper all b made h told
       go (inr m) =
           absurd (h.none (routes_of P m.plan)
           (plans_are_model_plans_lem most P m.plan proper.sound.routes m.is_plan (omega (arith, ints, m.misses))).is_plan)
@@ -245,9 +248,10 @@ module _ (most : ℤ) (P : Planner) (proper : IsProperPlanner P)
             );
       }
 
-  pub none_short : (b : Bottleneck) (made : PlannerBottleneck) → HasNoPlan (model_of most (shortage_of P)) b → IsToldBottleneck (shortage_of P) b made
+  pub none_short : PlannerBottlenecksHaveNoPlan → (b : Bottleneck) (made : PlannerBottleneck) → HasNoPlan (model_of most (shortage_of P)) b → IsToldBottleneck (shortage_of P) b made
       → HasNoPlannerPlan P made
-  none_short b made h told = no_plan_unfree P made (no_plan_told most (shortage_of P) (proper_free P proper) is b made h told)
+  none_short law b made h told =
+      no_plan_unfree law P made proper.sound (no_plan_told law most (shortage_of P) (proper_free P proper) is b made h told)
 
 -- the first stage, from what its calls answer
 pub stage_one : (P short : Planner) (most sent : ℤ) (model : Model) (planned : Planned) (found : LeastPlan) → IsProperPlanner P → short ≡ shortage_of P

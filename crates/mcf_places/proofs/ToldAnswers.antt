@@ -1,5 +1,5 @@
 -- Bottlenecks of a problem's model, told of the problem's places.
-use Rattle.std.proofs.Common.{◌≡◌, ℕ, suc, ◌+◌, ◌-◌, Bool, true, false, ◌&&◌, List, [], ◌∷◌, ◌++◌, IsTrue, get_or, length, map, refl, ap, sym, ◌∙◌, subst, arith, ℤ, pos}
+use Rattle.std.proofs.Common.{◌≡◌, ℕ, suc, ◌+◌, ◌-◌, Bool, true, false, ◌&&◌, List, [], ◌∷◌, ◌++◌, IsTrue, get_or, length, map, refl, ap, sym, ◌∙◌, subst, arith, ℤ, pos, ◌≤ℤ◌}
 use Rattle.std.specs.Prelude.{Option, Some, None, not, option_map}
 use Rattle.std.specs.List.{range_with_len}
 use Rattle.std.proofs.lemmas.Int.{ints}
@@ -16,13 +16,16 @@ use Rattle.mcf_places.specs.declared.places.Bounds.{Bounds}
 use Rattle.mcf_places.specs.declared.places.Place.{Place}
 use Rattle.mcf_places.specs.declared.told.PlannerBottleneck.{PlannerBottleneck}
 use Rattle.mcf_places.specs.Answers.{HasNoPlannerPlan, IsToldBottleneck, set_in}
+use Rattle.mcf_places.specs.FinerPlanners.{finer}
 use Rattle.mcf_places.specs.Models.{exit_of, hub_of, model_of, supplies_of}
-use Rattle.mcf_places.specs.PlannerBottlenecks.{IsPlannerBottleneck, IsStuck, IsWhole, PlaceSet, through_least, through_most}
+use Rattle.mcf_places.specs.PlannerBottlenecks.{IsPlannerBottleneck, IsStuck, IsWhole, PlaceSet, PlannerBottlenecksHaveNoPlan, through_least, through_most}
 use Rattle.mcf_places.specs.PlannerFaults.{IsLimitedThrough}
 use Rattle.mcf_places.specs.PlannerLaws.{IsSound}
-use Rattle.mcf_places.specs.Planners.{Planner, all_wanted, given, place_sum, wanted}
+use Rattle.mcf_places.specs.Planners.{IsPlan, Plan, Planner, all_wanted, given, place_sum, wanted}
 use Rattle.mcf_places.specs.Shortage.{free_bounds, free_place, free_route, shortage_of}
 use Rattle.mcf_places.specs.Told.{entries_told, exits_told, side_told, turned_if}
+use Rattle.mcf_places.proofs.FinerCuts.{bottleneck_times}
+use Rattle.mcf_places.proofs.FinerModels.{sound_finer}
 use Rattle.mcf_places.proofs.PlaceCuts.{route_sum-map}
 use Rattle.mcf_places.proofs.PlannerCuts.{told_send, told_take, turned_send, turned_take, unmapped}
 use Rattle.mcf_places.proofs.ProperModels.{exit_is_place}
@@ -166,11 +169,20 @@ module _ (P : Planner) (s : PlaceSet) where
       go Send h g w = stuck_unfree _ _ _ _ _ _ _ _ (omega (arith, ints, g, w)) (ap (when P.policy.unused) g) h
       go Take h g w = stuck_unfree _ _ _ _ _ _ _ _ (omega (arith, ints, g, w)) (ap (when P.policy.short) w) h
 
-pub no_plan_unfree : (P : Planner) (made : PlannerBottleneck) → HasNoPlannerPlan (shortage_of P) made → HasNoPlannerPlan P made
-no_plan_unfree P made h =
+-- a bottleneck excludes plans in finer units, too
+pub none_finer : PlannerBottlenecksHaveNoPlan → (P : Planner) (made : PlannerBottleneck) → IsSound P → IsPlannerBottleneck P (set_in made) made.side
+    → (k : ℤ) (x : Plan) → pos 1 ≤ℤ k → ¬ IsPlan (finer k P) x
+none_finer law P made sound stuck k x k1 =
+    law (finer k P) (set_in made) made.side x (sound_finer k k1 P sound) (bottleneck_times k k1 P (set_in made) made.side stuck)
+
+pub no_plan_unfree : PlannerBottlenecksHaveNoPlan → (P : Planner) (made : PlannerBottleneck) → IsSound P → HasNoPlannerPlan (shortage_of P) made
+    → HasNoPlannerPlan P made
+no_plan_unfree law P made sound h =
+    let stuck = bottleneck_unfree P (set_in made) made.side h.is_bottleneck in
     record {
       entry_by_place = h.entry_by_place ∙ length-map P.places free_place;
       exit_by_place = h.exit_by_place ∙ length-map P.places free_place;
-      is_bottleneck = bottleneck_unfree P (set_in made) made.side h.is_bottleneck;
+      is_bottleneck = stuck;
       none = λ x is. h.none x (plan_free P x is);
+      none_in_finer_units = λ k x k1. none_finer law P made sound stuck k x k1;
     }

@@ -34,12 +34,13 @@ pub record IsBestPlannerPlan (P : Planner) (p : LeastPlannerPlan) : Type 0 where
 abbrev pub set_in : PlannerBottleneck → PlaceSet
 set_in b = record { entries = in_table b.entries.items; exits = in_table b.exits.items }
 
--- places that must send, or take, more than they can, and so no plan
+-- places that must send, or take, more than they can, and so no plan, in finer units either
 pub record HasNoPlannerPlan (P : Planner) (b : PlannerBottleneck) : Type 0 where
   pub entry_by_place : length b.entries.items ≡ length P.places
   pub exit_by_place : length b.exits.items ≡ length P.places
   pub is_bottleneck : IsPlannerBottleneck P (set_in b) b.side
   pub none : (x : Plan) → ¬ IsPlan P x
+  pub none_in_finer_units : (k : ℤ) (x : Plan) → pos 1 ≤ℤ k → ¬ IsPlan (finer k P) x
 
 -- the least that is missing in a plan; none in finer units misses less either
 pub record IsLeastMissing (most : ℤ) (P : Planner) : Type 0 where

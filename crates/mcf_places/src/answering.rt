@@ -6,6 +6,7 @@ ghost use Rattle.mcf_places.specs.PlannerFaults.{IsProperPlanner};
 ghost use Rattle.mcf_places.specs.Planners.{all_wanted};
 
 use crate::faults::{SUM_LIMIT, sums};
+use crate::laws::planner_bottlenecks_have_no_plan;
 use crate::making::model_of;
 use crate::places::Policy;
 use crate::problem::Planner;
@@ -113,6 +114,7 @@ fn in_one_stage<S: Solves>(
             }))
         }
         Planned::NoPlan(found) => {
+            planner_bottlenecks_have_no_plan();
             let bottleneck = told(alloc, planner, &found)?;
             Ok(PlannerAnswer::NoPlan(bottleneck))
         }
@@ -136,6 +138,7 @@ fn least_missing<S: Solves>(
     match planned {
         Planned::Plan(found) => Ok(Missed::Missing(narrowed(found.cost))),
         Planned::NoPlan(found) => {
+            planner_bottlenecks_have_no_plan();
             let bottleneck = told(alloc, &shortage, &found)?;
             Ok(Missed::Unplanned(bottleneck))
         }

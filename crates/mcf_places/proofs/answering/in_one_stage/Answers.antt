@@ -32,6 +32,6 @@ pub returns-in-NoPlan : goal.returns-in-NoPlan
 returns-in-NoPlan g c =
     let P = c.args.planner.now in
     let kept : to_z w64 (of_z w64 c.args.most) ≡ c.args.most = search rules in
-    no_planner_plan c.args.most P c.requires.proper c.requires.stands c.in-NoPlan.found c.in_ok-bottleneck-in-NoPlan.bottleneck
+    no_planner_plan c.args.most P c.requires.proper c.requires.stands c.planner_bottlenecks_have_no_plan.ensures c.in-NoPlan.found c.in_ok-bottleneck-in-NoPlan.bottleneck
     (planned_of c.in_ok-model.model (model_of c.args.most P) c.in_ok-planned.planned _ (c.in_ok-model.ensures ∙ ap (λ z. model_of z P) kept) c.in-NoPlan.is
     c.in_ok-planned.ensures.planned) c.in_ok-bottleneck-in-NoPlan.ensures

@@ -60,6 +60,6 @@ returns-in-NoPlan g c =
     (c.in_ok-model.ensures ∙ ap (λ z. model_of z c.in_ok-shortage.shortage) kept ∙ ap (model_of most) c.in_ok-shortage.ensures) c.in-NoPlan.is
     c.in_ok-planned.ensures.planned in
     none_short most P c.requires
-    (c.most_missing-most.ensures ∙ ap (λ R. when R.policy.short (all_wanted R.places)) c.in_ok-shortage.ensures) c.in-NoPlan.found
+    (c.most_missing-most.ensures ∙ ap (λ R. when R.policy.short (all_wanted R.places)) c.in_ok-shortage.ensures) c.planner_bottlenecks_have_no_plan.ensures c.in-NoPlan.found
     c.in_ok-bottleneck-in-NoPlan.bottleneck none
     (subst (λ R. IsToldBottleneck R c.in-NoPlan.found c.in_ok-bottleneck-in-NoPlan.bottleneck) c.in_ok-shortage.ensures c.in_ok-bottleneck-in-NoPlan.ensures)
