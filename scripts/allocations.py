@@ -39,6 +39,7 @@ OWN = {
     "self.reached.insert",
     "self.steps.push",
     "set.insert",
+    "settled.insert",
     "state.push",
 }
 

@@ -1,0 +1,9 @@
+use Rattle.mcf_ranges.proofs.RangeLaws.{is_cost_range}
+use Rattle.mcf_ranges.proofs.shown.Shown.range.Goals as goal
+
+pub returns : goal.returns
+returns c =
+    let s = c.args.self.now in
+    let shown = c.net-net.ensures.shown in
+    is_cost_range s.network s.flow s.prices c.args.k shown.well_formed.ends shown.feasible shown.shows c.requires c.in_ok-down.down c.in_ok-up.up
+    c.in_ok-up.ensures c.in_ok-down.ensures

@@ -1,0 +1,4 @@
+-- What the proofs of this crate alone need: no public clause names it.
+pub mod Distances
+pub mod Searches
+pub mod Shown
