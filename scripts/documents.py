@@ -401,7 +401,7 @@ cells_of head_faults place_columns route_columns all_step_columns settled_mark n
 is_filled cell_at read_number read_amount is_no_limit read_limit is_yes way_kind number_of name_kind
 no_place_kind cell_faults
 great_faults planner_faults IsProperPlanner steps_in rows_in
-IsBeyond shortage_of
+IsBeyond shortage_of mcf_places.origin_of
 """
 
 # The content of a part: the definitions that these clauses cite, these definitions, and all that
@@ -440,6 +440,11 @@ LEAVES = {
 }
 
 
+def bare(name):
+    """A name without its crate, which stands before it where several crates have the name."""
+    return name.rpartition(".")[2]
+
+
 def clauses_of(text):
     """The clauses of a function by their names."""
     found = re.findall(
@@ -461,10 +466,10 @@ class Specs:
 
     def __init__(self):
         self.definitions, self.modules = read_specs()
-        later = {name for part in PARTS.values() for name in part.names}
+        later = {bare(name) for part in PARTS.values() for name in part.names}
         self.orders, self.part_of = {}, {}
         for part, roots in PARTS.items():
-            stops = LEAVES | later - set(roots.names)
+            stops = LEAVES | later - set(map(bare, roots.names))
             order = self.orders[part] = []
             for key in list(self.cited(roots.clauses)) + [
                 k for n in roots.names for k in self.named(n)
@@ -472,7 +477,12 @@ class Specs:
                 self.visit(key, stops, part, order)
 
     def named(self, name):
-        return [key for key, d in self.definitions.items() if d.name == name and not d.is_private]
+        crate = name.rpartition(".")[0]
+        return [
+            key
+            for key, d in self.definitions.items()
+            if d.name == bare(name) and crate in ("", d.crate) and not d.is_private
+        ]
 
     def cited(self, clauses):
         """The definitions that clauses of functions cite, by the `ghost use` lines of their

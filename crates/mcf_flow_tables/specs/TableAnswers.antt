@@ -2,8 +2,13 @@
 -- Source: own
 use Rattle.std.specs.Prelude.{◌≡◌, ℕ, false, ◌&&◌, List, [], Option, Some, None, Ok, Err}
 use Rattle.std.specs.Option.{is_none}
+use Rattle.mcf_places.specs.declared.answering.PlannerAnswer.{PlannerAnswer}
+use Rattle.mcf_places.specs.declared.answering.PlannerAnswer.TheVariants.{Beyond, Least, NoPlan}
+use Rattle.mcf_places.specs.declared.origins.Origin.{Origin}
 use Rattle.mcf_places.specs.Answers.{IsPlannerAnswer}
+use Rattle.mcf_places.specs.Origins.{origin_of}
 use Rattle.mcf_places.specs.PlannerFaults.{IsProperPlanner}
+use Rattle.mcf_places.specs.Planners.{Planner}
 use Rattle.mcf_reading.specs.Reading.{Entries, read_tables}
 use Rattle.mcf_table.specs.Texts.{Record}
 use Rattle.mcf_table.specs.declared.fault.TextFault.{TextFault}
@@ -22,13 +27,20 @@ use Rattle.mcf_flow_tables.specs.declared.flow_answer.FlowAnswer.TheVariants.{No
 use Rattle.mcf_flow_tables.specs.declared.options.Options.{Options}
 use Rattle.mcf_flow_tables.specs.TableTexts.{IsBrokenText, IsTableOf, place_wanted, route_wanted}
 
+-- where a number beyond the limits comes from, if that is the answer
+abbrev pub origin_in : Planner → PlannerAnswer → Option Origin
+origin_in P (Beyond fault) = Some (origin_of P fault)
+origin_in P (Least plan) = None
+origin_in P (NoPlan bottleneck) = None
+
 -- The answer to what tables say: each number that is too great; or all faults of the problem; or,
 -- if there are none of either, a least plan of it, in the units of the tables, or a bottleneck, or
--- the first number beyond the limits.
+-- the first number beyond the limits and where it comes from.
 abbrev pub IsProblemAnswer : Entries → Terms → ProblemAnswer → Type 0
 IsProblemAnswer said terms (Solved s) =
     (s.scales ≡ scales_of said terms.penalty) × (great_faults s.scales said terms ≡ [])
     × IsProperPlanner (planner_in s.scales said terms) × IsPlannerAnswer (planner_in s.scales said terms) s.answer
+    × (s.origin ≡ origin_in (planner_in s.scales said terms) s.answer)
 IsProblemAnswer said terms (TooGreat faults) = IsMadeOf said terms (GreatNumbers faults)
 IsProblemAnswer said terms (Improper faults) = IsMadeOf said terms (ImproperProblem faults)
 

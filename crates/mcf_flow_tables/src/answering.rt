@@ -1,10 +1,10 @@
 //! The answer to what two tables say.
 ghost use Rattle.std.specs.Prelude.{◌≡◌, IfOk};
-ghost use Rattle.mcf_flow_tables.specs.TableAnswers.{IsProblemAnswer, IsTableAnswer};
+ghost use Rattle.mcf_flow_tables.specs.TableAnswers.{IsProblemAnswer, IsTableAnswer, origin_in};
 
 use crate::options::Options;
 use mcf_model::Solves;
-use mcf_places::{PlannerAnswer, PlannerFault, least};
+use mcf_places::{Origin, Planner, PlannerAnswer, PlannerFault, least, origin_of};
 use mcf_reading::{Faults, Tables, read};
 use mcf_table::Records;
 use mcf_text::NoMemory;
@@ -18,6 +18,8 @@ pub struct SolvedProblem {
     pub scales: Scales,
     /// A least plan, or a bottleneck, or the first number beyond the limits.
     pub answer: PlannerAnswer,
+    /// The place or the route that a number beyond the limits comes from, if that is the answer.
+    pub origin: Option<Origin>,
 }
 
 /// The answer to tables whose heads and cells have no fault.
@@ -40,6 +42,16 @@ pub enum TableAnswer {
     Problem(ProblemAnswer),
 }
 
+// Where a number beyond the limits comes from, if that is the answer.
+fn origin_in(planner: &Planner, answer: &PlannerAnswer) -> Option<Origin>
+    ensures { result ≡ origin_in planner.now answer.now }
+{
+    match answer {
+        PlannerAnswer::Beyond(fault) => Some(origin_of(planner, *fault)),
+        _ => None,
+    }
+}
+
 // The answer to what tables say.
 fn problem_answer<S: Solves>(
     alloc: Global,
@@ -53,7 +65,12 @@ fn problem_answer<S: Solves>(
         Made::Problem(made) => {
             let scales = made.scales;
             let answer = least(alloc, solver, &made.planner)?;
-            Ok(ProblemAnswer::Solved(SolvedProblem { scales, answer }))
+            let origin = origin_in(&made.planner, &answer);
+            Ok(ProblemAnswer::Solved(SolvedProblem {
+                scales,
+                answer,
+                origin,
+            }))
         }
         Made::TooGreat(faults) => Ok(ProblemAnswer::TooGreat(faults)),
         Made::Improper(faults) => Ok(ProblemAnswer::Improper(faults)),

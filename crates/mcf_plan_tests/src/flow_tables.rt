@@ -4,7 +4,7 @@ use mcf_decimal::Mark;
 use mcf_flow_tables::{
     Broken, FlowAnswer, Options, ProblemAnswer, SaidTables, TableAnswer, Texts, plan_tables,
 };
-use mcf_places::{LeastPlannerPlan, PlannerAnswer};
+use mcf_places::{LeastPlannerPlan, Origin, PlannerAnswer};
 use mcf_planner::Planner as Engine;
 use mcf_reading::{ColumnAt, Fault, FaultKind, Head, Location, Table};
 use mcf_table::{FieldFault, TextFault};
@@ -121,5 +121,24 @@ fn faults_of_tables_are_told(rt: HostRuntime) -> Result<(), Fail> {
     };
     let kind = FaultKind::NoPlace;
     assert!(rt; is_fault(&answer, Fault { at, kind }));
+    Ok(())
+}
+
+// Where a number beyond the limits comes from, if that is the answer.
+fn origin_of(answer: &FlowAnswer) -> Option<Origin> {
+    match answer {
+        FlowAnswer::Tables(said) => match &said.answer {
+            TableAnswer::Problem(ProblemAnswer::Solved(solved)) => solved.origin,
+            _ => None,
+        },
+        FlowAnswer::NoTables(_) => None,
+    }
+}
+
+#[test]
+fn numbers_beyond_the_limits_have_an_origin(rt: HostRuntime) -> Result<(), Fail> {
+    let routes = b"from,to,most,cost\nMill,Graz,20,1\nGraz,Wien,200000000000000000,1\n";
+    let answer = answer_to(rt.alloc(), PLACES, routes)?;
+    assert!(rt; origin_of(&answer) == Some(Origin::OfRoute(2)));
     Ok(())
 }
