@@ -22,6 +22,8 @@ mod prices;
 #[cfg(test)]
 mod raising;
 #[cfg(test)]
+mod ranges;
+#[cfg(test)]
 mod runs;
 #[cfg(test)]
 mod scaling;

@@ -1,5 +1,5 @@
 -- What is known of the task of a search, and of the net that tells its arcs.
-use Rattle.std.proofs.Common.{◌≡◌, ℕ, ◌-◌, ◌*◌, ◌<◌, Bool, true, false, IsTrue, ◌↔◌, Option, Some, option_map, List, [], ◌∷◌, ◌++◌, ◌+◌, length, get_or, take, ap, sym, ◌∙◌, subst, refl, arith, ℤ, pos, ◌+ℤ◌, ◌-ℤ◌, ◌≤ℤ◌, ◌<ℤ◌, length-set, inl, to_z, of_z}
+use Rattle.std.proofs.Common.{◌≡◌, ℕ, ◌-◌, ◌*◌, ◌<◌, Bool, true, false, IsTrue, ◌↔◌, Option, Some, option_map, Result, Ok, Err, OnErr, ◌≤◌, List, [], ◌∷◌, ◌++◌, ◌+◌, length, get_or, take, ap, sym, ◌∙◌, subst, refl, arith, ℤ, pos, ◌+ℤ◌, ◌-ℤ◌, ◌≤ℤ◌, ◌<ℤ◌, length-set, inl, to_z, of_z}
 use Rattle.std.specs.Int.{w128}
 use Rattle.std.specs.Prelude.{slice_get}
 use Rattle.std.specs.List.{All, AllZip}
@@ -13,7 +13,7 @@ use Rattle.mcf_flows.specs.Blocking.{in_table}
 use Rattle.mcf_flows.specs.Flow.{CanCarry, reduced_cost}
 use Rattle.mcf_flows.specs.Limits.{limits}
 use Rattle.mcf_flows.specs.Network.{Network, IsArcNumber, at_node, node_count}
-use Rattle.mcf_flows.specs.WellFormed.{HasEnds, IsArcWithinLimits, IsUpTo}
+use Rattle.mcf_flows.specs.WellFormed.{HasEnds, IsArcWithinLimits, IsUpTo, IsWellFormed}
 use Rattle.mcf_flows.proofs.AllZips.{AllZip-at, length-AllZip}
 use Rattle.mcf_network.specs.declared.rid.Rid.{Rid}
 use Rattle.mcf_network.specs.NodeSets.{member_count, with_node}
@@ -21,6 +21,7 @@ use Rattle.mcf_network.specs.Removal.{net_of, without_low}
 use Rattle.mcf_network.specs.Residual.{no_arc, arc_at, head, tail}
 use Rattle.mcf_network.specs.Stars.{Leaves, ListsLeaving}
 use Rattle.mcf_network.specs.TreeSolutions.{at_arc}
+use Rattle.mcf_network.proofs.ArcLaws.{arcs_need_nodes}
 use Rattle.mcf_network.proofs.Marks.{count_small}
 use Rattle.mcf_network.proofs.RemovalLaws.{net_of-node_count}
 use Rattle.mcf_network.proofs.RestoringLaws.{net_of-arc_count}
@@ -363,3 +364,16 @@ one_range_more R arcs i k before after range h e is here all =
     subst (λ ys. AllZip R (take (i + 1) arcs) ys) (sym is)
     (subst (λ xs. AllZip R xs (before ++ range ∷ [])) (sym (take_more arcs i k h ∙ ap (λ x. take i arcs ++ x ∷ []) (sym e)))
     (AllZip_push R (take i arcs) before k range all here))
+
+-- ---- memory
+
+-- an arc joins nodes
+some_nodes : (g : Network) (arcs : List ℕ) → IsWellFormed limits g → All (IsArcNumber g) arcs → 1 ≤ length arcs → 1 ≤ node_count g
+some_nodes g arcs well_formed all some =
+    let first = all 0 0 (omega (arith, some)) in
+    arcs_need_nodes (node_count g) g.arcs well_formed.ends (omega (arith, first))
+
+pub wants_nodes : {T E : Type 0} (made : Result T E) (g : Network) (arcs : List ℕ) → IsWellFormed limits g → All (IsArcNumber g) arcs
+    → OnErr made (1 ≤ length arcs) → OnErr made (1 ≤ node_count g)
+wants_nodes (Ok x) g arcs well_formed all h = h
+wants_nodes (Err e) g arcs well_formed all h = some_nodes g arcs well_formed all h

@@ -1,5 +1,5 @@
 //! The ranges of the costs of arcs.
-ghost use Rattle.std.specs.Prelude.{◌≡◌, IfOk, length};
+ghost use Rattle.std.specs.Prelude.{◌≡◌, ◌≤◌, IfOk, OnErr, length};
 ghost use Rattle.std.specs.List.{All, AllZip};
 ghost use Rattle.mcf_flows.specs.Flow.{IsFeasible, Shows};
 ghost use Rattle.mcf_flows.specs.Network.{IsArcNumber, node_count};
@@ -25,7 +25,7 @@ use std::alloc::Global;
 ///
 /// # Errors
 ///
-/// `NoMemory` if an allocation is refused.
+/// `NoMemory` if an allocation is refused; an instance without nodes needs none.
 pub fn cost_ranges(
     alloc: Global,
     instance: &Instance,
@@ -38,7 +38,8 @@ pub fn cost_ranges(
     requires one_per_node { length prices.now ≡ node_count instance.now }
     requires small { All (IsUpTo price_limit) prices.now }
     requires arcs { All (IsArcNumber instance.now) arcs.now }
-    ensures { IfOk result (λ ranges. AllZip (IsCostRange instance.now flow.now) arcs.now ranges.items) }
+    ensures ranges { IfOk result (λ ranges. AllZip (IsCostRange instance.now flow.now) arcs.now ranges.items) }
+    ensures wants { OnErr result (1 ≤ node_count instance.now) }
 {
     // Called only for its clause: the instance is within the limits.
     let _nodes = instance.node_count();
@@ -56,7 +57,8 @@ impl<'a> Shown<'a> {
     // Returns the range of the cost of each of some arcs.
     fn ranges(&self, alloc: Global, arcs: &[ArcId]) -> Result<Vec<CostRange>, NoMemory>
         requires { All (IsArcNumber self.now.network) arcs.now }
-        ensures { IfOk result (λ ranges. AllZip (IsCostRange self.now.network self.now.flow) arcs.now ranges.items) }
+        ensures ranges { IfOk result (λ ranges. AllZip (IsCostRange self.now.network self.now.flow) arcs.now ranges.items) }
+        ensures wants { OnErr result (1 ≤ length arcs.now) }
     {
         let mut ranges = Vec::with_capacity(alloc, arcs.len())?;
         for k in arcs {
