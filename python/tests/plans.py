@@ -11,12 +11,11 @@ script tries all amounts in halves of a unit, up to one more than all supplies, 
 amounts together. It uses one in ten of the models without a plan.
 """
 import itertools
-import pathlib
 import random
-import sys
 from fractions import Fraction
 
-TABLE = pathlib.Path(__file__).resolve().parents[2] / "crates/mcf_plan_tests/src/tried.rt"
+from table_rows import random_rows, write_or_check
+
 COUNT, SEED = 16, 1
 PLACES = 3
 ROUTES = 3
@@ -130,33 +129,12 @@ def row_lines(supplies, routes, cost):
     ]
 
 
-def table_lines():
-    """The rows of the table."""
-    rng = random.Random(SEED)
-    lines, count = [], 0
-    while count < COUNT:
-        supplies, routes = random_model(rng)
-        cost = least(supplies, routes)
-        if cost is not None or rng.random() < 0.1:
-            lines += row_lines(supplies, routes, cost)
-            count += 1
-    return lines
-
-
-def main():
-    if sys.argv[1:] not in (["write"], ["check"]):
-        sys.exit(__doc__)
-    before = TABLE.read_text()
-    head, opening, rest = before.partition(f"const ROWS: [TriedRow; {COUNT}] = [\n")
-    _, closing, tail = rest.partition("\n];\n")
-    if not opening or not closing:
-        sys.exit(f"plans: {TABLE} has no table of {COUNT} rows")
-    after = head + opening + "\n".join(table_lines()) + closing + tail
-    if sys.argv[1] == "write":
-        TABLE.write_text(after)
-    elif before != after:
-        sys.exit(f"plans: {TABLE} differs from what python/tests/plans.py writes")
+def random_case(rng):
+    """A random model, and what its least plan costs."""
+    supplies, routes = random_model(rng)
+    return supplies, routes, least(supplies, routes)
 
 
 if __name__ == "__main__":
-    main()
+    rows = random_rows(random.Random(SEED), COUNT, random_case, row_lines, 0.1)
+    write_or_check(__doc__, "tried.rt", "TriedRow", COUNT, rows)

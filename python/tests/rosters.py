@@ -9,11 +9,10 @@ A roster has three persons, three things and seven pairs. The script tries all s
 It uses one in four of the rosters without a choice.
 """
 import itertools
-import pathlib
 import random
-import sys
 
-TABLE = pathlib.Path(__file__).resolve().parents[2] / "crates/mcf_plan_tests/src/chosen.rt"
+from table_rows import random_rows, write_or_check
+
 COUNT, SEED = 16, 1
 PERSONS = THINGS = 3
 PAIRS = 7
@@ -67,33 +66,12 @@ def row_lines(takes, needs, pairs, value):
     ]
 
 
-def table_lines():
-    """The rows of the table."""
-    rng = random.Random(SEED)
-    lines, count = [], 0
-    while count < COUNT:
-        takes, needs, pairs = random_roster(rng)
-        value = least(takes, needs, pairs)
-        if value is not None or rng.random() < 0.25:
-            lines += row_lines(takes, needs, pairs, value)
-            count += 1
-    return lines
-
-
-def main():
-    if sys.argv[1:] not in (["write"], ["check"]):
-        sys.exit(__doc__)
-    before = TABLE.read_text()
-    head, opening, rest = before.partition(f"const ROWS: [ChosenRow; {COUNT}] = [\n")
-    _, closing, tail = rest.partition("\n];\n")
-    if not opening or not closing:
-        sys.exit(f"rosters: {TABLE} has no table of {COUNT} rows")
-    after = head + opening + "\n".join(table_lines()) + closing + tail
-    if sys.argv[1] == "write":
-        TABLE.write_text(after)
-    elif before != after:
-        sys.exit(f"rosters: {TABLE} differs from what python/tests/rosters.py writes")
+def random_case(rng):
+    """A random roster, and the value of its least choice."""
+    takes, needs, pairs = random_roster(rng)
+    return takes, needs, pairs, least(takes, needs, pairs)
 
 
 if __name__ == "__main__":
-    main()
+    rows = random_rows(random.Random(SEED), COUNT, random_case, row_lines, 0.25)
+    write_or_check(__doc__, "chosen.rt", "ChosenRow", COUNT, rows)
