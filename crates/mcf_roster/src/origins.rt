@@ -19,7 +19,8 @@ pub enum Origin {
     OfAll,
 }
 
-// Returns what comes from one of so many persons and things; places count from 0.
+// Returns the person or the thing at a place, counted from 0, where all persons stand before all
+// things; all of them for a later place.
 fn side_origin(persons: usize, things: usize, place: usize) -> Origin
     ensures { result ≡ slice_index_or (side_origins persons things) place OfAll }
 {
