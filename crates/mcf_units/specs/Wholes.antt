@@ -9,6 +9,7 @@ use Rattle.mcf_model.specs.declared.rows.Step.{Step}
 use Rattle.mcf_places.specs.declared.places.Bounds.{Bounds}
 use Rattle.mcf_places.specs.declared.places.Place.{Place}
 use Rattle.mcf_places.specs.declared.places.Policy.{Policy}
+use Rattle.mcf_model.specs.Bottlenecks.{limit_or_zero}
 use Rattle.mcf_model.specs.Model.{Route as ModelRoute}
 use Rattle.mcf_places.specs.Planners.{Planner}
 use Rattle.mcf_reading.specs.Cells.{zero_decimal}
@@ -35,11 +36,6 @@ whole scale d = if is_whole scale d then at_scale scale d else pos 0
 -- a limit in units
 abbrev pub whole_limit : ℕ → Option Decimal → Option ℤ
 whole_limit scale most = option_map (whole scale) most
-
--- a limit, or 0 if there is none
-abbrev pub limit_or_zero : Option ℤ → ℤ
-limit_or_zero None = pos 0
-limit_or_zero (Some most) = most
 
 -- bounds in units
 abbrev pub bounds_in : Scales → BoundsEntry → Bounds

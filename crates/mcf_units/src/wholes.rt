@@ -1,7 +1,8 @@
 //! What the tables say, in whole units.
 ghost use Rattle.std.specs.Prelude.{◌≡◌, ◌<◌, ◌≤◌, ◌^◌, length};
 ghost use Rattle.mcf_reading.specs.Reading.{route_at};
-ghost use Rattle.mcf_units.specs.Wholes.{bounds_in, is_whole, last_step, limit_or_zero, place_in, place_number, policy_in, row_in, step_in, whole, whole_limit};
+ghost use Rattle.mcf_model.specs.Bottlenecks.{limit_or_zero};
+ghost use Rattle.mcf_units.specs.Wholes.{bounds_in, is_whole, last_step, place_in, place_number, policy_in, row_in, step_in, whole, whole_limit};
 
 use crate::scales::Scales;
 use crate::terms::Terms;
