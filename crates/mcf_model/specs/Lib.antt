@@ -4,6 +4,7 @@ pub use Rattle.mcf_instance.specs.Blocking
 pub mod Model
 pub mod Arcs
 pub mod Bottlenecks
+pub mod Complements
 pub mod Faults
 pub mod Laws
 pub mod Planning

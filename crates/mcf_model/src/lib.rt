@@ -10,6 +10,7 @@
 
 mod arcs;
 mod carried;
+mod complements;
 mod faults;
 mod laws;
 mod plan_model;
@@ -19,6 +20,7 @@ mod rows;
 
 pub use arcs::arcs_of;
 pub use carried::plan_of;
+pub use complements::{side_told, turned_if};
 pub use faults::{ModelFault, RouteFault, all_faults, some_earn};
 pub use laws::{
     blocked_models_have_no_plan, blocking_sets_are_bottlenecks, bottlenecks_have_no_plan,

@@ -23,7 +23,8 @@ use Rattle.mcf_places.specs.PlannerFaults.{IsLimitedThrough}
 use Rattle.mcf_places.specs.PlannerLaws.{IsSound}
 use Rattle.mcf_places.specs.Planners.{IsPlan, Plan, Planner, all_wanted, given, place_sum, wanted}
 use Rattle.mcf_places.specs.Shortage.{free_bounds, free_place, free_route, shortage_of}
-use Rattle.mcf_places.specs.Told.{entries_told, exits_told, side_told, turned_if}
+use Rattle.mcf_model.specs.Complements.{side_told, turned_if}
+use Rattle.mcf_places.specs.Told.{entries_told, exits_told}
 use Rattle.mcf_places.proofs.FinerCuts.{bottleneck_times}
 use Rattle.mcf_places.proofs.FinerModels.{sound_finer}
 use Rattle.mcf_places.proofs.PlaceCuts.{route_sum-map}

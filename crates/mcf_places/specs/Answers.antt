@@ -21,7 +21,7 @@ use Rattle.mcf_places.specs.PlannerLaws.{LeavesEnough}
 use Rattle.mcf_places.specs.Planners.{IsLeastPlan, IsPlan, Plan, Planner, all_wanted, cost, total_missing}
 use Rattle.mcf_places.specs.Planning.{plan_in}
 use Rattle.mcf_places.specs.Shortage.{shortage_of}
-use Rattle.mcf_places.specs.Told.{side_told, turned_if}
+use Rattle.mcf_model.specs.Complements.{side_told, turned_if}
 
 -- a least plan, its cost, and what is missing in total; no plan in finer units is better either
 pub record IsBestPlannerPlan (P : Planner) (p : LeastPlannerPlan) : Type 0 where

@@ -5,7 +5,7 @@ ghost use Rattle.mcf_flows.specs.Blocking.{in_table};
 ghost use Rattle.mcf_flows.specs.Network.{IsNode};
 ghost use Rattle.mcf_places.specs.Answers.{IsToldBottleneck};
 ghost use Rattle.mcf_places.specs.Models.{hub_of, supplies_of};
-ghost use Rattle.mcf_places.specs.Told.{entries_told, exits_told, side_told, turned_if};
+ghost use Rattle.mcf_places.specs.Told.{entries_told, exits_told};
 
 use crate::faults::PLACE_LIMIT;
 use crate::places::Place;
@@ -13,7 +13,7 @@ use crate::problem::Planner;
 use crate::rows::{exit_of, gate_of, hub_of};
 use crate::supplies::some_bounds;
 use mcf_flows::{Side, table_of};
-use mcf_model::Bottleneck;
+use mcf_model::{Bottleneck, side_told, turned_if};
 use mcf_text::NoMemory;
 use std::alloc::Global;
 
@@ -51,26 +51,6 @@ fn has_hub(table: &[bool], places: &[Place]) -> bool
 {
     let hub = hub_of(places);
     table[hub as usize - 1]
-}
-
-// Returns a test, turned if it has to be.
-fn turned_if(turned: bool, test: bool) -> bool
-    ensures { result ≡ turned_if turned test }
-{
-    if turned { !test } else { test }
-}
-
-// Returns a side, turned if it has to be.
-fn side_told(turned: bool, side: Side) -> Side
-    ensures { result ≡ side_told turned side }
-{
-    if !turned {
-        return side;
-    }
-    match side {
-        Side::Send => Side::Take,
-        Side::Take => Side::Send,
-    }
 }
 
 // Returns the entries of places that a table marks.

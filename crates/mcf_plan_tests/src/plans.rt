@@ -2,7 +2,7 @@
 use mcf_choice::Choice;
 use mcf_flows::{Code, Side};
 use mcf_instance::ArrayFault;
-use mcf_model::{PlanModel, Planned, RouteRow, Step, arcs_of, reach_of};
+use mcf_model::{PlanModel, Planned, RouteRow, Step, arcs_of, reach_of, side_told, turned_if};
 use mcf_planner::plan_with;
 use mcf_text::{ArcId, NoMemory};
 use std::alloc::Global;
@@ -235,5 +235,20 @@ fn the_network_of_a_model(rt: HostRuntime) -> Result<(), Fail> {
     assert_eq!(rt; reach_of(&model), 61);
     let arcs = arcs_of(alloc, 61, &model)?;
     assert_eq!(rt; arcs.len(), 5);
+    Ok(())
+}
+
+#[test]
+fn other_places_are_on_the_other_side(rt: HostRuntime) -> Result<(), Fail> {
+    let tests = (
+        turned_if(true, false),
+        turned_if(false, true),
+        turned_if(true, true),
+    );
+    assert!(rt; tests.0 && tests.1 && !tests.2);
+    let sides = (side_told(true, Side::Send), side_told(true, Side::Take));
+    assert!(rt; sides.0 == Side::Take && sides.1 == Side::Send);
+    let same = side_told(false, Side::Take);
+    assert!(rt; same == Side::Take);
     Ok(())
 }

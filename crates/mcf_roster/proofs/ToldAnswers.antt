@@ -23,7 +23,8 @@ use Rattle.mcf_roster.specs.Models.{choice_of, hub_of, model_of, plan_of}
 use Rattle.mcf_roster.specs.RosterAnswers.{HasNoChoice, IsBestChoice, IsToldCompetition}
 use Rattle.mcf_roster.specs.RosterFaults.{HasBothEnds, IsSoundRoster}
 use Rattle.mcf_roster.specs.Rosters.{IsLeastChoice, Roster, chosen_sum, value}
-use Rattle.mcf_roster.specs.ToldTests.{side_told, tests_told, turned_if}
+use Rattle.mcf_model.specs.Complements.{side_told, turned_if}
+use Rattle.mcf_roster.specs.ToldTests.{tests_told}
 use Rattle.mcf_roster.proofs.Balances.{is_place_of}
 use Rattle.mcf_roster.proofs.Contests.{told_send, told_take, turned_send, turned_take}
 use Rattle.mcf_roster.proofs.Exchange.{choice_is_plan, least_plans_are_least_choices_lem, plan_is_choice}

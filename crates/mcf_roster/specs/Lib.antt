@@ -1,6 +1,7 @@
 pub use Rattle.mcf_model.specs.Model
 pub use Rattle.mcf_model.specs.Tables
 pub use Rattle.mcf_model.specs.Bottlenecks
+pub use Rattle.mcf_model.specs.Complements
 pub use Rattle.mcf_model.specs.Faults
 pub use Rattle.mcf_model.specs.Laws
 pub use Rattle.mcf_model.specs.Arcs

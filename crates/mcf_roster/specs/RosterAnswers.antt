@@ -14,7 +14,7 @@ use Rattle.mcf_roster.specs.declared.told.Competition.{Competition}
 use Rattle.mcf_roster.specs.Competitions.{IsCompetition}
 use Rattle.mcf_roster.specs.Models.{hub_of, model_of}
 use Rattle.mcf_roster.specs.Rosters.{IsChoice, IsLeastChoice, Roster, value}
-use Rattle.mcf_roster.specs.ToldTests.{side_told, turned_if}
+use Rattle.mcf_model.specs.Complements.{side_told, turned_if}
 
 -- a least choice, and what it costs
 pub record IsBestChoice (R : Roster) (c : LeastChoice) : Type 0 where

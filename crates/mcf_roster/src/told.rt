@@ -5,12 +5,12 @@ ghost use Rattle.mcf_flows.specs.Blocking.{in_table};
 ghost use Rattle.mcf_flows.specs.Network.{IsNode};
 ghost use Rattle.mcf_roster.specs.Models.{hub_of};
 ghost use Rattle.mcf_roster.specs.RosterAnswers.{IsToldCompetition};
-ghost use Rattle.mcf_roster.specs.ToldTests.{side_told, tests_told, turned_if};
+ghost use Rattle.mcf_roster.specs.ToldTests.{tests_told};
 
 use crate::rosters::Roster;
 use crate::rows::hub_of;
 use mcf_flows::{Side, table_of};
-use mcf_model::Bottleneck;
+use mcf_model::{Bottleneck, side_told, turned_if};
 use mcf_text::NoMemory;
 use std::alloc::Global;
 
@@ -25,26 +25,6 @@ pub struct Competition {
     /// For each thing, in order, whether it is one of them.
     pub things: Vec<bool>,
     pub side: Side,
-}
-
-// Returns a test, turned if it has to be.
-fn turned_if(turned: bool, test: bool) -> bool
-    ensures { result ≡ turned_if turned test }
-{
-    if turned { !test } else { test }
-}
-
-// Returns a side, turned if it has to be.
-fn side_told(turned: bool, side: Side) -> Side
-    ensures { result ≡ side_told turned side }
-{
-    if !turned {
-        return side;
-    }
-    match side {
-        Side::Send => Side::Take,
-        Side::Take => Side::Send,
-    }
 }
 
 // Returns whether a table marks a place.

@@ -1,6 +1,6 @@
 use Rattle.std.proofs.Common.{◌∙◌, ap}
 use Rattle.mcf_flows.specs.Blocking.{in_table}
-use Rattle.mcf_places.specs.Told.{turned_if}
+use Rattle.mcf_model.specs.Complements.{turned_if}
 use Rattle.mcf_places.proofs.ToldAnswers.{test_at, test_more}
 use Rattle.mcf_places.proofs.told.entries_told.Goals as goal
 

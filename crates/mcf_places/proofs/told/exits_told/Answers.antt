@@ -1,7 +1,7 @@
 use Rattle.std.proofs.Common.{◌∙◌, ap}
 use Rattle.mcf_flows.specs.Blocking.{in_table}
 use Rattle.mcf_places.specs.Models.{exit_of}
-use Rattle.mcf_places.specs.Told.{turned_if}
+use Rattle.mcf_model.specs.Complements.{turned_if}
 use Rattle.mcf_places.proofs.ToldAnswers.{test_more}
 use Rattle.mcf_places.proofs.told.exits_told.Goals as goal
 

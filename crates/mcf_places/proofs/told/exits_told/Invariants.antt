@@ -2,7 +2,7 @@ use Rattle.std.proofs.Common.{◌≡◌, map}
 use Rattle.std.specs.List.{range_with_len}
 use Rattle.mcf_flows.specs.Blocking.{in_table}
 use Rattle.mcf_places.specs.Models.{exit_of}
-use Rattle.mcf_places.specs.Told.{turned_if}
+use Rattle.mcf_model.specs.Complements.{turned_if}
 use Rattle.mcf_places.proofs.told.exits_told.Given as goal
 
 abbrev pub invariant-loop-place : goal.invariant-loop-place

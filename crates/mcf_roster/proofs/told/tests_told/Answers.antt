@@ -1,6 +1,6 @@
 use Rattle.std.proofs.Common.{◌≡◌, ◌∙◌, ◌+◌, ◌-◌, [], ap, arith, false, get_or}
 use Rattle.mcf_flows.specs.Blocking.{in_table}
-use Rattle.mcf_roster.specs.ToldTests.{turned_if}
+use Rattle.mcf_model.specs.Complements.{turned_if}
 use Rattle.mcf_roster.proofs.RowSteps.{entry_more}
 use Rattle.mcf_roster.proofs.told.tests_told.Goals as goal
 
