@@ -136,6 +136,16 @@ impl<'n> Basis<'n> {
         self.offered(k) < 0
     }
 
+    /// By how much an eligible arc violates the optimality conditions: the absolute value of its
+    /// reduced cost. It reads what a scan of the arc has just read.
+    pub fn violation(&self, k: ArcId) -> u128
+        requires { IsEligible self.now k }
+        ensures value { result ≡ violation self.now k }
+        ensures basis { IsBasis self.now }
+    {
+        self.offered(k).unsigned_abs()
+    }
+
     /// Of the arcs from number `first` up to but not including `end`, the eligible one of greatest
     /// violation (absolute value of the reduced cost); among several, the one with the least
     /// number.

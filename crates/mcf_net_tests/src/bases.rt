@@ -45,7 +45,8 @@ fn is_arc(rows: &[(i128, bool)], place: u32, reduced: i128, eligible: bool) -> b
     }
 }
 
-// Whether the arcs have these reduced costs, and can enter where the row says so.
+// Whether the arcs have these reduced costs, and can enter where the row says so. Those that can
+// enter violate the conditions by the absolute value.
 fn has_arcs(basis: &Basis<'_>, rows: &[(i128, bool)]) -> bool {
     let arcs = basis.net().arc_count();
     for place in 0..arcs {
@@ -53,6 +54,9 @@ fn has_arcs(basis: &Basis<'_>, rows: &[(i128, bool)]) -> bool {
         let reduced = basis.reduced(k);
         let eligible = basis.eligible(k);
         if !is_arc(rows, place, reduced, eligible) {
+            return false;
+        }
+        if eligible && basis.violation(k) != reduced.unsigned_abs() {
             return false;
         }
     }

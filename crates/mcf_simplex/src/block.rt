@@ -150,14 +150,14 @@ fn most_violated_in_round(basis: &Basis<'_>, start: u32, begin: u32, end: u32) -
     more_violated(basis, early, late)
 }
 
-// The more violated of two arcs; if they are equal, the first.
+// The more violated of two eligible arcs; if they are equal, the first.
 pub(crate) fn more_violated(
     basis: &Basis<'_>,
     early: Option<ArcId>,
     late: Option<ArcId>,
 ) -> Option<ArcId>
-    requires early { IfSome early (IsArcNumber basis.now.net) }
-    requires late { IfSome late (IsArcNumber basis.now.net) }
+    requires early { IfSome early (IsEligible basis.now) }
+    requires late { IfSome late (IsEligible basis.now) }
     ensures { IsMoreViolated basis.now early late result }
 {
     let Some(e) = early else {
@@ -166,7 +166,7 @@ pub(crate) fn more_violated(
     let Some(l) = late else {
         return Some(e);
     };
-    let first = basis.reduced(e).unsigned_abs();
-    let second = basis.reduced(l).unsigned_abs();
+    let first = basis.violation(e);
+    let second = basis.violation(l);
     if first < second { Some(l) } else { Some(e) }
 }
