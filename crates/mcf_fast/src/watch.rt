@@ -57,11 +57,16 @@ pub(crate) const LEAST_ARCS: u32 = 256;
 
 // The number of stretches of the arcs from which a block takes its pieces. On small nets whose
 // nodes continue to send to the root, a run with 8 takes 0.74 to 0.80 of the time of one with 1
-// (family `goto`); if many pivots push flow, one with 12 takes 0.47 to 0.6 of it
-// (networks of several periods, family `plan`).
+// (family `goto`); if many pivots push flow, one with 12 takes 0.47 to 0.6 of it (networks of
+// several periods, family `plan`). With 24, a process takes 0.90, 0.86 and 0.71 of the time of one
+// with 12 at 2^12, 2^13 and 2^14 nodes, 0.89 to 1.08 of the instructions at 2^11, and 1.02 to 1.1
+// of them at 2^10. With more, pivots move fewer nodes still, but pricing takes longer, since pieces
+// become so short.
 const SMALL_STRETCHES: u32 = 8;
 
-const BUSY_STRETCHES: u32 = 12;
+const SMALL_BUSY_STRETCHES: u32 = 12;
+
+const BUSY_STRETCHES: u32 = 24;
 
 // The limit of work: a run of a net that isn't dense and has at least `LEAST_NODES_TO_LEAVE` nodes
 // is left if it has scanned more arcs than this many times all arcs, where each moved node counts
@@ -202,7 +207,7 @@ impl Watch {
             return Decision::Wait;
         }
         if self.quarters == 2 && is_busy(counts) {
-            return Decision::Split(BUSY_STRETCHES);
+            return Decision::Split(self.busy_stretches());
         }
         if self.nodes < LEAST_NODES_TO_LEAVE {
             return self.of_small(quarter);
@@ -220,6 +225,15 @@ impl Watch {
             return self.of_first_round(quarter, counts);
         }
         self.of_later(quarter)
+    }
+
+    // The number of stretches if many pivots push flow.
+    fn busy_stretches(&self) -> u32 {
+        if self.nodes < LEAST_NODES_TO_LEAVE {
+            SMALL_BUSY_STRETCHES
+        } else {
+            BUSY_STRETCHES
+        }
     }
 
     // Whether the run has passed the limit of work.
@@ -260,7 +274,9 @@ impl Watch {
         }
         let is_stuck = quarter.is_still_loaded(95) && 8 <= self.first_loaded;
         let is_moving = counts.still.wrapping_mul(2) < counts.pivots && quarter.is_still_loaded(11);
-        if (is_stuck || is_moving) && MANY_NODES <= self.nodes {
+        let is_large = MANY_NODES <= self.nodes;
+        let is_slow = is_moving && least_moving_nodes(counts) <= self.nodes;
+        if (is_stuck && is_large) || is_slow {
             return Decision::Leave;
         }
         if !quarter.is_still_loaded(11) && self.nodes < WIDE_NODES {
@@ -319,4 +335,17 @@ impl Watch {
 // degenerate.
 fn is_busy(counts: &RunCounts) -> bool {
     counts.still.wrapping_mul(2) < counts.pivots && counts.pivots < counts.still.wrapping_mul(8)
+}
+
+// The number of nodes from which it pays to leave a run after four quarters if most pivots push
+// flow. In networks of several periods, an eighth to a quarter of them are degenerate: there blocks
+// of more pieces gain most, and the run takes 0.56 to 0.7 of the time of the search at 2^14 nodes
+// (family `plan`). Where more are, since most nodes send or take, it takes 1.3 to 1.5 of it (family
+// `many`).
+fn least_moving_nodes(counts: &RunCounts) -> u32 {
+    if is_busy(counts) && counts.still.wrapping_mul(4) < counts.pivots {
+        LARGE_NODES
+    } else {
+        MANY_NODES
+    }
 }
