@@ -8,6 +8,7 @@ mod Unlimited
 mod Narrow
 mod Finer
 mod Exact
+mod PricedPlans
 mod Filling
 mod Reading
 mod RowSteps

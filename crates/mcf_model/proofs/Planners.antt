@@ -20,9 +20,11 @@ use Rattle.mcf_model.specs.Arcs.{arcs_of, network_of, plan_of, reach_of}
 use Rattle.mcf_model.specs.Laws.{IsProper}
 use Rattle.mcf_model.specs.Model.{IsLeastPlan, IsSoundRoute, Model, Route, plan_cost}
 use Rattle.mcf_model.specs.Planning.{HasNoPlan, IsBestPlan, IsBlocked, IsShownFlow}
+use Rattle.mcf_model.specs.Prices.{ShowsPlan}
 use Rattle.mcf_model.specs.Scaling.{scaled}
 use Rattle.mcf_model.proofs.Exact.{finer_plans_undercut_none_lem}
 use Rattle.mcf_model.proofs.Narrow.{blocking_sets_are_bottlenecks_lem}
+use Rattle.mcf_model.proofs.PricedPlans.{shown_flows_show_plans_lem}
 use Rattle.mcf_model.proofs.Raised.{IsRaised, arcs_raised}
 use Rattle.mcf_model.proofs.Unlimited.{blocked_models_have_no_plan_lem, shown_flows_cost_the_same_lem, shown_flows_give_least_plans_lem}
 
@@ -52,13 +54,15 @@ flow_is_long m s h =
     ∙ sym (length-AllZip (IsRaised (pos 0) (reach_of m)) (arcs_of (pos 0) m.routes) (arcs_of (reach_of m) m.routes) (arcs_raised (pos 0) (reach_of m) m.routes))
 
 pub best_plan : (m : Model) (s : ShownFlow) (p : LeastPlan) → IsProper m → IsShownFlow (network_of (reach_of m) m) s
-    → p.carries.items ≡ plan_of m.routes s.flow.items → p.cost ≡ s.cost → IsBestPlan m p
-best_plan m s p proper h is same =
+    → p.carries.items ≡ plan_of m.routes s.flow.items → p.cost ≡ s.cost → p.prices.items ≡ s.prices.items → IsBestPlan m p
+best_plan m s p proper h is same priced =
     let flow = s.flow.items in
     let prices = s.prices.items in
     record {
       least = subst (IsLeastPlan m) (sym is) (shown_flows_give_least_plans_lem m prices flow proper.sound proper.bounded h.feasible h.shown);
       cost_is = same ∙ h.cost_is ∙ sym (shown_flows_cost_the_same_lem m prices flow proper.sound proper.bounded h.feasible h.shown) ∙ ap (plan_cost m) (sym is);
+      shown = subst (λ ys. ShowsPlan m.routes ys p.carries.items) (sym priced)
+          (subst (ShowsPlan m.routes prices) (sym is) (shown_flows_show_plans_lem m prices flow proper.sound proper.bounded h.feasible h.shown));
       least_in_finer_units = λ k k1.
           subst (λ plan. IsLeastPlan (scaled k m) (map (λ x. k *ℤ x) plan)) (sym is)
           (finer_plans_undercut_none_lem k m prices flow k1 proper.sound proper.bounded h.feasible h.shown);

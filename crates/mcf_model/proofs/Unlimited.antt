@@ -90,7 +90,7 @@ room_plus : (steps : List Step) (x : ℤ) → room steps x ≡ room steps (pos 0
 room_plus [] x = omega (arith, ints)
 room_plus (s ∷ steps) x = omega (arith, ints, room_plus steps x)
 
-fits_reach : (reach : ℤ) (steps : List Step) (most : Option ℤ) (x : ℤ) → Fits steps most x → (x -ℤ room steps (pos 0)) ≤ℤ reach
+pub fits_reach : (reach : ℤ) (steps : List Step) (most : Option ℤ) (x : ℤ) → Fits steps most x → (x -ℤ room steps (pos 0)) ≤ℤ reach
     → x ≤ℤ room steps (last_cap reach most)
 fits_reach reach steps (Some m) x h k = h
 fits_reach reach steps None x h k = omega (arith, ints, k, room_plus steps reach)

@@ -8,6 +8,7 @@ pub mod Complements
 pub mod Faults
 pub mod Laws
 pub mod Planning
+pub mod Prices
 pub mod Reach
 pub mod Scaling
 pub mod Tables

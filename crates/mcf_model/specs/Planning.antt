@@ -17,6 +17,7 @@ use Rattle.mcf_model.specs.declared.planning.Solved.TheVariants.{Flow, Blocked}
 use Rattle.mcf_model.specs.Arcs.{network_of, reach_of}
 use Rattle.mcf_model.specs.Bottlenecks.{IsBottleneck}
 use Rattle.mcf_model.specs.Model.{IsLeastPlan, IsPlan, Model, plan_cost}
+use Rattle.mcf_model.specs.Prices.{ShowsPlan}
 use Rattle.mcf_model.specs.Scaling.{scaled}
 
 -- ---- a solver's answers
@@ -39,10 +40,11 @@ IsSolved g (Blocked b) = IsBlocked g b
 
 -- ---- answers for a model
 
--- a least plan and its cost; no plan in finer units costs less either
+-- a least plan, its cost, and prices that show it; no plan in finer units costs less either
 pub record IsBestPlan (m : Model) (p : LeastPlan) : Type 0 where
   pub least : IsLeastPlan m p.carries.items
   pub cost_is : p.cost ≡ plan_cost m p.carries.items
+  pub shown : ShowsPlan m.routes p.prices.items p.carries.items
   pub least_in_finer_units : (k : ℤ) → pos 1 ≤ℤ k → IsLeastPlan (scaled k m) (map (λ x. k *ℤ x) p.carries.items)
 
 -- places that must send, or take, more than they can, and so no plan

@@ -1,6 +1,7 @@
 //! Laws about models and their networks. Each is the contract of a function with an empty body.
 ghost use Rattle.mcf_model.specs.Laws.{BottlenecksHaveNoPlan, FinerPlansUndercutNone, ShownFlowsCostTheSame};
 ghost use Rattle.mcf_model.specs.Laws.{BlockedModelsHaveNoPlan, BlockingSetsAreBottlenecks, FlowsArePlans, PlansAreFlows, ShownFlowsGiveLeastPlans};
+ghost use Rattle.mcf_model.specs.Prices.{ShownFlowsShowPlans};
 
 /// Each plan of a model is a feasible flow of its network, at the same cost.
 pub fn plans_are_flows()
@@ -42,4 +43,10 @@ pub fn finer_plans_undercut_none()
 /// If some places are a bottleneck, the model has no plan.
 pub fn bottlenecks_have_no_plan()
     ensures { BottlenecksHaveNoPlan }
+{}
+
+/// Prices that show a flow show its plan, even if routes have no limit: each route carries an
+/// amount of least reduced cost.
+pub fn shown_flows_show_plans()
+    ensures { ShownFlowsShowPlans }
 {}

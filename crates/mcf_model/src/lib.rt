@@ -25,9 +25,9 @@ pub use faults::{ModelFault, RouteFault, all_faults, some_earn};
 pub use laws::{
     blocked_models_have_no_plan, blocking_sets_are_bottlenecks, bottlenecks_have_no_plan,
     finer_plans_undercut_none, flows_are_plans, plans_are_flows, shown_flows_cost_the_same,
-    shown_flows_give_least_plans,
+    shown_flows_give_least_plans, shown_flows_show_plans,
 };
-pub use plan_model::PlanModel;
+pub use plan_model::{PlanModel, RouteParts};
 pub use planning::{Bottleneck, LeastPlan, Planned, ShownFlow, Solved, Solves, plan};
 pub use reach::reach_of;
 pub use rows::{RouteRow, Step};

@@ -1,11 +1,11 @@
 //! Models without faults.
-ghost use Rattle.std.specs.Prelude.{◌≡◌, ◌↔◌, IfOk, is_ok, length, map, true};
+ghost use Rattle.std.specs.Prelude.{◌≡◌, ◌<◌, ◌↔◌, IfOk, is_ok, length, map, slice_index_or, true};
 ghost use Rattle.mcf_model.specs.Faults.{AreListed, made_of_tables};
 ghost use Rattle.mcf_model.specs.Laws.{IsProper};
-ghost use Rattle.mcf_model.specs.Tables.{model_of, route_of};
+ghost use Rattle.mcf_model.specs.Tables.{model_of, no_route, route_of, route_with};
 
 use crate::faults::{ModelFault, model_fault};
-use crate::rows::{RouteRow, Step};
+use crate::rows::{RouteRow, Step, own_steps};
 use std::marker::Model;
 
 /// A model without faults: places that send or take, and routes between them. Each route joins
@@ -31,6 +31,13 @@ impl Model for PlanModel {
     ghost view = { λ m. model_of m.supplies.items m.steps.items m.rows.items };
 
     ghost invariant = { λ m. IsProper (model_of m.supplies.items m.steps.items m.rows.items) };
+}
+
+/// A route of a model: its row, and its steps before the last.
+#[derive(Clone, Copy)]
+pub struct RouteParts<'m> {
+    pub row: RouteRow,
+    pub steps: &'m [Step],
 }
 
 // The two tables of a model.
@@ -86,6 +93,19 @@ impl PlanModel {
         ensures proper { IsProper self.now }
     {
         self.rows.len()
+    }
+
+    /// Returns a route by its place, counted from 0.
+    pub fn route(&self, place: usize) -> RouteParts<'_>
+        requires place { place < length self.now.routes }
+        ensures value { route_with result.row result.steps.now ≡ slice_index_or self.now.routes place no_route }
+        ensures proper { IsProper self.now }
+    {
+        let row = self.rows[place];
+        RouteParts {
+            row,
+            steps: own_steps(&self.steps, row),
+        }
     }
 
     // Returns the tables of steps and of routes.

@@ -57,12 +57,13 @@ pub trait Solves {
         ensures wants { OnErr result (Wants self.old instance.now) };
 }
 
-/// A least plan and its cost: the amount that each route carries, in order. A negative amount goes
-/// back.
+/// A least plan and its cost: the amount that each route carries, in order, and prices of places
+/// that show it to be least. A negative amount goes back.
 #[derive(Drop)]
 pub struct LeastPlan {
     pub carries: Vec<i128>,
     pub cost: i128,
+    pub prices: Vec<i128>,
 }
 
 /// The answer for a model.
@@ -109,6 +110,7 @@ fn least_plan(alloc: Global, model: &PlanModel, shown: ShownFlow) -> Result<Leas
     Ok(LeastPlan {
         carries,
         cost: shown.cost,
+        prices: shown.prices,
     })
 }
 
@@ -126,7 +128,7 @@ fn answered(alloc: Global, model: &PlanModel, solved: Solved) -> Result<Planned,
     }
 }
 
-/// Returns a least plan of a model with its cost; or places that must send, or take, more than they
+/// Returns a least plan of a model with its cost and prices that show it; or places that must send, or take, more than they
 /// can, if the model has no plan; or the first fault of its network: a number beyond the limits, or
 /// a route's least amount above its capacity.
 ///

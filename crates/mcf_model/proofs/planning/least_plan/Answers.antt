@@ -1,4 +1,4 @@
-use Rattle.std.proofs.Common.{rules, ◌≡◌, ◌≤◌, ◌∙◌, ap, length, to_z, of_z}
+use Rattle.std.proofs.Common.{rules, ◌≡◌, ◌≤◌, ◌∙◌, refl, ap, length, to_z, of_z}
 use Rattle.std.specs.Int.{w128}
 use Rattle.mcf_model.specs.Arcs.{plan_of}
 use Rattle.mcf_model.proofs.Planners.{best_plan, flow_is_long, has_places, on_err}
@@ -14,5 +14,5 @@ returns-in_err-carries-clause-wants c =
 pub returns-clause-planned : goal.returns-clause-planned
 returns-clause-planned c =
     let same : to_z w128 (of_z w128 c.args.shown.cost) ≡ c.args.shown.cost = search rules in
-    best_plan c.args.model.now c.args.shown (record { carries = c.in_ok-carries.carries; cost = to_z w128 (of_z w128 c.args.shown.cost) }) c.requires.proper
-    c.requires.shown (c.in_ok-carries.ensures.value ∙ ap (plan_of c.args.model.now.routes) c.deref.ensures.value) same
+    best_plan c.args.model.now c.args.shown (record { carries = c.in_ok-carries.carries; cost = to_z w128 (of_z w128 c.args.shown.cost); prices = c.args.shown.prices }) c.requires.proper
+    c.requires.shown (c.in_ok-carries.ensures.value ∙ ap (plan_of c.args.model.now.routes) c.deref.ensures.value) same refl
