@@ -1,0 +1,5 @@
+mod PlanSums
+mod UnitCosts
+mod Wider
+mod Chains
+mod FigureBounds

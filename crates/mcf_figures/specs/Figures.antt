@@ -1,0 +1,76 @@
+-- The figures of a plan: what is free on a route, what one more unit saves there, and the places
+-- between which a unit costs what the prices say.
+-- Source: own, after AMO 9.2 and 9.11
+use Rattle.std.specs.Prelude.{◌≡◌, ℕ, ◌-◌, Bool, true, false, List, [], ◌∷◌, if◌then◌else◌, ℤ, pos, ◌+ℤ◌, ◌-ℤ◌, Option, Some, None, option_map, slice_index_or, ◌⊎◌}
+use Rattle.std.specs.Int.{int_max}
+use Rattle.std.specs.List.{All}
+use Rattle.mcf_model.specs.Model.{MayCarry, Model, Route, charged, room}
+use Rattle.mcf_model.specs.Prices.{price_drop, reduced_route_cost}
+use Rattle.mcf_model.specs.Tables.{IsRouteNumber, route_at}
+
+-- ---- routes
+
+-- the amount that route k carries
+abbrev pub amount_at : List ℤ → ℕ → ℤ
+amount_at plan k = slice_index_or plan (k - 1) (pos 0)
+
+-- how much more the route may carry, if it carries x; none is no limit
+abbrev pub free : Route → ℤ → Option ℤ
+free r x = option_map (λ most. room r.steps most -ℤ charged r.both x) r.last_most
+
+-- how far the price drop is above the cost of a unit of the last step; a route both ways is used in
+-- the direction in which the price drops
+abbrev pub gain : List ℤ → Route → ℤ
+gain prices r = charged r.both (price_drop prices r) -ℤ r.last_cost
+
+-- what one more unit of room saves, by the prices: the gain, if it is above 0; nothing where there
+-- is room without a limit
+abbrev pub saving_if : Option ℤ → ℤ → ℤ
+saving_if (Some most) z = int_max (pos 0) z
+saving_if None z = pos 0
+
+abbrev pub saving : List ℤ → Route → ℤ
+saving prices r = saving_if r.last_most (gain prices r)
+
+-- ---- groups of places
+
+-- the route that carries x may carry one unit more, and one unit less, at the same reduced cost: at
+-- the cost that the prices say
+pub record IsLoose (prices : List ℤ) (r : Route) (x : ℤ) : Type 0 where
+  pub may_more : MayCarry r (x +ℤ pos 1)
+  pub may_less : MayCarry r (x -ℤ pos 1)
+  pub more_is : reduced_route_cost prices r (x +ℤ pos 1) ≡ reduced_route_cost prices r x
+  pub less_is : reduced_route_cost prices r (x -ℤ pos 1) ≡ reduced_route_cost prices r x
+
+-- a route in one of its directions
+pub record Link : Type 0 where
+  pub route : ℕ
+  pub back : Bool
+
+-- the place where it begins, and that where it ends
+abbrev pub link_from : Model → Link → ℕ
+link_from m l = if l.back then (route_at m l.route).head else (route_at m l.route).tail
+
+abbrev pub link_to : Model → Link → ℕ
+link_to m l = if l.back then (route_at m l.route).tail else (route_at m l.route).head
+
+-- each begins where the one before ends; the first begins at u, and the last ends at w
+abbrev pub IsChain : Model → ℕ → List Link → ℕ → Type 0
+IsChain m u [] w = u ≡ w
+IsChain m u (l ∷ rest) w = (link_from m l ≡ u) × IsChain m (link_to m l) rest w
+
+-- the link's route is loose
+pub record IsLooseLink (prices : List ℤ) (m : Model) (plan : List ℤ) (l : Link) : Type 0 where
+  pub is_route : IsRouteNumber m l.route
+  pub loose : IsLoose prices (route_at m l.route) (amount_at plan l.route)
+
+-- loose routes lead from one place to the other, in whatever direction
+pub record AreJoined (prices : List ℤ) (m : Model) (plan : List ℤ) (u w : ℕ) : Type 0 where
+  pub links : List Link
+  pub loose : All (IsLooseLink prices m plan) links
+  pub chain : IsChain m u links w
+
+-- one more unit saves nothing, or loose routes join the ends
+abbrev pub IsExact : List ℤ → Model → List ℤ → ℕ → Type 0
+IsExact prices m plan k =
+    (saving prices (route_at m k) ≡ pos 0) ⊎ AreJoined prices m plan (route_at m k).tail (route_at m k).head

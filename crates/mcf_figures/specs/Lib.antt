@@ -1,0 +1,6 @@
+pub use Rattle.mcf_model.specs.Model
+pub use Rattle.mcf_model.specs.Prices
+pub use Rattle.mcf_model.specs.Tables
+pub mod Changes
+pub mod Figures
+pub mod FigureLaws

@@ -1,0 +1,14 @@
+#![tactic(auto)]
+
+//! Figures of a least plan: what is free on each route, what one more unit of room saves there, and
+//! the places between which a unit costs what their prices say.
+//!
+//! It builds on `mcf_model`, whose least plans come with prices that show them. The definitions are
+//! in `specs/`: `Changes` has models with one unit more, `Figures` the figures, and `FigureLaws`
+//! what they say of these models. No definition names a network.
+
+mod figure_laws;
+
+pub use figure_laws::{
+    exact_savings_are_reached, joined_prices_are_reached, prices_are_bounds, savings_are_bounds,
+};
