@@ -92,7 +92,7 @@ module _ (m : Model) (Q : Link → Type 0) where
   pub once : (l : Link) (u w : ℕ) (rest : List Link) → IsSimple u (l ∷ rest) w → All (λ (q : Link). q.route ≢ l.route) rest
   once l u w rest simple = λ i d k.
       let apart = all_apart u (link_to m l) w rest simple.2 simple.1 i d k in
-      λ e. elim (same_ends l (get_or rest i d) u e simple.0) [ | inl f ↦ apart.0 f | inr f ↦ apart.1 f ]
+      λ e. elim (same_ends l (get_or rest i d) u e simple.0) [ inl f ↦ apart.0 f | inr f ↦ apart.1 f ]
 
 -- ---- chains put together, and turned
 
@@ -183,13 +183,15 @@ module _ (prices : List ℤ) (m : Model) (plan : List ℤ) (may : AllZip MayCarr
   L = IsLooseLink prices m plan
 
   pub sent : (u w : ℕ) (links : List Link) → All L links → IsSimple m L u links w → (new : List ℤ) × IsSent prices m plan links u w new
-  sent u w [] each simple =
-      (plan, record {
-        may = may;
-        same_cost = refl;
-        moves = λ v. let e = ap (λ k. when (eqb k v) (pos 1)) simple in omega (arith, ints, e);
-        others = λ k h all. refl;
-      })
+  sent u w [] each simple = (
+    plan,
+    record {
+      may = may;
+      same_cost = refl;
+      moves = λ v. let e = ap (λ k. when (eqb k v) (pos 1)) simple in omega (arith, ints, e);
+      others = λ k h all. refl;
+    },
+  )
   sent u w (l ∷ rest) each simple =
       let later = sent (link_to m l) w rest (All-tail L l rest each) simple.2 in
       let old = later.0 in
@@ -202,16 +204,18 @@ module _ (prices : List ℤ) (m : Model) (plan : List ℤ) (may : AllZip MayCarr
       let kept : x ≡ amount_at plan l.route = s.others l.route here.is_route.0 (once m L l u w rest simple) in
       let loose = subst (IsLoose prices (route_at m l.route)) (sym kept) here.loose in
       let moves = loose_moves prices (route_at m l.route) x l.back loose in
-      let new = set old i (moved l.back x) in
-      (new, record {
-        may = AllZip-set MayCarry m.routes old i no_route (moved l.back x) inside s.may moves.0;
-        same_cost = omega (arith, ints, plan_sum-set (reduced_route_cost prices) m.routes old i (moved l.back x) inside within, moves.1, s.same_cost);
-        moves = λ v.
-            let first = one_moved m.routes old i l.back v inside within in
-            let from = ap (λ k. when (eqb k v) (pos 1)) simple.0 in
-            omega (arith, ints, first, from, s.moves v);
-        others = λ k h all.
-            let apart : (k - 1) ≢ i = λ e. All-head (λ (q : Link). q.route ≢ k) l rest all (omega (arith, ints, e, h, here.is_route.0)) in
-            get_or-set_other old i (k - 1) (moved l.back x) (pos 0) apart
-            ∙ s.others k h (All-tail (λ (q : Link). q.route ≢ k) l rest all);
-      })
+      let new = set old i (moved l.back x) in (
+        new,
+        record {
+          may = AllZip-set MayCarry m.routes old i no_route (moved l.back x) inside s.may moves.0;
+          same_cost = omega (arith, ints, plan_sum-set (reduced_route_cost prices) m.routes old i (moved l.back x) inside within, moves.1, s.same_cost);
+          moves = λ v.
+              let first = one_moved m.routes old i l.back v inside within in
+              let from = ap (λ k. when (eqb k v) (pos 1)) simple.0 in
+              omega (arith, ints, first, from, s.moves v);
+          others = λ k h all.
+              let apart : (k - 1) ≢ i = λ e. All-head (λ (q : Link). q.route ≢ k) l rest all (omega (arith, ints, e, h, here.is_route.0)) in
+              get_or-set_other old i (k - 1) (moved l.back x) (pos 0) apart
+              ∙ s.others k h (All-tail (λ (q : Link). q.route ≢ k) l rest all);
+        },
+      )

@@ -3,3 +3,4 @@ mod UnitCosts
 mod Wider
 mod Chains
 mod FigureBounds
+mod Told

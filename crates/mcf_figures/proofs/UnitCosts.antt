@@ -1,5 +1,5 @@
 -- What one unit more costs on a route.
-use Rattle.std.proofs.Common.{◌≡◌, Bool, true, false, List, [], ◌∷◌, ap, arith, ℤ, pos, negsuc, neg_ℤ, ◌+ℤ◌, ◌-ℤ◌, ◌≤ℤ◌, ◌<ℤ◌, inl, inr}
+use Rattle.std.proofs.Common.{◌≡◌, ℕ, zero, suc, ◌+◌, ◌<◌, Bool, true, false, List, [], ◌∷◌, add-one, ap, sym, ◌∙◌, arith, get_or, length, take, ℤ, pos, negsuc, neg_ℤ, ◌+ℤ◌, ◌-ℤ◌, ◌≤ℤ◌, ◌<ℤ◌, inl, inr}
 use Rattle.std.specs.Prelude.{Option, Some, None, ◌⊎◌}
 use Rattle.std.specs.Int.{int_max, int_min}
 use Rattle.std.proofs.Math.IntN.{◌*ℤ◌}
@@ -42,16 +42,16 @@ charge_more [] c x h = omega (arith, ints, one_more c x)
 charge_more (s ∷ steps) c x h =
     by_lt_z x s.most
     (λ less.
-        let here : int_min x s.most ≡ x = omega (arith, ints, clamps, less) in
-        let there : int_min (x +ℤ pos 1) s.most ≡ x +ℤ pos 1 = omega (arith, ints, clamps, less) in
-        let e1 : (x +ℤ pos 1) -ℤ (x +ℤ pos 1) ≡ pos 0 = omega (arith, ints) in
-        let e2 : x -ℤ x ≡ pos 0 = omega (arith, ints) in
-        rw (here, there, e1, e2) (omega (arith, ints, one_more s.cost x, at_most_last s.cost steps c h.0)))
+    let here : int_min x s.most ≡ x = omega (arith, ints, clamps, less) in
+    let there : int_min (x +ℤ pos 1) s.most ≡ x +ℤ pos 1 = omega (arith, ints, clamps, less) in
+    let e1 : (x +ℤ pos 1) -ℤ (x +ℤ pos 1) ≡ pos 0 = omega (arith, ints) in
+    let e2 : x -ℤ x ≡ pos 0 = omega (arith, ints) in
+    rw (here, there, e1, e2) (omega (arith, ints, one_more s.cost x, at_most_last s.cost steps c h.0)))
     (λ more.
-        let here : int_min x s.most ≡ s.most = omega (arith, ints, clamps, more) in
-        let there : int_min (x +ℤ pos 1) s.most ≡ s.most = omega (arith, ints, clamps, more) in
-        let e1 : (x +ℤ pos 1) -ℤ s.most ≡ (x -ℤ s.most) +ℤ pos 1 = omega (arith, ints) in
-        rw (here, there, e1) (omega (arith, ints, charge_more steps c (x -ℤ s.most) h.1)))
+    let here : int_min x s.most ≡ s.most = omega (arith, ints, clamps, more) in
+    let there : int_min (x +ℤ pos 1) s.most ≡ s.most = omega (arith, ints, clamps, more) in
+    let e1 : (x +ℤ pos 1) -ℤ s.most ≡ (x -ℤ s.most) +ℤ pos 1 = omega (arith, ints) in
+    rw (here, there, e1) (omega (arith, ints, charge_more steps c (x -ℤ s.most) h.1)))
 
 -- one unit more costs no less than any lower bound of the costs
 pub charge_no_less : (k : ℤ) (steps : List Step) (c x : ℤ) → CostAtLeast k steps c → (charge steps c x +ℤ k) ≤ℤ charge steps c (x +ℤ pos 1)
@@ -59,13 +59,28 @@ charge_no_less k [] c x h = omega (arith, ints, one_more c x, h)
 charge_no_less k (s ∷ steps) c x h =
     by_lt_z x s.most
     (λ less.
-        let here : int_min x s.most ≡ x = omega (arith, ints, clamps, less) in
-        let there : int_min (x +ℤ pos 1) s.most ≡ x +ℤ pos 1 = omega (arith, ints, clamps, less) in
-        let e1 : (x +ℤ pos 1) -ℤ (x +ℤ pos 1) ≡ pos 0 = omega (arith, ints) in
-        let e2 : x -ℤ x ≡ pos 0 = omega (arith, ints) in
-        rw (here, there, e1, e2) (omega (arith, ints, one_more s.cost x, h.0)))
+    let here : int_min x s.most ≡ x = omega (arith, ints, clamps, less) in
+    let there : int_min (x +ℤ pos 1) s.most ≡ x +ℤ pos 1 = omega (arith, ints, clamps, less) in
+    let e1 : (x +ℤ pos 1) -ℤ (x +ℤ pos 1) ≡ pos 0 = omega (arith, ints) in
+    let e2 : x -ℤ x ≡ pos 0 = omega (arith, ints) in
+    rw (here, there, e1, e2) (omega (arith, ints, one_more s.cost x, h.0)))
     (λ more.
-        let here : int_min x s.most ≡ s.most = omega (arith, ints, clamps, more) in
-        let there : int_min (x +ℤ pos 1) s.most ≡ s.most = omega (arith, ints, clamps, more) in
-        let e1 : (x +ℤ pos 1) -ℤ s.most ≡ (x -ℤ s.most) +ℤ pos 1 = omega (arith, ints) in
-        rw (here, there, e1) (omega (arith, ints, charge_no_less k steps c (x -ℤ s.most) h.1)))
+    let here : int_min x s.most ≡ s.most = omega (arith, ints, clamps, more) in
+    let there : int_min (x +ℤ pos 1) s.most ≡ s.most = omega (arith, ints, clamps, more) in
+    let e1 : (x +ℤ pos 1) -ℤ s.most ≡ (x -ℤ s.most) +ℤ pos 1 = omega (arith, ints) in
+    rw (here, there, e1) (omega (arith, ints, charge_no_less k steps c (x -ℤ s.most) h.1)))
+
+-- ---- the room of steps, as a loop adds it up
+
+pub room_plus : (steps : List Step) (most : ℤ) → room steps most ≡ room steps (pos 0) +ℤ most
+room_plus [] most = omega (arith, ints)
+room_plus (s ∷ steps) most = omega (arith, ints, room_plus steps most)
+
+pub room_next : (steps : List Step) (i : ℕ) (d : Step) (x : ℤ) → x ≡ (get_or steps i d).most → i < length steps
+    → room (take (i + 1) steps) (pos 0) ≡ room (take i steps) (pos 0) +ℤ x
+room_next steps i d x e h = rw add-one (go steps i h ∙ ap (λ z. room (take i steps) (pos 0) +ℤ z) (sym e))
+  where
+    go : (steps : List Step) (i : ℕ) → i < length steps → room (take (suc i) steps) (pos 0) ≡ room (take i steps) (pos 0) +ℤ (get_or steps i d).most
+    go [] i h = absurd (omega arith)
+    go (s ∷ steps) zero h = omega (arith, ints)
+    go (s ∷ steps) (suc i) h = omega (arith, ints, go steps i (omega arith))

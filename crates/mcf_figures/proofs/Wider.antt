@@ -107,11 +107,11 @@ module _ (places : ℕ) (prices : List ℤ) (r : Route) (sound : IsSoundRoute pl
       go (Some most) e fits =
           by_lt_z (room r.steps most) (charged r.both y)
           (λ over.
-              let at : charged r.both y ≡ room r.steps most +ℤ pos 1 = omega (arith, ints, over, fits, room_more r.steps most) in
-              omega (arith, ints, clamps, past most y e at))
+          let at : charged r.both y ≡ room r.steps most +ℤ pos 1 = omega (arith, ints, over, fits, room_more r.steps most) in
+          omega (arith, ints, clamps, past most y e at))
           (λ within.
-              let same = here.best y (record { enough = may.enough; fits = subst (λ o. Fits r.steps o (charged r.both y)) (sym e) within }) in
-              omega (arith, ints, clamps, same))
+          let same = here.best y (record { enough = may.enough; fits = subst (λ o. Fits r.steps o (charged r.both y)) (sym e) within }) in
+          omega (arith, ints, clamps, same))
 
 -- ---- a route that saves is full
 
@@ -130,11 +130,11 @@ size_more : (steps : List Step) (c x : ℤ) → Rises steps c → CostAtLeast (p
 size_more steps c x rises least =
     by_lt_z x (pos 0)
     (λ less.
-        let e : size x ≡ size (x +ℤ pos 1) +ℤ pos 1 = omega (arith, ints, clamps, less) in
-        omega (arith, ints, ap (charge steps c) e, charge_no_less (pos 0) steps c (size (x +ℤ pos 1)) least, at_most_last (pos 0) steps c least))
+    let e : size x ≡ size (x +ℤ pos 1) +ℤ pos 1 = omega (arith, ints, clamps, less) in
+    omega (arith, ints, ap (charge steps c) e, charge_no_less (pos 0) steps c (size (x +ℤ pos 1)) least, at_most_last (pos 0) steps c least))
     (λ more.
-        let e : size (x +ℤ pos 1) ≡ size x +ℤ pos 1 = omega (arith, ints, clamps, more) in
-        omega (arith, ints, ap (charge steps c) e, charge_more steps c (size x) rises))
+    let e : size (x +ℤ pos 1) ≡ size x +ℤ pos 1 = omega (arith, ints, clamps, more) in
+    omega (arith, ints, ap (charge steps c) e, charge_more steps c (size x) rises))
 
 size_less : (steps : List Step) (c x : ℤ) → Rises steps c → CostAtLeast (pos 0) steps c → charge steps c (size (x -ℤ pos 1)) ≤ℤ (charge steps c (size x) +ℤ c)
 size_less steps c x rises least =
@@ -186,21 +186,25 @@ is_full true least steps most c d x rises adds may l u gains best =
     let z = rooms_total steps most may.2 in
     by_lt_z d (pos 0)
     (λ less.
-        let full = full_back least steps most c d x rises adds may.1 u (omega (arith, ints, clamps, gains, less))
-        (λ k. best (x -ℤ pos 1) (omega (arith, ints, clamps, may.0)) k) in
-        (true, record {
-          full = omega (arith, ints, clamps, full, z);
-          past_it = omega (arith, ints, clamps, full, z);
-          worth = omega (arith, ints, clamps, times_less d x, less);
-        }))
+    let full = full_back least steps most c d x rises adds may.1 u (omega (arith, ints, clamps, gains, less))
+    (λ k. best (x -ℤ pos 1) (omega (arith, ints, clamps, may.0)) k) in (
+      true,
+      record {
+        full = omega (arith, ints, clamps, full, z);
+        past_it = omega (arith, ints, clamps, full, z);
+        worth = omega (arith, ints, clamps, times_less d x, less);
+      },
+    ))
     (λ more.
-        let full = full_both least steps most c d x rises adds may.1 u (omega (arith, ints, clamps, gains, more))
-        (λ k. best (x +ℤ pos 1) (omega (arith, ints, clamps, may.0)) k) in
-        (false, record {
-          full = omega (arith, ints, clamps, full, z);
-          past_it = omega (arith, ints, clamps, full, z);
-          worth = omega (arith, ints, clamps, times_more d x, more);
-        }))
+    let full = full_both least steps most c d x rises adds may.1 u (omega (arith, ints, clamps, gains, more))
+    (λ k. best (x +ℤ pos 1) (omega (arith, ints, clamps, may.0)) k) in (
+      false,
+      record {
+        full = omega (arith, ints, clamps, full, z);
+        past_it = omega (arith, ints, clamps, full, z);
+        worth = omega (arith, ints, clamps, times_more d x, more);
+      },
+    ))
 
 at_limit_if : (prices : List ℤ) (r : Route) (most x : ℤ) (back : Bool) → r.last_most ≡ Some most → Adds r.steps (Some most)
     → r.least ≤ℤ charged r.both x → pos 0 <ℤ gain prices r → IsFull r.both r.steps most (price_drop prices r) x back → IsAtLimit prices r x back

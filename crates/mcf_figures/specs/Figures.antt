@@ -1,12 +1,16 @@
 -- The figures of a plan: what is free on a route, what one more unit saves there, and the places
 -- between which a unit costs what the prices say.
 -- Source: own, after AMO 9.2 and 9.11
-use Rattle.std.specs.Prelude.{◌≡◌, ℕ, ◌-◌, Bool, true, false, List, [], ◌∷◌, if◌then◌else◌, ℤ, pos, ◌+ℤ◌, ◌-ℤ◌, Option, Some, None, option_map, slice_index_or, ◌⊎◌}
+use Rattle.std.specs.Prelude.{◌≡◌, ℕ, ◌-◌, ◌^◌, Bool, true, false, List, [], ◌∷◌, if◌then◌else◌, ℤ, pos, ◌+ℤ◌, ◌-ℤ◌, Option, Some, None, option_map, slice_index_or, ◌⊎◌}
 use Rattle.std.specs.Int.{int_max}
 use Rattle.std.specs.List.{All}
 use Rattle.mcf_model.specs.Model.{MayCarry, Model, Route, charged, room}
 use Rattle.mcf_model.specs.Prices.{price_drop, reduced_route_cost}
 use Rattle.mcf_model.specs.Tables.{IsRouteNumber, route_at}
+
+-- how far from 0 a price or an amount lies at most, of which there are figures
+abbrev pub figure_limit : ℕ
+figure_limit = 10 ^ 36
 
 -- ---- routes
 

@@ -4,3 +4,4 @@ pub use Rattle.mcf_model.specs.Tables
 pub mod Changes
 pub mod Figures
 pub mod FigureLaws
+pub mod Told

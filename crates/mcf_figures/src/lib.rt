@@ -8,7 +8,10 @@
 //! what they say of these models. No definition names a network.
 
 mod figure_laws;
+mod figures;
+mod units;
 
 pub use figure_laws::{
     exact_savings_are_reached, joined_prices_are_reached, prices_are_bounds, savings_are_bounds,
 };
+pub use figures::{RouteFigures, route_figures};

@@ -10,6 +10,8 @@ mod chosen;
 #[cfg(test)]
 mod faults;
 #[cfg(test)]
+mod figures;
+#[cfg(test)]
 mod flow_tables;
 #[cfg(test)]
 mod places;

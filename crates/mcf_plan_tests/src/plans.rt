@@ -8,8 +8,8 @@ use mcf_text::{ArcId, NoMemory};
 use std::alloc::Global;
 use std::test::Fail;
 
-// Returns a route of one step, one way.
-const PLAIN: RouteRow = RouteRow {
+/// A route of one step, one way.
+pub(crate) const PLAIN: RouteRow = RouteRow {
     tail: 1,
     head: 2,
     first_step: 0,
@@ -125,8 +125,8 @@ const ROWS: [PlanRow; 3] = [
     },
 ];
 
-// Returns the model of a row.
-fn model_of(
+/// Returns the model of supplies and routes.
+pub(crate) fn model_of(
     alloc: Global,
     supplies: &[i64; 3],
     routes: &[RouteRow; 3],

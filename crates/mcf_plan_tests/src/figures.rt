@@ -1,0 +1,171 @@
+//! Figures of the routes of least plans.
+use crate::plans::{PLAIN, model_of};
+use mcf_choice::Choice;
+use mcf_figures::{RouteFigures, route_figures};
+use mcf_model::{Planned, RouteRow};
+use mcf_planner::plan_with;
+use mcf_text::NoMemory;
+use std::alloc::Global;
+use std::test::Fail;
+
+// A model of three places and three routes, and the figures of each route in its least plan.
+#[derive(Clone, Copy)]
+struct FigureRow {
+    supplies: [i64; 3],
+    routes: [RouteRow; 3],
+    free: [Option<i128>; 3],
+    saves: [i128; 3],
+}
+
+const ROWS: [FigureRow; 4] = [
+    // the plan of the manual page
+    FigureRow {
+        supplies: [30, -18, -12],
+        routes: [
+            RouteRow {
+                tail: 1,
+                head: 2,
+                last_most: Some(15),
+                last_cost: 4,
+                ..PLAIN
+            },
+            RouteRow {
+                tail: 1,
+                head: 3,
+                last_most: Some(20),
+                last_cost: 7,
+                ..PLAIN
+            },
+            RouteRow {
+                tail: 3,
+                head: 2,
+                last_most: Some(10),
+                last_cost: 2,
+                ..PLAIN
+            },
+        ],
+        free: [Some(0), Some(5), Some(7)],
+        saves: [5, 0, 0],
+    },
+    // a step, and no limits
+    FigureRow {
+        supplies: [30, -18, -12],
+        routes: [
+            RouteRow {
+                step_count: 1,
+                tail: 1,
+                head: 2,
+                last_most: None,
+                last_cost: 3,
+                ..PLAIN
+            },
+            RouteRow {
+                tail: 1,
+                head: 3,
+                last_most: None,
+                last_cost: 2,
+                ..PLAIN
+            },
+            RouteRow {
+                both: true,
+                tail: 2,
+                head: 3,
+                last_most: None,
+                last_cost: 0,
+                ..PLAIN
+            },
+        ],
+        free: [None, None, None],
+        saves: [0, 0, 0],
+    },
+    // a route both ways that is full on the way back
+    FigureRow {
+        supplies: [10, -10, 0],
+        routes: [
+            RouteRow {
+                tail: 1,
+                head: 3,
+                last_most: Some(20),
+                last_cost: 1,
+                ..PLAIN
+            },
+            RouteRow {
+                both: true,
+                tail: 2,
+                head: 3,
+                last_most: Some(4),
+                last_cost: 1,
+                ..PLAIN
+            },
+            RouteRow {
+                tail: 1,
+                head: 2,
+                last_most: Some(20),
+                last_cost: 9,
+                ..PLAIN
+            },
+        ],
+        free: [Some(16), Some(0), Some(14)],
+        saves: [0, 7, 0],
+    },
+    // a degenerate plan: the first route is full, and no unit is left for it
+    FigureRow {
+        supplies: [10, -10, 0],
+        routes: [
+            RouteRow {
+                tail: 1,
+                head: 2,
+                last_most: Some(10),
+                last_cost: 1,
+                ..PLAIN
+            },
+            RouteRow {
+                tail: 1,
+                head: 2,
+                last_most: Some(20),
+                last_cost: 3,
+                ..PLAIN
+            },
+            RouteRow {
+                tail: 2,
+                head: 3,
+                last_most: Some(5),
+                last_cost: 1,
+                ..PLAIN
+            },
+        ],
+        free: [Some(0), Some(20), Some(5)],
+        saves: [0, 0, 0],
+    },
+];
+
+// Returns whether the figures of each route of a row are the expected ones, and there are no more.
+fn are_as_said(alloc: Global, row: &FigureRow) -> Result<bool, NoMemory> {
+    let Some(model) = model_of(alloc, &row.supplies, &row.routes)? else {
+        return Ok(false);
+    };
+    let Planned::Plan(plan) = plan_with(alloc, Choice::default(), &model)? else {
+        return Ok(false);
+    };
+    let (prices, carries) = (plan.prices.as_slice(), plan.carries.as_slice());
+    for place in 0..3usize {
+        let want = RouteFigures {
+            free: row.free[place],
+            saves: row.saves[place],
+        };
+        if route_figures(&model, prices, carries, place) != Some(want) {
+            return Ok(false);
+        }
+    }
+    Ok(route_figures(&model, prices, carries, 3).is_none())
+}
+
+#[test]
+fn routes_have_their_figures(rt: HostRuntime) -> Result<(), Fail> {
+    let rows = ROWS;
+    for row in &rows {
+        let fits = are_as_said(rt.alloc(), row)?;
+        assert!(rt; fits);
+    }
+    Ok(())
+}
