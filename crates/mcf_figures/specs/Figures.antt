@@ -27,12 +27,12 @@ free r x = option_map (λ most. room r.steps most -ℤ charged r.both x) r.last_
 abbrev pub gain : List ℤ → Route → ℤ
 gain prices r = charged r.both (price_drop prices r) -ℤ r.last_cost
 
--- what one more unit of room saves, by the prices: the gain, if it is above 0; nothing where there
--- is room without a limit
+-- a gain, if it is above 0 and there is a limit; otherwise 0
 abbrev pub saving_if : Option ℤ → ℤ → ℤ
 saving_if (Some most) z = int_max (pos 0) z
 saving_if None z = pos 0
 
+-- what one more unit of room on a route saves, by the prices
 abbrev pub saving : List ℤ → Route → ℤ
 saving prices r = saving_if r.last_most (gain prices r)
 
@@ -51,10 +51,11 @@ pub record Link : Type 0 where
   pub route : ℕ
   pub back : Bool
 
--- the place where it begins, and that where it ends
+-- the place where it begins
 abbrev pub link_from : Model → Link → ℕ
 link_from m l = if l.back then (route_at m l.route).head else (route_at m l.route).tail
 
+-- the place where it ends
 abbrev pub link_to : Model → Link → ℕ
 link_to m l = if l.back then (route_at m l.route).tail else (route_at m l.route).head
 

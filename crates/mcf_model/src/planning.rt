@@ -128,9 +128,9 @@ fn answered(alloc: Global, model: &PlanModel, solved: Solved) -> Result<Planned,
     }
 }
 
-/// Returns a least plan of a model with its cost and prices that show it; or places that must send, or take, more than they
-/// can, if the model has no plan; or the first fault of its network: a number beyond the limits, or
-/// a route's least amount above its capacity.
+/// Returns a least plan of a model with its cost and prices that show it; or places that must send,
+/// or take, more than they can, if the model has no plan; or the first fault of its network: a
+/// number beyond the limits, or a route's least amount above its capacity.
 ///
 /// The network gives a route without a limit a capacity, but no plan of the model costs less than
 /// the plan returned, however much its routes carry, nor does one in finer units.
