@@ -4,3 +4,4 @@ mod Wider
 mod Chains
 mod FigureBounds
 mod Told
+mod LooseRoutes

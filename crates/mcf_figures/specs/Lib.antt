@@ -5,3 +5,4 @@ pub mod Changes
 pub mod Figures
 pub mod FigureLaws
 pub mod Told
+pub mod Private

@@ -9,6 +9,7 @@
 
 mod figure_laws;
 mod figures;
+mod loose;
 mod units;
 
 pub use figure_laws::{

@@ -78,6 +78,13 @@ fn left(own: &[Step], most: i64, both: bool, carried: i128) -> i128
     rest_of(before, most, used)
 }
 
+/// Returns the capacity of all steps together, if the last has the capacity `most`.
+pub(crate) fn room(own: &[Step], most: i64) -> i128
+    ensures { result ≡ room own.now most }
+{
+    left(own, most, false, 0)
+}
+
 /// Returns how much more a route may carry, or `None` without a limit.
 pub(crate) fn free(row: RouteRow, own: &[Step], carried: i128) -> Option<i128>
     requires { IsUpTo figure_limit carried }
