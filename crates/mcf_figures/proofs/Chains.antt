@@ -1,6 +1,6 @@
 -- A unit sent along a chain of loose routes: a chain that meets no place twice, and the plan after
 -- it.
-use Rattle.std.proofs.Common.{◌≡◌, ◌≢◌, ℕ, zero, suc, ◌-◌, ◌<◌, ◌≤◌, eqb, Bool, true, false, not, List, [], ◌∷◌, ◌++◌, length, set, get_or, refl, ap, sym, ◌∙◌, subst, arith, ℤ, pos, ◌+ℤ◌, ◌-ℤ◌, ◌≤ℤ◌, if◌then◌else◌, inl, inr}
+use Rattle.std.proofs.Common.{◌≡◌, ◌≢◌, ℕ, ◌-◌, ◌<◌, ◌≤◌, eqb, Bool, true, false, not, List, [], ◌∷◌, ◌++◌, length, set, get_or, refl, ap, sym, ◌∙◌, subst, arith, ℤ, pos, ◌+ℤ◌, ◌-ℤ◌, if◌then◌else◌, inl, inr}
 use Rattle.std.specs.Prelude.{◌⊎◌}
 use Rattle.std.specs.List.{All, AllZip}
 use Rattle.std.proofs.lemmas.Int.{ints}
@@ -8,10 +8,10 @@ use Rattle.std.proofs.lemmas.Bool.{cases_eq}
 use Rattle.std.proofs.lemmas.List.{get_or-set_other}
 use Rattle.std.proofs.lemmas.List.Elements.{All-append, All-cons, All-head, All-tail}
 use Rattle.mcf_flows.specs.Network.{when}
-use Rattle.mcf_flows.proofs.AllZips.{AllZip-at, AllZip-set, length-AllZip}
+use Rattle.mcf_flows.proofs.AllZips.{AllZip-set, length-AllZip}
 use Rattle.mcf_model.specs.Model.{MayCarry, Model, Route, arriving, leaving, plan_sum}
-use Rattle.mcf_model.specs.Prices.{IsBestAt, reduced_route_cost}
-use Rattle.mcf_model.specs.Tables.{IsRouteNumber, no_route, route_at}
+use Rattle.mcf_model.specs.Prices.{reduced_route_cost}
+use Rattle.mcf_model.specs.Tables.{no_route, route_at}
 use Rattle.mcf_figures.specs.Figures.{AreJoined, IsChain, IsLoose, IsLooseLink, Link, amount_at, link_from, link_to}
 use Rattle.mcf_figures.proofs.PlanSums.{plan_sum-set}
 use Rattle.mcf_figures.proofs.Wider.{moved}

@@ -7,17 +7,17 @@ use Rattle.std.proofs.lemmas.Bool.{cases_eq, eq-eqb, ne_eqb}
 use Rattle.std.proofs.lemmas.Grind.{get_or-set_at}
 use Rattle.std.proofs.lemmas.List.{get_or-set_other, length-set}
 use Rattle.std.proofs.lemmas.List.Elements.{All-head, All-set, All-tail}
-use Rattle.mcf_flows.specs.Network.{IsNode, at_node, node_sum, when}
+use Rattle.mcf_flows.specs.Network.{IsNode, at_node, when}
 use Rattle.mcf_flows.proofs.AllZips.{AllZip-at, AllZip-weaken, length-AllZip}
 use Rattle.mcf_flows.proofs.IntLaws.{mul-add}
 use Rattle.mcf_flows.proofs.NodeSums.{node_sum-add, node_sum-at, node_sum-same}
-use Rattle.mcf_model.specs.Model.{IsPlan, IsSound, IsSoundRoute, MayCarry, Model, Route, arriving, leaving, plan_cost, plan_sum, route_cost}
+use Rattle.mcf_model.specs.Model.{IsSound, IsSoundRoute, MayCarry, Model, Route, arriving, leaving, plan_cost, plan_sum, route_cost}
 use Rattle.mcf_model.specs.Prices.{IsBestAt, reduced_route_cost}
 use Rattle.mcf_model.specs.Tables.{IsRouteNumber, no_route, route_at}
 use Rattle.mcf_figures.specs.Changes.{widened, with_more_at, with_more_room, with_unit}
 use Rattle.mcf_figures.specs.Figures.{AreJoined, IsLoose, IsLooseLink, Link, amount_at, gain, saving}
 use Rattle.mcf_figures.specs.FigureLaws.{ExactSavingsAreReached, HasPlanAt, IsPriced, JoinedPricesAreReached, PricesAreBounds, SavingsAreBounds}
-use Rattle.mcf_figures.proofs.Chains.{IsSent, joined_back, made_simple, one_moved, sent}
+use Rattle.mcf_figures.proofs.Chains.{joined_back, made_simple, one_moved, sent}
 use Rattle.mcf_figures.proofs.PlanSums.{HasPlaces, have_places, plan_sum-le, plan_sum-set, plan_sum-set_route, reduced_total, worth}
 use Rattle.mcf_figures.proofs.Wider.{at_limit, moved, one_wider, saving_zero, still_may}
 

@@ -1,14 +1,14 @@
 -- The tests by the cost of one unit more say which routes are loose.
-use Rattle.std.proofs.Common.{◌≡◌, ℕ, zero, suc, ◌<◌, Bool, true, false, ◌&&◌, List, [], ◌∷◌, drop, drop-cons, get_or, length, refl, ap, sym, ◌∙◌, subst, arith, ℤ, pos, neg_ℤ, ◌+ℤ◌, ◌-ℤ◌, ◌≤ℤ◌, ◌<ℤ◌, if◌then◌else◌, int_lt}
+use Rattle.std.proofs.Common.{◌≡◌, ℕ, suc, ◌<◌, Bool, true, false, List, [], ◌∷◌, drop, drop-cons, get_or, length, refl, ap, sym, ◌∙◌, subst, arith, ℤ, pos, neg_ℤ, ◌+ℤ◌, ◌-ℤ◌, ◌≤ℤ◌, ◌<ℤ◌, if◌then◌else◌, int_lt}
 use Rattle.std.specs.Prelude.{Option, Some, None, ◌↔◌}
-use Rattle.std.specs.Int.{int_max, int_min}
+use Rattle.std.specs.Int.{int_min}
 use Rattle.std.specs.Ordering.{int_eq}
 use Rattle.std.proofs.Math.IntN.{◌*ℤ◌}
 use Rattle.std.proofs.lemmas.Int.{ints, clamps, by_lt_z}
 use Rattle.mcf_flows.proofs.IntLaws.{mul-add, mul-one}
 use Rattle.mcf_model.specs.declared.rows.Step.{Step}
-use Rattle.mcf_model.specs.Model.{Fits, IsSoundRoute, MayBeBoth, MayCarry, Route, charge, charged, room, size}
-use Rattle.mcf_model.specs.Prices.{price_drop, reduced_route_cost}
+use Rattle.mcf_model.specs.Model.{Fits, IsSoundRoute, MayBeBoth, Route, charge, charged, room, size}
+use Rattle.mcf_model.specs.Prices.{price_drop}
 use Rattle.mcf_figures.specs.Figures.{IsLoose}
 use Rattle.mcf_figures.specs.Private.Units.{all_four, fits_more, is_between, is_between_both, is_loose, is_still, unit_cost}
 use Rattle.mcf_figures.proofs.Wider.{times_less, times_more}
@@ -69,16 +69,16 @@ charge_next [] c x = one_more c x
 charge_next (s ∷ steps) c x =
     by_lt_z x s.most
     (λ less.
-        let here : int_min x s.most ≡ x = omega (arith, ints, clamps, less) in
-        let there : int_min (x +ℤ pos 1) s.most ≡ x +ℤ pos 1 = omega (arith, ints, clamps, less) in
-        let e1 : (x +ℤ pos 1) -ℤ (x +ℤ pos 1) ≡ pos 0 = omega (arith, ints) in
-        let e2 : x -ℤ x ≡ pos 0 = omega (arith, ints) in
-        rw (is_below x s.most less, here, there, e1, e2) (omega (arith, ints, one_more s.cost x)))
+    let here : int_min x s.most ≡ x = omega (arith, ints, clamps, less) in
+    let there : int_min (x +ℤ pos 1) s.most ≡ x +ℤ pos 1 = omega (arith, ints, clamps, less) in
+    let e1 : (x +ℤ pos 1) -ℤ (x +ℤ pos 1) ≡ pos 0 = omega (arith, ints) in
+    let e2 : x -ℤ x ≡ pos 0 = omega (arith, ints) in
+    rw (is_below x s.most less, here, there, e1, e2) (omega (arith, ints, one_more s.cost x)))
     (λ more.
-        let here : int_min x s.most ≡ s.most = omega (arith, ints, clamps, more) in
-        let there : int_min (x +ℤ pos 1) s.most ≡ s.most = omega (arith, ints, clamps, more) in
-        let e1 : (x +ℤ pos 1) -ℤ s.most ≡ (x -ℤ s.most) +ℤ pos 1 = omega (arith, ints) in
-        rw (is_not_below x s.most more, here, there, e1) (omega (arith, ints, charge_next steps c (x -ℤ s.most))))
+    let here : int_min x s.most ≡ s.most = omega (arith, ints, clamps, more) in
+    let there : int_min (x +ℤ pos 1) s.most ≡ s.most = omega (arith, ints, clamps, more) in
+    let e1 : (x +ℤ pos 1) -ℤ s.most ≡ (x -ℤ s.most) +ℤ pos 1 = omega (arith, ints) in
+    rw (is_not_below x s.most more, here, there, e1) (omega (arith, ints, charge_next steps c (x -ℤ s.most))))
 
 charge_last : (steps : List Step) (c x : ℤ) → charge steps c x ≡ charge steps c (x -ℤ pos 1) +ℤ unit_cost steps c (x -ℤ pos 1)
 charge_last steps c x =
@@ -243,28 +243,28 @@ module _ (places : ℕ) (prices : List ℤ) (r : Route) (x : ℤ) (sound : IsSou
       let none = no_least r.both r.least r.steps r.last_most r.last_cost e sound.may_be_both in
       by_lt_z x (pos 0)
       (λ less.
-          let y = neg_ℤ x in
-          let e0 : charged r.both x ≡ y = omega (arith, ints, clamps, c x, less) in
-          let e1 : charged r.both (x +ℤ pos 1) ≡ y -ℤ pos 1 = omega (arith, ints, clamps, c (x +ℤ pos 1), less) in
-          let e2 : charged r.both (x -ℤ pos 1) ≡ y +ℤ pos 1 = omega (arith, ints, clamps, c (x -ℤ pos 1), less) in
-          let same : is_between_both r.steps r.last_most r.last_cost x drop_here ≡ is_between r.steps r.last_most r.last_cost r.least y (neg_ℤ drop_here) =
-          both_back r.steps r.last_most r.last_cost x drop_here less ∙ ap (λ l. is_between r.steps r.last_most r.last_cost l y (neg_ℤ drop_here)) (sym none) in
-          (λ t. to_loose_back prices r x y e0 e1 e2 (sym same ∙ t), λ l. same ∙ from_loose_back prices r x y e0 e1 e2 l))
+      let y = neg_ℤ x in
+      let e0 : charged r.both x ≡ y = omega (arith, ints, clamps, c x, less) in
+      let e1 : charged r.both (x +ℤ pos 1) ≡ y -ℤ pos 1 = omega (arith, ints, clamps, c (x +ℤ pos 1), less) in
+      let e2 : charged r.both (x -ℤ pos 1) ≡ y +ℤ pos 1 = omega (arith, ints, clamps, c (x -ℤ pos 1), less) in
+      let same : is_between_both r.steps r.last_most r.last_cost x drop_here ≡ is_between r.steps r.last_most r.last_cost r.least y (neg_ℤ drop_here) =
+      both_back r.steps r.last_most r.last_cost x drop_here less ∙ ap (λ l. is_between r.steps r.last_most r.last_cost l y (neg_ℤ drop_here)) (sym none) in
+      (λ t. to_loose_back prices r x y e0 e1 e2 (sym same ∙ t), λ l. same ∙ from_loose_back prices r x y e0 e1 e2 l))
       (λ not_less. by_lt_z (pos 0) x
       (λ more.
-          let e0 : charged r.both x ≡ x = omega (arith, ints, clamps, c x, more) in
-          let e1 : charged r.both (x +ℤ pos 1) ≡ x +ℤ pos 1 = omega (arith, ints, clamps, c (x +ℤ pos 1), more) in
-          let e2 : charged r.both (x -ℤ pos 1) ≡ x -ℤ pos 1 = omega (arith, ints, clamps, c (x -ℤ pos 1), more) in
-          let same : is_between_both r.steps r.last_most r.last_cost x drop_here ≡ is_between r.steps r.last_most r.last_cost r.least x drop_here =
-          both_there r.steps r.last_most r.last_cost x drop_here more ∙ ap (λ l. is_between r.steps r.last_most r.last_cost l x drop_here) (sym none) in
-          (λ t. to_loose prices r x x e0 e1 e2 (sym same ∙ t), λ l. same ∙ from_loose prices r x x e0 e1 e2 l))
+      let e0 : charged r.both x ≡ x = omega (arith, ints, clamps, c x, more) in
+      let e1 : charged r.both (x +ℤ pos 1) ≡ x +ℤ pos 1 = omega (arith, ints, clamps, c (x +ℤ pos 1), more) in
+      let e2 : charged r.both (x -ℤ pos 1) ≡ x -ℤ pos 1 = omega (arith, ints, clamps, c (x -ℤ pos 1), more) in
+      let same : is_between_both r.steps r.last_most r.last_cost x drop_here ≡ is_between r.steps r.last_most r.last_cost r.least x drop_here =
+      both_there r.steps r.last_most r.last_cost x drop_here more ∙ ap (λ l. is_between r.steps r.last_most r.last_cost l x drop_here) (sym none) in
+      (λ t. to_loose prices r x x e0 e1 e2 (sym same ∙ t), λ l. same ∙ from_loose prices r x x e0 e1 e2 l))
       (λ not_more.
-          let z : x ≡ pos 0 = omega (arith, ints, not_less, not_more) in
-          let e0 : charged r.both x ≡ x = omega (arith, ints, clamps, c x, z) in
-          let e1 : charged r.both (x +ℤ pos 1) ≡ x +ℤ pos 1 = omega (arith, ints, clamps, c (x +ℤ pos 1), z) in
-          let e2 : charged r.both (x -ℤ pos 1) ≡ x +ℤ pos 1 = omega (arith, ints, clamps, c (x -ℤ pos 1), z) in
-          let same = both_still r.steps r.last_most r.last_cost x drop_here z in
-          (λ t. to_loose_still prices r x x z none e0 e1 e2 (sym same ∙ t), λ l. same ∙ from_loose_still prices r x x z e0 e1 e2 l)))
+      let z : x ≡ pos 0 = omega (arith, ints, not_less, not_more) in
+      let e0 : charged r.both x ≡ x = omega (arith, ints, clamps, c x, z) in
+      let e1 : charged r.both (x +ℤ pos 1) ≡ x +ℤ pos 1 = omega (arith, ints, clamps, c (x +ℤ pos 1), z) in
+      let e2 : charged r.both (x -ℤ pos 1) ≡ x +ℤ pos 1 = omega (arith, ints, clamps, c (x -ℤ pos 1), z) in
+      let same = both_still r.steps r.last_most r.last_cost x drop_here z in
+      (λ t. to_loose_still prices r x x z none e0 e1 e2 (sym same ∙ t), λ l. same ∙ from_loose_still prices r x x z e0 e1 e2 l)))
 
   pub loose_iff : (is_loose r drop_here x ≡ true) ↔ IsLoose prices r x
   loose_iff = go r.both refl

@@ -1,15 +1,15 @@
 -- Laws of sums over routes and what they carry.
-use Rattle.std.proofs.Common.{◌≡◌, ℕ, zero, suc, ◌-◌, ◌<◌, eqb, List, [], ◌∷◌, length, map, set, get_or, refl, ap, sym, ◌∙◌, arith, ℤ, pos, ◌+ℤ◌, ◌-ℤ◌, ◌≤ℤ◌}
+use Rattle.std.proofs.Common.{◌≡◌, ℕ, zero, suc, ◌<◌, eqb, List, [], ◌∷◌, length, map, set, get_or, refl, ap, sym, ◌∙◌, arith, ℤ, pos, ◌+ℤ◌, ◌-ℤ◌, ◌≤ℤ◌}
 use Rattle.std.specs.List.{All, AllZip}
 use Rattle.std.proofs.Math.IntN.{◌*ℤ◌}
 use Rattle.std.proofs.lemmas.Int.{ints}
-use Rattle.std.proofs.lemmas.List.Elements.{All-head, All-tail, All-map}
+use Rattle.std.proofs.lemmas.List.Elements.{All-map}
 use Rattle.mcf_flows.specs.declared.arc.Arc.{Arc}
 use Rattle.mcf_flows.specs.Network.{IsNode, at_node, flow_sum, node_sum, when}
 use Rattle.mcf_flows.specs.Flow.{net}
 use Rattle.mcf_flows.specs.WellFormed.{HasEnds}
 use Rattle.mcf_flows.proofs.NodeSums.{node_sum-net, node_sum-same}
-use Rattle.mcf_model.specs.Model.{IsPlan, IsSound, IsSoundRoute, Model, Route, arriving, leaving, plan_cost, plan_sum, route_cost}
+use Rattle.mcf_model.specs.Model.{IsSoundRoute, Route, arriving, leaving, plan_sum, route_cost}
 use Rattle.mcf_model.specs.Prices.{price_drop, reduced_route_cost}
 use Rattle.mcf_model.specs.Tables.{no_route}
 

@@ -1,10 +1,10 @@
 -- What one unit more costs on a route.
-use Rattle.std.proofs.Common.{◌≡◌, ℕ, zero, suc, ◌+◌, ◌<◌, Bool, true, false, List, [], ◌∷◌, add-one, ap, sym, ◌∙◌, arith, get_or, length, take, ℤ, pos, negsuc, neg_ℤ, ◌+ℤ◌, ◌-ℤ◌, ◌≤ℤ◌, ◌<ℤ◌, inl, inr}
-use Rattle.std.specs.Prelude.{Option, Some, None, ◌⊎◌}
-use Rattle.std.specs.Int.{int_max, int_min}
+use Rattle.std.proofs.Common.{◌≡◌, ℕ, zero, suc, ◌+◌, ◌<◌, List, [], ◌∷◌, add-one, ap, sym, ◌∙◌, arith, get_or, length, take, ℤ, pos, ◌+ℤ◌, ◌-ℤ◌, ◌≤ℤ◌}
+use Rattle.std.specs.Prelude.{Some}
+use Rattle.std.specs.Int.{int_min}
 use Rattle.std.proofs.Math.IntN.{◌*ℤ◌}
 use Rattle.std.proofs.lemmas.Int.{ints, clamps, by_lt_z}
-use Rattle.mcf_flows.proofs.IntLaws.{mul-add, mul-sub, mul-one}
+use Rattle.mcf_flows.proofs.IntLaws.{mul-add, mul-one}
 use Rattle.mcf_model.specs.declared.rows.Step.{Step}
 use Rattle.mcf_model.specs.Model.{Adds, AreRooms, CostAtLeast, Rises, charge, room}
 

@@ -1,12 +1,12 @@
 -- One unit more room on a route: what it saves at most, and where it saves just that.
-use Rattle.std.proofs.Common.{◌≡◌, ℕ, Bool, true, false, List, [], ◌∷◌, ap, sym, ◌∙◌, refl, subst, arith, ℤ, pos, neg_ℤ, ◌+ℤ◌, ◌-ℤ◌, ◌≤ℤ◌, ◌<ℤ◌, if◌then◌else◌, inl, inr}
-use Rattle.std.specs.Prelude.{Option, Some, None, option_map, ◌⊎◌}
-use Rattle.std.specs.Int.{int_max, int_min}
+use Rattle.std.proofs.Common.{◌≡◌, ℕ, Bool, true, false, List, [], ◌∷◌, ap, sym, refl, subst, arith, ℤ, pos, neg_ℤ, ◌+ℤ◌, ◌-ℤ◌, ◌≤ℤ◌, ◌<ℤ◌, if◌then◌else◌}
+use Rattle.std.specs.Prelude.{Option, Some, None, option_map}
+use Rattle.std.specs.Int.{int_max}
 use Rattle.std.proofs.Math.IntN.{◌*ℤ◌}
 use Rattle.std.proofs.lemmas.Int.{ints, clamps, by_lt_z}
 use Rattle.mcf_flows.proofs.IntLaws.{mul-add, mul-sub, mul-one}
 use Rattle.mcf_model.specs.declared.rows.Step.{Step}
-use Rattle.mcf_model.specs.Model.{Adds, AreRooms, CostAtLeast, Fits, IsSoundRoute, MayBeBoth, MayCarry, Rises, Route, charge, charged, room, size}
+use Rattle.mcf_model.specs.Model.{Adds, CostAtLeast, Fits, IsSoundRoute, MayBeBoth, MayCarry, Rises, Route, charge, charged, room, size}
 use Rattle.mcf_model.specs.Prices.{IsBestAt, price_drop, reduced_route_cost}
 use Rattle.mcf_figures.specs.Changes.{widened}
 use Rattle.mcf_figures.specs.Figures.{IsLoose, gain, saving, saving_if}

@@ -1,6 +1,6 @@
 -- Models with one unit more: of room on a route, or of supply.
 -- Source: own
-use Rattle.std.specs.Prelude.{ℕ, ◌-◌, List, ℤ, pos, negsuc, ◌+ℤ◌, Option, option_map, slice_set}
+use Rattle.std.specs.Prelude.{ℕ, ◌-◌, List, ℤ, pos, negsuc, ◌+ℤ◌, option_map, slice_set}
 use Rattle.mcf_flows.specs.Network.{at_node}
 use Rattle.mcf_model.specs.Model.{Model, Route}
 use Rattle.mcf_model.specs.Tables.{route_at}

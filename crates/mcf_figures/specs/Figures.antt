@@ -1,7 +1,7 @@
 -- The figures of a plan: what is free on a route, what one more unit saves there, and the places
 -- between which a unit costs what the prices say.
 -- Source: own, after AMO 9.2 and 9.11
-use Rattle.std.specs.Prelude.{◌≡◌, ℕ, ◌-◌, ◌^◌, Bool, true, false, List, [], ◌∷◌, if◌then◌else◌, ℤ, pos, ◌+ℤ◌, ◌-ℤ◌, Option, Some, None, option_map, slice_index_or, ◌⊎◌}
+use Rattle.std.specs.Prelude.{◌≡◌, ℕ, ◌-◌, ◌^◌, Bool, List, [], ◌∷◌, if◌then◌else◌, ℤ, pos, ◌+ℤ◌, ◌-ℤ◌, Option, Some, None, option_map, slice_index_or, ◌⊎◌}
 use Rattle.std.specs.Int.{int_max}
 use Rattle.std.specs.List.{All}
 use Rattle.mcf_model.specs.Model.{MayCarry, Model, Route, charged, room}

@@ -1,17 +1,18 @@
 -- What is told of a route.
 -- Source: own
-use Rattle.std.specs.Prelude.{◌≡◌, ℕ, ◌<◌, List, length, ℤ, ◌-ℤ◌, pos, slice_index_or}
+use Rattle.std.specs.Prelude.{◌≡◌, ℕ, ◌<◌, true, List, length, ℤ, pos, slice_index_or, ◌↔◌}
 use Rattle.mcf_flows.specs.Network.{at_node}
 use Rattle.mcf_flows.specs.WellFormed.{IsUpTo}
-use Rattle.mcf_model.specs.Model.{Model, Route, charged}
+use Rattle.mcf_model.specs.Model.{Model, Route}
 use Rattle.mcf_model.specs.Tables.{no_route}
 use Rattle.mcf_figures.specs.declared.figures.RouteFigures.{RouteFigures}
-use Rattle.mcf_figures.specs.Figures.{figure_limit, free, saving, saving_if}
+use Rattle.mcf_figures.specs.Figures.{IsLoose, figure_limit, free, saving}
 
 -- the figures of a route that carries x
 pub record AreRouteFigures (prices : List ℤ) (r : Route) (x : ℤ) (f : RouteFigures) : Type 0 where
   pub free_is : f.free ≡ free r x
   pub saves_is : f.saves ≡ saving prices r
+  pub loose_is : (f.loose ≡ true) ↔ IsLoose prices r x
 
 -- the amount and both prices are within the limit of figures
 pub record AreSmall (x tail head : ℤ) : Type 0 where
@@ -24,8 +25,3 @@ pub record HasFigures (m : Model) (prices plan : List ℤ) (place : ℕ) : Type 
   pub is_route : place < length m.routes
   pub small : AreSmall (slice_index_or plan place (pos 0)) (at_node prices (slice_index_or m.routes place no_route).tail)
       (at_node prices (slice_index_or m.routes place no_route).head)
-
--- the figures of a route on which the price drops by so much
-pub record AreNumbers (r : Route) (x drop : ℤ) (f : RouteFigures) : Type 0 where
-  pub free_is : f.free ≡ free r x
-  pub saves_is : f.saves ≡ saving_if r.last_most (charged r.both drop -ℤ r.last_cost)

@@ -1,11 +1,14 @@
 //! The figures of a route in a plan.
-ghost use Rattle.std.specs.Prelude.{◌≡◌, ◌*◌, ◌<◌, ◌-ℤ◌, IfNone, IfSome, length, pos, slice_index_or};
+ghost use Rattle.std.specs.Prelude.{◌≡◌, ◌*◌, ◌<◌, ◌-ℤ◌, ◌≤ℤ◌, IfNone, IfSome, length, pos, slice_index_or};
+ghost use Rattle.std.specs.List.{All};
 ghost use Rattle.mcf_flows.specs.Network.{at_node};
 ghost use Rattle.mcf_flows.specs.WellFormed.{IsUpTo};
 ghost use Rattle.mcf_model.specs.Tables.{no_route, route_with};
 ghost use Rattle.mcf_figures.specs.Figures.{figure_limit};
-ghost use Rattle.mcf_figures.specs.Told.{AreNumbers, AreRouteFigures, AreSmall, HasFigures};
+ghost use Rattle.mcf_figures.specs.Private.Units.{AreNumbers};
+ghost use Rattle.mcf_figures.specs.Told.{AreRouteFigures, AreSmall, HasFigures};
 
+use crate::loose::is_loose;
 use crate::units::{free, is_small, saving};
 use mcf_model::{PlanModel, RouteRow, Step};
 
@@ -17,6 +20,8 @@ pub struct RouteFigures {
     /// What one more unit of room saves: the price drop less the cost of a unit of the last step,
     /// if that is above 0 and the route has a limit.
     pub saves: i128,
+    /// Whether the route may carry one unit more, and one less, at the cost that the prices say.
+    pub loose: bool,
 }
 
 // Returns the number at a place, or 0 past the end.
@@ -51,11 +56,13 @@ fn drop_of(tail: i128, head: i128) -> i128
 fn numbers_of(row: RouteRow, own: &[Step], carried: i128, drop: i128) -> RouteFigures
     requires carried { IsUpTo figure_limit carried }
     requires drop { IsUpTo (2 * figure_limit) drop }
+    requires takes { All (λ s. pos 0 ≤ℤ s.most) own.now }
     ensures { AreNumbers (route_with row own.now) carried drop result }
 {
     let free = free(row, own, carried);
     let saves = saving(row, drop);
-    RouteFigures { free, saves }
+    let loose = is_loose(row, own, carried, drop);
+    RouteFigures { free, saves, loose }
 }
 
 // Returns the figures of a route that carries an amount, if the prices at its ends are these.
@@ -66,6 +73,7 @@ fn figures_of(
     tail: i128,
     head: i128,
 ) -> Option<RouteFigures>
+    requires { All (λ s. pos 0 ≤ℤ s.most) own.now }
     ensures some { IfSome result (AreNumbers (route_with row own.now) carried (tail -ℤ head)) }
     ensures none { IfNone result (¬ AreSmall carried tail head) }
 {
@@ -80,7 +88,8 @@ fn figures_of(
 }
 
 /// Returns the figures of a route, whose place counts from 0, in a plan of a model at the prices
-/// that show it: how much more it may carry, and what one more unit of room saves at most.
+/// that show it: how much more it may carry, what one more unit of room saves at most, and whether
+/// it is loose.
 ///
 /// It is `None` if there is no such route, or if the amount or a price at its ends is further than
 /// 10^36 from 0.

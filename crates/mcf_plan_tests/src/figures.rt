@@ -15,6 +15,7 @@ struct FigureRow {
     routes: [RouteRow; 3],
     free: [Option<i128>; 3],
     saves: [i128; 3],
+    loose: [bool; 3],
 }
 
 const ROWS: [FigureRow; 4] = [
@@ -46,6 +47,7 @@ const ROWS: [FigureRow; 4] = [
         ],
         free: [Some(0), Some(5), Some(7)],
         saves: [5, 0, 0],
+        loose: [false, true, true],
     },
     // a step, and no limits
     FigureRow {
@@ -77,6 +79,7 @@ const ROWS: [FigureRow; 4] = [
         ],
         free: [None, None, None],
         saves: [0, 0, 0],
+        loose: [false, true, true],
     },
     // a route both ways that is full on the way back
     FigureRow {
@@ -107,6 +110,7 @@ const ROWS: [FigureRow; 4] = [
         ],
         free: [Some(16), Some(0), Some(14)],
         saves: [0, 7, 0],
+        loose: [true, false, true],
     },
     // a degenerate plan: the first route is full, and no unit is left for it
     FigureRow {
@@ -136,6 +140,7 @@ const ROWS: [FigureRow; 4] = [
         ],
         free: [Some(0), Some(20), Some(5)],
         saves: [0, 0, 0],
+        loose: [false, false, false],
     },
 ];
 
@@ -152,6 +157,7 @@ fn are_as_said(alloc: Global, row: &FigureRow) -> Result<bool, NoMemory> {
         let want = RouteFigures {
             free: row.free[place],
             saves: row.saves[place],
+            loose: row.loose[place],
         };
         if route_figures(&model, prices, carries, place) != Some(want) {
             return Ok(false);

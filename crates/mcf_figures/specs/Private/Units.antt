@@ -1,9 +1,11 @@
 -- Tests of a route that carries an amount, by the cost of one unit more.
 -- Source: own
-use Rattle.std.specs.Prelude.{Bool, true, ◌&&◌, List, [], ◌∷◌, if◌then◌else◌, int_lt, ℤ, pos, neg_ℤ, ◌-ℤ◌, Option, Some, None}
+use Rattle.std.specs.Prelude.{◌≡◌, Bool, true, ◌&&◌, List, [], ◌∷◌, if◌then◌else◌, int_lt, ℤ, pos, neg_ℤ, ◌-ℤ◌, Option, Some, None}
 use Rattle.std.specs.Ordering.{int_eq}
 use Rattle.mcf_model.specs.declared.rows.Step.{Step}
-use Rattle.mcf_model.specs.Model.{Route, room}
+use Rattle.mcf_model.specs.Model.{Route, charged, room}
+use Rattle.mcf_figures.specs.declared.figures.RouteFigures.{RouteFigures}
+use Rattle.mcf_figures.specs.Figures.{free, saving_if}
 
 -- the cost of one unit more than x
 abbrev pub unit_cost : List Step → ℤ → ℤ → ℤ
@@ -38,3 +40,9 @@ is_between_both steps most c x drop =
 abbrev pub is_loose : Route → ℤ → ℤ → Bool
 is_loose r drop x =
     if r.both then is_between_both r.steps r.last_most r.last_cost x drop else is_between r.steps r.last_most r.last_cost r.least x drop
+
+-- the figures of a route on which the price drops by so much
+pub record AreNumbers (r : Route) (x drop : ℤ) (f : RouteFigures) : Type 0 where
+  pub free_is : f.free ≡ free r x
+  pub saves_is : f.saves ≡ saving_if r.last_most (charged r.both drop -ℤ r.last_cost)
+  pub loose_is : f.loose ≡ is_loose r drop x

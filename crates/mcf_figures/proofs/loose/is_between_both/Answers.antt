@@ -11,4 +11,4 @@ returns-then-below c =
     let d : to_z w128 (of_z w128 c.turned-slope.result) ≡ neg_ℤ c.args.drop = omega (arith, ints, c.turned-slope.type_inv, c.turned-slope.ensures, c.ranges.drop.sfits) in
     let read : to_z w128 (of_z w128 c.args.carried) ≡ c.args.carried = omega (arith, ints, c.ranges.carried.sfits) in
     back_case c.args.own.now c.args.row.last_most c.args.row.last_cost c.args.carried _ c.args.drop _ c.is_zero-zero.result c.is_below_zero-below.result
-        c.is_between.result (c.is_zero-zero.ensures ∙ ap (λ z. int_eq z (pos 0)) read) (c.is_below_zero-below.ensures ∙ ap (λ z. int_lt z (pos 0)) read) c.if-zero.false c.if-below.true x d c.is_between.ensures
+    c.is_between.result (c.is_zero-zero.ensures ∙ ap (λ z. int_eq z (pos 0)) read) (c.is_below_zero-below.ensures ∙ ap (λ z. int_lt z (pos 0)) read) c.if-zero.false c.if-below.true x d c.is_between.ensures

@@ -14,4 +14,4 @@ returns-in-None c =
     let last : to_z w64 (of_z w64 c.args.last_cost) ≡ c.args.last_cost = omega (arith, ints, c.ranges.last_cost.sfits) in
     let amount : to_z w128 (of_z w128 c.args.amount) ≡ c.args.amount = omega (arith, ints, c.ranges.amount.sfits) in
     read ∙ found_here c.args.own.now c.loop-place.place none c.args.last_cost _ _ c.args.amount _ c.past.result c.loop-place-test.true last amount
-        c.past.ensures c.in-None.is c.loop-place.invariant
+    c.past.ensures c.in-None.is c.loop-place.invariant
