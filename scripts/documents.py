@@ -401,6 +401,7 @@ cells_of head_faults place_columns route_columns all_step_columns settled_mark n
 is_filled cell_at read_number read_amount is_no_limit read_limit is_yes way_kind number_of name_kind
 no_place_kind cell_faults
 great_faults planner_faults IsProperPlanner steps_in rows_in
+numbers_of is_bounded
 IsBeyond shortage_of mcf_places.origin_of
 """
 

@@ -38,9 +38,8 @@ origin_in P (NoPlan bottleneck) = None
 -- the first number beyond the limits and where it comes from.
 abbrev pub IsProblemAnswer : Entries → Terms → ProblemAnswer → Type 0
 IsProblemAnswer said terms (Solved s) =
-    (s.scales ≡ scales_of said terms.penalty) × (great_faults s.scales said terms ≡ [])
-    × IsProperPlanner (planner_in s.scales said terms) × IsPlannerAnswer (planner_in s.scales said terms) s.answer
-    × (s.origin ≡ origin_in (planner_in s.scales said terms) s.answer)
+    (s.scales ≡ scales_of said terms.penalty) × (s.planner ≡ planner_in s.scales said terms) × (great_faults s.scales said terms ≡ [])
+    × IsProperPlanner s.planner × IsPlannerAnswer s.planner s.answer × (s.origin ≡ origin_in s.planner s.answer)
 IsProblemAnswer said terms (TooGreat faults) = IsMadeOf said terms (GreatNumbers faults)
 IsProblemAnswer said terms (Improper faults) = IsMadeOf said terms (ImproperProblem faults)
 

@@ -16,9 +16,13 @@ use std::alloc::Global;
 pub struct SolvedProblem {
     /// The units of amounts and of costs.
     pub scales: Scales,
+    /// The problem. It says which rows of routes have a way back of their own, and so which amount
+    /// of a plan goes there, and which goes back.
+    pub planner: Planner,
     /// A least plan, or a bottleneck, or the first number beyond the limits.
     pub answer: PlannerAnswer,
-    /// The place or the route that a number beyond the limits comes from, if that is the answer.
+    /// The place or the row of routes that a number beyond the limits comes from, if that is the
+    /// answer.
     pub origin: Option<Origin>,
 }
 
@@ -64,10 +68,12 @@ fn problem_answer<S: Solves>(
     match problem(alloc, tables, terms)? {
         Made::Problem(made) => {
             let scales = made.scales;
-            let answer = least(alloc, solver, &made.planner)?;
-            let origin = origin_in(&made.planner, &answer);
+            let planner = made.planner;
+            let answer = least(alloc, solver, &planner)?;
+            let origin = origin_in(&planner, &answer);
             Ok(ProblemAnswer::Solved(SolvedProblem {
                 scales,
+                planner,
                 answer,
                 origin,
             }))

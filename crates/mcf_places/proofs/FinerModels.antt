@@ -411,6 +411,6 @@ shortage_routes k (r ∷ rs) =
 
 pub shortage_finer : (k : ℤ) (P : Planner) → finer k (shortage_of P) ≡ shortage_of (finer k P)
 shortage_finer k P =
-    ap (λ (ps : List Place). record { places = ps; routes = map (scaled_route k) (map free_route P.routes); policy = counting P.policy }) (shortage_places k P.places)
-    ∙ ap (λ (rs : List Route). record { places = map free_place (map (finer_place k) P.places); routes = rs; policy = counting P.policy })
+    ap (λ (ps : List Place). record { places = ps; routes = map (scaled_route k) (map free_route P.routes); returning = P.returning; policy = counting P.policy }) (shortage_places k P.places)
+    ∙ ap (λ (rs : List Route). record { places = map free_place (map (finer_place k) P.places); routes = rs; returning = P.returning; policy = counting P.policy })
     (shortage_routes k P.routes)

@@ -4,6 +4,7 @@ mod Sides
 mod Ends
 mod Exchange
 mod PlaceSteps
+mod MadeWays
 mod ProperPlanners
 mod Listed
 mod ProperModels
@@ -16,4 +17,5 @@ mod ToldAnswers
 mod FinerModels
 mod FinerCuts
 mod ArcOrigins
+mod RowOrigins
 mod Stages

@@ -19,9 +19,10 @@ use Rattle.mcf_places.specs.declared.places.Bounds.{Bounds}
 use Rattle.mcf_places.specs.declared.places.Policy.{Policy}
 use Rattle.mcf_places.specs.declared.places.Place.{Place}
 use Rattle.mcf_places.specs.Models.{exit_by, exit_of, from_exit, gate_of, gate_route, hub_of, missings, model_of, place_at, plain_route, routes_by, some_bounds, stayings, supplies_of, throughs, with_exits, with_first}
-use Rattle.mcf_places.specs.PlannerFaults.{CostsThrough, EarnsNothing, IsLimitedPlanner, IsLimitedThrough, IsProperPlanner, IsSmallPlace, planner_of}
+use Rattle.mcf_places.specs.PlannerFaults.{CostsThrough, EarnsNothing, IsLimitedPlanner, IsLimitedThrough, IsProperPlanner, IsSmallPlace}
 use Rattle.mcf_places.specs.PlannerLaws.{AreSoundRoutes}
 use Rattle.mcf_places.specs.Planners.{EachPlace, Planner, unit_penalty}
+use Rattle.mcf_places.specs.Ways.{with_tables}
 use Rattle.mcf_places.proofs.PlaceSums.{each_from}
 use Rattle.mcf_places.proofs.PlaceSteps.{each_small}
 use Rattle.mcf_places.proofs.MadeRoutes.{IfRoute}
@@ -157,19 +158,20 @@ module _ (most : ℤ) (P : Planner) where
 
 -- ---- the model that is made of lists
 
-pub planner_is : (P : Planner) (places : List Place) (routes : List Route) (policy : Policy) → places ≡ P.places → routes ≡ P.routes → policy ≡ P.policy
-    → record { places = places; routes = routes; policy = policy } ≡ P
-planner_is P places routes policy e f g =
-    ap (λ (z : List Place). record { places = z; routes = routes; policy = policy }) e
-    ∙ ap (λ (z : List Route). record { places = P.places; routes = z; policy = policy }) f
-    ∙ ap (λ (z : Policy). record { places = P.places; routes = P.routes; policy = z }) g
+pub planner_is : (P : Planner) (places : List Place) (routes : List Route) (returning : List ℕ) (policy : Policy) → places ≡ P.places → routes ≡ P.routes
+    → returning ≡ P.returning → policy ≡ P.policy → record { places = places; routes = routes; returning = returning; policy = policy } ≡ P
+planner_is P places routes returning policy e f b g =
+    ap (λ (z : List Place). record { places = z; routes = routes; returning = returning; policy = policy }) e
+    ∙ ap (λ (z : List Route). record { places = P.places; routes = z; returning = returning; policy = policy }) f
+    ∙ ap (λ (z : List ℕ). record { places = P.places; routes = P.routes; returning = z; policy = policy }) b
+    ∙ ap (λ (z : Policy). record { places = P.places; routes = P.routes; returning = P.returning; policy = z }) g
 
-module _ (most : ℤ) (P : Planner) (places : List Place) (steps : List Step) (rows : List RouteRow) (policy : Policy) (e : places ≡ P.places)
-    (f : map (route_of steps) rows ≡ P.routes) (g : policy ≡ P.policy) (supplies : List ℤ) (made_steps : List Step) (made_rows : List RouteRow)
+module _ (most : ℤ) (P : Planner) (places : List Place) (steps : List Step) (rows : List RouteRow) (returning : List ℕ) (policy : Policy) (e : places ≡ P.places)
+    (f : map (route_of steps) rows ≡ P.routes) (b : returning ≡ P.returning) (g : policy ≡ P.policy) (supplies : List ℤ) (made_steps : List Step) (made_rows : List RouteRow)
     (supplies_are : supplies ≡ supplies_of places) (steps_are : made_steps ≡ steps)
-    (rows_are : map (route_of steps) made_rows ≡ (model_of most (planner_of places steps rows policy)).routes) where
-  same_planner : planner_of places steps rows policy ≡ P
-  same_planner = planner_is P places (map (route_of steps) rows) policy e f g
+    (rows_are : map (route_of steps) made_rows ≡ (model_of most (with_tables places steps rows returning policy)).routes) where
+  same_planner : with_tables places steps rows returning policy ≡ P
+  same_planner = planner_is P places (map (route_of steps) rows) returning policy e f b g
 
   pub same_model : tables_of supplies made_steps made_rows ≡ model_of most P
   same_model =

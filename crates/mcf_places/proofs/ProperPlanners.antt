@@ -1,8 +1,9 @@
 -- Problems without faults are proper.
-use Rattle.std.proofs.Common.{◌≡◌, ℕ, suc, ◌+◌, ◌≤◌, Bool, true, false, ◌&&◌, List, [], ◌∷◌, length, map, refl, arith, pos, ◌+ℤ◌, inl, inr, int_lt}
+use Rattle.std.proofs.Common.{◌≡◌, ℕ, suc, ◌+◌, ◌≤◌, Bool, true, false, ◌&&◌, List, [], ◌∷◌, length, map, refl, sym, ◌∙◌, subst, arith, pos, ◌+ℤ◌, inl, inr, int_lt}
 use Rattle.std.specs.Prelude.{◌⊎◌, Option, Some, None, nat_lt, if◌then◌else◌}
 use Rattle.std.specs.List.{All, list_any}
 use Rattle.std.specs.Option.{is_none}
+use Rattle.std.proofs.lemmas.List.{nil_from_length}
 use Rattle.std.proofs.lemmas.List.Elements.{All-cons, All-map}
 use Rattle.mcf_model.specs.declared.rows.RouteRow.{RouteRow}
 use Rattle.mcf_model.specs.declared.rows.Step.{Step}
@@ -13,14 +14,15 @@ use Rattle.mcf_model.specs.Tables.{own_steps, route_of}
 use Rattle.mcf_model.proofs.FaultTests.{all_of, any_none, limited_from, no_earnings, not_below, or_false}
 use Rattle.mcf_model.proofs.Proper.{IsFaultless, each_clear, faultless, neither}
 use Rattle.mcf_places.specs.declared.faults.PlannerFault.{PlannerFault}
-use Rattle.mcf_places.specs.declared.faults.PlannerFault.TheVariants.{Size, Total, Penalty, NoLimit, Routes, BothWays}
+use Rattle.mcf_places.specs.declared.faults.PlannerFault.TheVariants.{Size, Total, Penalty, NoLimit, Routes}
 use Rattle.mcf_places.specs.declared.faults.TheConstants.{PLACE_LIMIT, SUM_LIMIT}
 use Rattle.mcf_places.specs.declared.places.Bounds.{Bounds}
 use Rattle.mcf_places.specs.declared.places.Place.{Place}
 use Rattle.mcf_places.specs.declared.places.Policy.{Policy}
-use Rattle.mcf_places.specs.PlannerFaults.{CostsThrough, EarnsNothing, IsLimitedPlanner, IsLimitedThrough, IsProperPlanner, earning, fault_if, is_open, is_returning, numbers_of, open_faults, place_earns, planner_faults, planner_of}
-use Rattle.mcf_places.specs.PlannerLaws.{ReturnsFreely}
+use Rattle.mcf_places.specs.PlannerFaults.{CostsThrough, EarnsNothing, IsLimitedPlanner, IsLimitedThrough, IsProperPlanner, earning, fault_if, is_open, open_faults, place_earns, planner_faults, planner_of}
 use Rattle.mcf_places.specs.Planners.{all_given, all_wanted, unit_penalty}
+use Rattle.mcf_places.specs.Ways.{numbers_of, row_returns, way_rows, with_tables}
+use Rattle.mcf_places.proofs.MadeWays.{all_ways, few_ways, planner_same, rows_inside, ways_free, ways_listed, ways_same, ways_sound}
 
 not_so : (b : Bool) (f : PlannerFault) → fault_if b f ≡ [] → b ≡ false
 not_so true f e = cc e
@@ -48,7 +50,7 @@ costs_through (Some b) e = not_below b.cost (pos 0) e
 costs_through None e = tt
 
 module _ (places : List Place) (steps : List Step) (rows : List RouteRow) (policy : Policy) where
-  pub proper_planner : planner_faults places steps rows policy ≡ [] → IsProperPlanner (planner_of places steps rows policy) × AreListed steps rows
+  pub proper_planner : planner_faults places steps rows policy ≡ [] → IsProperPlanner (planner_of places steps rows policy) × AreListed steps (way_rows places rows)
   proper_planner e =
       let n = length places in
       let earns = earning places steps rows in
@@ -56,9 +58,8 @@ module _ (places : List Place) (steps : List Step) (rows : List RouteRow) (polic
       let b = neither (fault_if (int_lt (pos SUM_LIMIT) (all_given places +ℤ all_wanted places)) Total) _ a.1 in
       let c = neither (fault_if (int_lt (unit_penalty policy.penalty) (pos 0)) Penalty) _ b.1 in
       let d = neither (open_faults earns places) _ c.1 in
-      let f = neither (map Routes (faults_from n steps earns 1 rows)) _ d.1 in
-      let clear = each_clear n steps earns 1 rows (unmapped Routes (faults_from n steps earns 1 rows) f.0) in
-      let free = none_of (is_returning places) 1 rows (unmapped BothWays (numbers_of (is_returning places) 1 rows) f.1) in
+      let clear = each_clear n steps earns 1 rows (unmapped Routes (faults_from n steps earns 1 rows) d.1) in
+      let routes = map (route_of steps) rows in
       let F = IsFaultless n steps (earning places steps rows) in
       let each : All F rows = all_of (λ row. row_fault n steps (earning places steps rows) row ≡ None) F rows
       (λ row k. faultless n steps (earning places steps rows) row k) clear in (
@@ -68,14 +69,18 @@ module _ (places : List Place) (steps : List Step) (rows : List RouteRow) (polic
               (not_so (int_lt (pos SUM_LIMIT) (all_given places +ℤ all_wanted places)) Total b.0);
           penalty = not_below (unit_penalty policy.penalty) (pos 0) (not_so (int_lt (unit_penalty policy.penalty) (pos 0)) Penalty c.0);
           sound = record {
-            routes = All-map (IsSoundRoute n) (route_of steps) rows (all_of F (λ row. IsSoundRoute n (route_of steps row)) rows (λ row k. k.sound) each);
-            return_freely = All-map (ReturnsFreely places) (route_of steps) rows free;
+            routes = ways_sound places n routes
+                (All-map (IsSoundRoute n) (route_of steps) rows (all_of F (λ row. IsSoundRoute n (route_of steps row)) rows (λ row k. k.sound) each));
+            return_freely = ways_free places routes;
           };
-          steps_take = All-map StepsTake (route_of steps) rows (all_of F (λ row. StepsTake (route_of steps row)) rows (λ row k. k.takes) each);
+          steps_take = all_ways places StepsTake StepsTake (λ r k. k) (λ r k. k) routes
+              (All-map StepsTake (route_of steps) rows (all_of F (λ row. StepsTake (route_of steps row)) rows (λ row k. k.takes) each));
+          few_returning = few_ways places routes;
+          returning_rows = rows_inside places routes;
           bounded = bounded (earning places steps rows) refl d.0
               (all_of F (λ row. (earning places steps rows && is_none row.last_most) ≡ false) rows (λ row k. k.limited) each);
         },
-        all_of F (λ row. (row.first_step + row.step_count) ≤ length steps) rows (λ row k. k.listed) each,
+        ways_listed places steps rows (all_of F (λ row. (row.first_step + row.step_count) ≤ length steps) rows (λ row k. k.listed) each),
       )
     where
       few : (x y : ℕ) → nat_lt x y ≡ false → y ≤ x
@@ -85,18 +90,39 @@ module _ (places : List Place) (steps : List Step) (rows : List RouteRow) (polic
           → IsLimitedPlanner (planner_of places steps rows policy) ⊎ EarnsNothing (planner_of places steps rows policy)
       bounded true e o l =
           inl (record {
-            routes = All-map (λ r. IsLimited r.last_most) (route_of steps) rows
-                (all_of (λ row. is_none row.last_most ≡ false) (λ row. IsLimited row.last_most) rows (λ row k. limited_from row.last_most k) l);
+            routes = all_ways places (λ r. IsLimited r.last_most) (λ r. IsLimited r.last_most) (λ r k. k) (λ r k. k) (map (route_of steps) rows)
+                (All-map (λ r. IsLimited r.last_most) (route_of steps) rows
+                (all_of (λ row. is_none row.last_most ≡ false) (λ row. IsLimited row.last_most) rows (λ row k. limited_from row.last_most k) l));
             places = all_of (λ p. is_open p.through ≡ false) (λ p. IsLimitedThrough p.through) places (λ p k. limited_through p.through k)
                 (none_of (λ p. is_open p.through) 1 places (unmapped NoLimit (numbers_of (λ p. is_open p.through) 1 places) o));
           })
       bounded false e o l =
           let both = or_false (list_any (λ p. place_earns p.through) places) (some_earn steps rows) e in
           inr (record {
-            routes = All-map (λ r. CostAtLeast (pos 0) r.steps r.last_cost) (route_of steps) rows
+            routes = all_ways places (λ r. CostAtLeast (pos 0) r.steps r.last_cost) (λ r. CostAtLeast (pos 0) r.steps r.last_cost) (λ r k. k) (λ r k. k)
+                (map (route_of steps) rows)
+                (All-map (λ r. CostAtLeast (pos 0) r.steps r.last_cost) (route_of steps) rows
                 (all_of (λ row. earns (own_steps steps row) row.last_cost ≡ false) (λ row. CostAtLeast (pos 0) (own_steps steps row) row.last_cost) rows
                 (λ row k. no_earnings (own_steps steps row) row.last_cost k)
-                (any_none (λ row. earns (own_steps steps row) row.last_cost) rows both.1));
+                (any_none (λ row. earns (own_steps steps row) row.last_cost) rows both.1)));
             places = all_of (λ p. place_earns p.through ≡ false) (λ p. CostsThrough p.through) places (λ p k. costs_through p.through k)
                 (any_none (λ p. place_earns p.through) places both.0);
           })
+
+-- the problem that the code makes
+module _ (places : List Place) (steps : List Step) (rows : List RouteRow) (policy : Policy) (seen : List Place) (ways : List RouteRow) (returning : List ℕ)
+    (found : List PlannerFault) (e : seen ≡ places) (ways_are : ways ≡ way_rows seen rows) (returning_are : returning ≡ numbers_of (row_returns seen) 1 rows)
+    (found_are : found ≡ planner_faults places steps rows policy) (few : length found ≡ 0) where
+  pub no_faults : planner_faults places steps rows policy ≡ []
+  no_faults = sym found_are ∙ nil_from_length found few
+
+  pub made_is : with_tables places steps ways returning policy ≡ planner_of places steps rows policy
+  made_is = planner_same places steps rows policy seen ways returning e ways_are returning_are
+
+  pub made_proper : IsProperPlanner (with_tables places steps ways returning policy)
+  made_proper = subst IsProperPlanner (sym made_is) (proper_planner places steps rows policy no_faults).0
+
+  pub made_listed : AreListed steps ways
+  made_listed =
+      subst (AreListed steps) (sym (ways_same places steps rows policy seen ways returning e ways_are returning_are))
+      (proper_planner places steps rows policy no_faults).1

@@ -7,7 +7,7 @@ use Rattle.std.specs.List.{All, AllZip}
 use Rattle.std.proofs.lemmas.Int.{ints}
 use Rattle.std.proofs.lemmas.List.{length-map, take-map, drop-map}
 use Rattle.std.proofs.lemmas.List.Elements.{All-cons, All-map}
-use Rattle.mcf_flows.specs.Network.{at_node, when}
+use Rattle.mcf_flows.specs.Network.{IsNode, at_node, when}
 use Rattle.mcf_flows.proofs.IntLaws.{one-mul, zero-mul}
 use Rattle.mcf_model.specs.declared.rows.RouteRow.{RouteRow}
 use Rattle.mcf_model.specs.declared.rows.Step.{Step}
@@ -19,10 +19,11 @@ use Rattle.mcf_model.proofs.FaultTests.{all_of}
 use Rattle.mcf_places.specs.declared.places.Bounds.{Bounds}
 use Rattle.mcf_places.specs.declared.places.Place.{Place}
 use Rattle.mcf_places.specs.declared.places.Policy.{Policy}
-use Rattle.mcf_places.specs.PlannerFaults.{CostsThrough, IsProperPlanner, planner_of}
+use Rattle.mcf_places.specs.PlannerFaults.{CostsThrough, IsProperPlanner}
 use Rattle.mcf_places.specs.PlannerLaws.{ReturnsFreely, has_bounds}
 use Rattle.mcf_places.specs.Planners.{EachPlace, IsBalancedAt, IsLeastPlan, IsNoWorse, IsPlan, KeepsBounds, Plan, Planner, all_wanted, cost, given, passes, place_sum, through_cost, total_missing, wanted}
 use Rattle.mcf_places.specs.Shortage.{counting, free_bounds, free_place, free_route, free_row, free_step, shortage_of}
+use Rattle.mcf_places.specs.Ways.{with_tables}
 use Rattle.mcf_places.proofs.Ends.{plan_sum-map}
 use Rattle.mcf_places.proofs.ProperModels.{planner_is}
 
@@ -258,6 +259,8 @@ proper_free P h =
       };
       steps_take = All-map StepsTake free_route P.routes
           (all_of StepsTake (λ r. StepsTake (free_route r)) P.routes (λ r k. steps_free r.steps k) h.steps_take);
+      few_returning = omega (arith, h.few_returning, length-map P.routes free_route);
+      returning_rows = subst (λ n. All (IsNode (n - length P.returning)) P.returning) (sym (length-map P.routes free_route)) h.returning_rows;
       bounded = inr (record {
         routes = All-map (λ r. CostAtLeast (pos 0) r.steps r.last_cost) free_route P.routes
             (any_all (λ r. CostAtLeast (pos 0) (map free_step r.steps) (pos 0)) (λ r. free_at_least r.steps) P.routes);
@@ -293,16 +296,17 @@ listed_free steps rows h =
     (all_of (λ row. row.first_step + row.step_count ≤ length steps) (λ row. row.first_step + row.step_count ≤ length (map free_step steps)) rows
     (λ row k. omega (arith, k, length-map steps free_step)) h)
 
-module _ (P : Planner) (places made_places : List Place) (steps made_steps : List Step) (rows made_rows : List RouteRow) (policy made_policy : Policy)
-    (e : places ≡ P.places) (f : map (route_of steps) rows ≡ P.routes) (g : policy ≡ P.policy) (places_are : made_places ≡ map free_place places)
-    (steps_are : made_steps ≡ map free_step steps) (rows_are : made_rows ≡ map free_row rows) (policy_is : made_policy ≡ counting policy) where
-  pub same_shortage : planner_of made_places made_steps made_rows made_policy ≡ shortage_of P
+module _ (P : Planner) (places made_places : List Place) (steps made_steps : List Step) (rows made_rows : List RouteRow) (returning made_returning : List ℕ)
+    (policy made_policy : Policy) (e : places ≡ P.places) (f : map (route_of steps) rows ≡ P.routes) (b : returning ≡ P.returning) (g : policy ≡ P.policy) (places_are : made_places ≡ map free_place places)
+    (steps_are : made_steps ≡ map free_step steps) (rows_are : made_rows ≡ map free_row rows) (returning_are : made_returning ≡ returning) (policy_is : made_policy ≡ counting policy) where
+  pub same_shortage : with_tables made_places made_steps made_rows made_returning made_policy ≡ shortage_of P
   same_shortage =
-      planner_is (shortage_of P) made_places (map (route_of made_steps) made_rows) made_policy (places_are ∙ ap (map free_place) e)
-      (ap (λ s. map (route_of s) made_rows) steps_are ∙ ap (map (route_of (map free_step steps))) rows_are ∙ rows_free steps rows ∙ ap (map free_route) f) (policy_is ∙ ap counting g)
+      planner_is (shortage_of P) made_places (map (route_of made_steps) made_rows) made_returning made_policy (places_are ∙ ap (map free_place) e)
+      (ap (λ s. map (route_of s) made_rows) steps_are ∙ ap (map (route_of (map free_step steps))) rows_are ∙ rows_free steps rows ∙ ap (map free_route) f)
+      (returning_are ∙ b) (policy_is ∙ ap counting g)
 
   pub makes_shortage : IsProperPlanner P → AreListed steps rows
-      → IsProperPlanner (planner_of made_places made_steps made_rows made_policy) × AreListed made_steps made_rows
+      → IsProperPlanner (with_tables made_places made_steps made_rows made_returning made_policy) × AreListed made_steps made_rows
   makes_shortage proper listed = (
     subst IsProperPlanner (sym same_shortage) (proper_free P proper),
     subst (λ s. AreListed s made_rows) (sym steps_are) (subst (AreListed (map free_step steps)) (sym rows_are) (listed_free steps rows listed)),

@@ -16,7 +16,13 @@ finer_place k p = record { supply = k *ℤ p.supply; through = option_map (finer
 
 -- the problem in units that are k times as fine
 abbrev pub finer : ℤ → Planner → Planner
-finer k P = record { places = map (finer_place k) P.places; routes = map (scaled_route k) P.routes; policy = P.policy }
+finer k P =
+    record {
+      places = map (finer_place k) P.places;
+      routes = map (scaled_route k) P.routes;
+      returning = P.returning;
+      policy = P.policy;
+    }
 
 -- the plan in units that are k times as fine
 abbrev pub finer_plan : ℤ → Plan → Plan

@@ -10,6 +10,7 @@ pub use Rattle.mcf_flows.specs.Limits
 pub mod Planners
 pub mod Models
 pub mod PlannerLaws
+pub mod Ways
 pub mod PlannerFaults
 pub mod Kinds
 pub mod Planning

@@ -4,6 +4,7 @@
 use Rattle.std.specs.Prelude.{ℕ, suc, ◌+◌, ◌-◌, nat_le, Bool, true, false, List, [], ◌∷◌, ◌++◌, length, if◌then◌else◌, slice_index_or, Option, Some, None, replicate}
 use Rattle.mcf_instance.specs.declared.arrays.ArrayFault.{ArrayFault}
 use Rattle.mcf_instance.specs.declared.arrays.ArrayFault.TheVariants.{Size, Supply, Arc}
+use Rattle.mcf_flows.specs.Network.{IsNode}
 use Rattle.mcf_model.specs.Arcs.{back_length, way_length}
 use Rattle.mcf_model.specs.Model.{Route}
 use Rattle.mcf_places.specs.declared.origins.Origin.{Origin}
@@ -13,7 +14,7 @@ use Rattle.mcf_places.specs.declared.origins.Sought.TheVariants.{Found, Left}
 use Rattle.mcf_places.specs.declared.places.Place.{Place}
 use Rattle.mcf_places.specs.declared.rows.Kind.TheVariants.{Through, Stay, Missing}
 use Rattle.mcf_places.specs.Kinds.{kind_has}
-use Rattle.mcf_places.specs.Planners.{Planner}
+use Rattle.mcf_places.specs.Planners.{Planner, row_count}
 
 -- the number of arcs of a route
 abbrev pub arc_count : Route → ℕ
@@ -46,11 +47,21 @@ abbrev pub supply_origin : List Place → ℕ → Origin
 supply_origin places v =
     if nat_le v (length places) then OfPlace v else (if nat_le (v - length places) 2 then OfAll else OfPlace (v - length places - 2))
 
--- where the fault of a model's network comes from
+-- the row of the route with a number: the row with this number, or one whose way back the route is
+abbrev pub row_of : Planner → ℕ → ℕ
+row_of P v = if nat_le v (row_count P) then v else slice_index_or P.returning (v - row_count P - 1) 0
+
+-- an origin, with the row of a route
+abbrev pub row_origin : Planner → Origin → Origin
+row_origin P (OfPlace v) = OfPlace v
+row_origin P (OfRoute v) = OfRoute (row_of P v)
+row_origin P OfAll = OfAll
+
+-- where the fault of a model's network comes from: a place, a row of routes, or all of them
 abbrev pub origin_of : Planner → ArrayFault → Origin
 origin_of P Size = OfAll
 origin_of P (Supply v) = supply_origin P.places v
-origin_of P (Arc a _) = slice_index_or (arc_origins P) (a - 1) OfAll
+origin_of P (Arc a _) = row_origin P (slice_index_or (arc_origins P) (a - 1) OfAll)
 
 -- what a search for an arc has found: its origin, or how many arcs of the others are before it
 abbrev pub found_in : Sought → List Origin → Origin
@@ -61,3 +72,9 @@ found_in (Left arcs) others = slice_index_or others arcs OfAll
 abbrev pub next_in : Option ℕ → Origin → List Origin → Origin
 next_in None origin others = origin
 next_in (Some left) origin others = slice_index_or others left OfAll
+
+-- a row that is named is one
+abbrev pub IsRowOrigin : Planner → Origin → Type 0
+IsRowOrigin P (OfRoute v) = IsNode (row_count P) v
+IsRowOrigin P (OfPlace v) = Unit {0}
+IsRowOrigin P OfAll = Unit {0}

@@ -1,9 +1,10 @@
 -- Faults of planners' problems: all of them.
 -- Source: own
-use Rattle.std.specs.Prelude.{◌≡◌, ℕ, suc, ◌≤◌, nat_lt, Bool, true, false, ◌&&◌, ◌||◌, List, [], ◌∷◌, ◌++◌, length, map, pos, ◌+ℤ◌, ◌≤ℤ◌, int_lt, if◌then◌else◌, ◌⊎◌, Option, Some, None, Result, Ok, Err}
+use Rattle.std.specs.Prelude.{◌≡◌, ◌≤◌, nat_lt, Bool, true, false, ◌||◌, List, [], ◌∷◌, ◌++◌, length, map, pos, ◌+ℤ◌, ◌≤ℤ◌, int_lt, ◌⊎◌, Option, Some, None, Result, Ok, Err}
 use Rattle.std.specs.Global.{Vec}
 use Rattle.std.specs.List.{All, list_any}
 use Rattle.std.specs.Option.{is_none}
+use Rattle.mcf_flows.specs.Network.{IsNode}
 use Rattle.mcf_model.specs.declared.rows.RouteRow.{RouteRow}
 use Rattle.mcf_model.specs.declared.rows.Step.{Step}
 use Rattle.mcf_model.specs.Faults.{faults_from, some_earn}
@@ -11,13 +12,14 @@ use Rattle.mcf_model.specs.Laws.{StepsTake}
 use Rattle.mcf_model.specs.Model.{CostAtLeast, IsLimited}
 use Rattle.mcf_model.specs.Tables.{route_of}
 use Rattle.mcf_places.specs.declared.faults.PlannerFault.{PlannerFault}
-use Rattle.mcf_places.specs.declared.faults.PlannerFault.TheVariants.{Size, Total, Penalty, NoLimit, Routes, BothWays}
+use Rattle.mcf_places.specs.declared.faults.PlannerFault.TheVariants.{Size, Total, Penalty, NoLimit, Routes}
 use Rattle.mcf_places.specs.declared.faults.TheConstants.{PLACE_LIMIT, SUM_LIMIT}
 use Rattle.mcf_places.specs.declared.places.Bounds.{Bounds}
 use Rattle.mcf_places.specs.declared.places.Place.{Place}
 use Rattle.mcf_places.specs.declared.places.Policy.{Policy}
-use Rattle.mcf_places.specs.PlannerLaws.{IsSound, has_bounds}
-use Rattle.mcf_places.specs.Planners.{Planner, all_given, all_wanted, given, unit_penalty, wanted}
+use Rattle.mcf_places.specs.PlannerLaws.{IsSound}
+use Rattle.mcf_places.specs.Planners.{Planner, all_given, all_wanted, given, row_count, unit_penalty, wanted}
+use Rattle.mcf_places.specs.Ways.{numbers_of, problem_of}
 
 -- a unit that passes through a place costs less than 0
 abbrev pub place_earns : Option Bounds → Bool
@@ -38,35 +40,24 @@ abbrev pub fault_if : Bool → PlannerFault → List PlannerFault
 fault_if true fault = fault ∷ []
 fault_if false fault = []
 
--- the numbers of the elements for which a test holds, if the first has a given number
-abbrev pub numbers_of : {X : Type 0} → (X → Bool) → ℕ → List X → List ℕ
-numbers_of test number [] = []
-numbers_of test number (x ∷ xs) =
-    if test x then number ∷ numbers_of test (suc number) xs else numbers_of test (suc number) xs
-
 -- the places whose bounds have no limit, if some cost is below 0
 abbrev pub open_faults : Bool → List Place → List PlannerFault
 open_faults true places = map NoLimit (numbers_of (λ p. is_open p.through) 1 places)
 open_faults false places = []
 
--- a route is used both ways, and what passes through one of its ends has bounds
-abbrev pub is_returning : List Place → RouteRow → Bool
-is_returning places row = row.both && (has_bounds places row.tail || has_bounds places row.head)
-
 -- all faults: too many places, too great supplies, a penalty below 0, bounds without a limit where
--- some cost is below 0, faults of routes, and routes both ways at a place with bounds
+-- some cost is below 0, and faults of rows of routes
 abbrev pub planner_faults : List Place → List Step → List RouteRow → Policy → List PlannerFault
 planner_faults places steps rows policy =
     fault_if (nat_lt PLACE_LIMIT (length places)) Size
     ++ (fault_if (int_lt (pos SUM_LIMIT) (all_given places +ℤ all_wanted places)) Total
     ++ (fault_if (int_lt (unit_penalty policy.penalty) (pos 0)) Penalty
     ++ (open_faults (earning places steps rows) places
-    ++ (map Routes (faults_from (length places) steps (earning places steps rows) 1 rows)
-    ++ map BothWays (numbers_of (is_returning places) 1 rows)))))
+    ++ map Routes (faults_from (length places) steps (earning places steps rows) 1 rows))))
 
 -- the planner's problem of places, a table of steps, rows of routes, and a policy
 abbrev pub planner_of : List Place → List Step → List RouteRow → Policy → Planner
-planner_of places steps rows policy = record { places = places; routes = map (route_of steps) rows; policy = policy }
+planner_of places steps rows policy = problem_of places (map (route_of steps) rows) policy
 
 -- The result of making a planner's problem: it if there is no fault, or else all faults.
 abbrev pub IsMade : List Place → List Step → List RouteRow → Policy → Result Planner (Vec PlannerFault) → Type 0
@@ -102,6 +93,8 @@ pub record IsProperPlanner (P : Planner) : Type 0 where
   pub penalty : pos 0 ≤ℤ unit_penalty P.policy.penalty
   pub sound : IsSound P
   pub steps_take : All StepsTake P.routes
+  pub few_returning : length P.returning ≤ length P.routes
+  pub returning_rows : All (IsNode (row_count P)) P.returning
   pub bounded : IsLimitedPlanner P ⊎ EarnsNothing P
 
 -- what a place gives, and what it wants, are no more than the sums may be

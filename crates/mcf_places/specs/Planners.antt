@@ -1,7 +1,7 @@
 -- Planners' problems: places with bounds on what passes through them, supplies that may stay, and
 -- demands that may be missing. No network is named here.
 -- Source: own
-use Rattle.std.specs.Prelude.{◌≡◌, ℕ, suc, Bool, true, false, List, [], ◌∷◌, length, ℤ, pos, neg_ℤ, ◌+ℤ◌, ◌-ℤ◌, ◌*ℤ◌, ◌≤ℤ◌, ◌<ℤ◌, ◌⊎◌, Option, Some, None}
+use Rattle.std.specs.Prelude.{◌≡◌, ℕ, suc, ◌-◌, Bool, true, false, List, [], ◌∷◌, length, ℤ, pos, neg_ℤ, ◌+ℤ◌, ◌-ℤ◌, ◌*ℤ◌, ◌≤ℤ◌, ◌<ℤ◌, ◌⊎◌, Option, Some, None}
 use Rattle.std.specs.Int.{int_max}
 use Rattle.std.specs.List.{AllZip}
 use Rattle.mcf_flows.specs.Network.{at_node, when}
@@ -12,11 +12,18 @@ use Rattle.mcf_places.specs.declared.places.Policy.{Policy}
 
 -- ---- planners' problems and plans
 
--- places and routes, and whether supplies may stay and demands may be missing; places count from 1
+-- Places and routes, and whether supplies may stay and demands may be missing; places count from 1.
+-- Each row of a table of routes is a route, in order; the last routes are the ways back of the rows
+-- that `returning` names, in order.
 pub record Planner : Type 0 where
   pub places : List Place
   pub routes : List Route
+  pub returning : List ℕ
   pub policy : Policy
+
+-- the number of rows that the routes are made of
+abbrev pub row_count : Planner → ℕ
+row_count P = length P.routes - length P.returning
 
 -- what each route carries, what stays at each place, and what is missing at each place
 pub record Plan : Type 0 where

@@ -45,6 +45,7 @@ shortage_of P =
     record {
       places = map free_place P.places;
       routes = map free_route P.routes;
+      returning = P.returning;
       policy = counting P.policy;
     }
 

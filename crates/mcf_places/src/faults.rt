@@ -1,14 +1,13 @@
 //! Faults of planners' problems.
 ghost use Rattle.std.specs.Prelude.{◌≡◌, ◌≤◌, ◌<ℤ◌, ◌≤ℤ◌, ◌+ℤ◌, ◌++◌, ◌^◌, IfOk, OnOk, pos, suc, ◌||◌, length, map, int_lt};
 ghost use Rattle.std.specs.List.{list_any};
-ghost use Rattle.mcf_places.specs.declared.faults.PlannerFault.TheVariants.{BothWays, NoLimit, Routes};
-ghost use Rattle.mcf_places.specs.PlannerFaults.{earning, fault_if, is_open, is_returning, numbers_of, place_earns, planner_faults};
-ghost use Rattle.mcf_places.specs.PlannerLaws.{has_bounds};
+ghost use Rattle.mcf_places.specs.declared.faults.PlannerFault.TheVariants.{NoLimit, Routes};
+ghost use Rattle.mcf_places.specs.PlannerFaults.{earning, fault_if, is_open, place_earns, planner_faults};
 ghost use Rattle.mcf_places.specs.Planners.{all_given, all_wanted, given, unit_penalty, wanted};
+ghost use Rattle.mcf_places.specs.Ways.{numbers_of};
 
-use crate::places::{Bounds, Place};
-use crate::problem::Parts;
-use mcf_model::{ModelFault, RouteRow, all_faults, some_earn};
+use crate::places::{Bounds, Place, Policy};
+use mcf_model::{ModelFault, RouteRow, Step, all_faults, some_earn};
 use mcf_text::NoMemory;
 use std::alloc::Global;
 
@@ -29,11 +28,8 @@ pub enum PlannerFault {
     Penalty,
     /// The bounds of this place, counted from 1, have no limit, and some cost is below 0.
     NoLimit(usize),
-    /// A route that has a fault, and the fault.
+    /// A row of routes that has a fault, and the fault.
     Routes(ModelFault),
-    /// This route, counted from 1, is used both ways, and what passes through one of its ends has
-    /// bounds. Two routes, one for each way, may take its place.
-    BothWays(usize),
 }
 
 // What all places give, and what they want.
@@ -138,44 +134,6 @@ fn push_open(found: &mut Vec<PlannerFault>, places: &[Place]) -> Result<(), NoMe
     Ok(())
 }
 
-// Returns whether what passes through the place with a number has bounds.
-fn has_bounds(places: &[Place], place: u32) -> bool
-    ensures { result ≡ has_bounds places.now place }
-{
-    let at = (place as usize).saturating_sub(1);
-    if at < places.len() {
-        places[at].through.is_some()
-    } else {
-        false
-    }
-}
-
-// Returns whether a route is used both ways, and what passes through one of its ends has bounds.
-fn is_returning(places: &[Place], row: RouteRow) -> bool
-    ensures { result ≡ is_returning places.now row }
-{
-    let at_tail = has_bounds(places, row.tail);
-    let at_head = has_bounds(places, row.head);
-    row.both && (at_tail || at_head)
-}
-
-// Appends such routes.
-fn push_returning(
-    found: &mut Vec<PlannerFault>,
-    places: &[Place],
-    rows: &[RouteRow],
-) -> Result<(), NoMemory>
-    ensures { OnOk result (found.new.items ≡ found.old.items ++ map BothWays (numbers_of (is_returning places.now) 1 rows.now)) }
-{
-    for route in 0..rows.len() {
-        let test = is_returning(places, rows[route]);
-        if test {
-            found.push(PlannerFault::BothWays(route + 1))?;
-        }
-    }
-    Ok(())
-}
-
 // Appends faults of routes.
 fn push_routes(found: &mut Vec<PlannerFault>, faults: &[ModelFault]) -> Result<(), NoMemory>
     ensures { OnOk result (found.new.items ≡ found.old.items ++ map Routes faults.now) }
@@ -205,25 +163,25 @@ pub(crate) fn unit_penalty(penalty: Option<i64>) -> i64
 }
 
 // Returns whether some cost of a planner's problem is below 0.
-fn earning(parts: Parts<'_>) -> bool
-    ensures { result ≡ earning parts.entry.places.now parts.entry.steps.now parts.entry.rows.now }
+fn earning(places: &[Place], steps: &[Step], rows: &[RouteRow]) -> bool
+    ensures { result ≡ earning places.now steps.now rows.now }
 {
-    let places_earn = places_earn(parts.places);
-    let routes_earn = some_earn(parts.steps, parts.rows);
+    let places_earn = places_earn(places);
+    let routes_earn = some_earn(steps, rows);
     places_earn || routes_earn
 }
 
 // Returns all faults of a planner's problem.
-pub(crate) fn planner_faults(alloc: Global, parts: Parts<'_>) -> Result<Vec<PlannerFault>, NoMemory>
-    ensures { IfOk result (λ found. found.items ≡ planner_faults parts.entry.places.now parts.entry.steps.now parts.entry.rows.now parts.entry.policy) }
+pub(crate) fn planner_faults(
+    alloc: Global,
+    places: &[Place],
+    steps: &[Step],
+    rows: &[RouteRow],
+    policy: Policy,
+) -> Result<Vec<PlannerFault>, NoMemory>
+    ensures { IfOk result (λ found. found.items ≡ planner_faults places.now steps.now rows.now policy) }
 {
-    let Parts {
-        places,
-        steps,
-        rows,
-        policy,
-    } = parts;
-    let earning = earning(parts);
+    let earning = earning(places, steps, rows);
     let of_routes = all_faults(alloc, places.len(), steps, earning, rows)?;
     let is_dear = is_too_much(places);
     let mut found = Vec::new(alloc);
@@ -238,6 +196,5 @@ pub(crate) fn planner_faults(alloc: Global, parts: Parts<'_>) -> Result<Vec<Plan
         push_open(&mut found, places)?;
     }
     push_routes(&mut found, &of_routes)?;
-    push_returning(&mut found, places, rows)?;
     Ok(found)
 }

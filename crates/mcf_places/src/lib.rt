@@ -5,10 +5,11 @@
 //!
 //! It builds on `mcf_model`: each such problem is a model of that crate, and `least` uses any
 //! solver that it takes. The definitions are in `specs/`: `Planners` has problems and plans,
-//! `Models` their models, `PlannerLaws` the laws between both, `PlannerFaults` the faults of a
-//! problem, `PlannerBottlenecks` the reasons why it has no plan, `FinerPlanners` problems in finer
-//! units, `Shortage` the problem in which only what is missing costs something, `Answers` the
-//! answers, and `Origins` where a number beyond the limits comes from.
+//! `Models` their models, `PlannerLaws` the laws between both, `Ways` the routes of rows that are
+//! used both ways, `PlannerFaults` the faults of a problem, `PlannerBottlenecks` the reasons why it
+//! has no plan, `FinerPlanners` problems in finer units, `Shortage` the problem in which only what
+//! is missing costs something, `Answers` the answers, and `Origins` where a number beyond the
+//! limits comes from.
 
 mod answering;
 mod faults;
@@ -22,6 +23,7 @@ mod rows;
 mod shortage;
 mod supplies;
 mod told;
+mod ways;
 
 pub use answering::{LeastPlannerPlan, PlannerAnswer, least};
 pub use faults::{PLACE_LIMIT, PlannerFault, SUM_LIMIT};

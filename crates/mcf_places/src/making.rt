@@ -1,11 +1,12 @@
 //! The model of a planner's problem.
-ghost use Rattle.std.specs.Prelude.{◌≡◌, ◌≤◌, ◌+ℤ◌, ◌≤ℤ◌, IfOk, List, length, map, pos, ◌+◌};
+ghost use Rattle.std.specs.Prelude.{◌≡◌, ◌≤◌, ◌+ℤ◌, ◌≤ℤ◌, ℕ, IfOk, List, length, map, pos, ◌+◌};
 ghost use Rattle.std.specs.List.{All};
 ghost use Rattle.mcf_flows.specs.Network.{IsNode};
 ghost use Rattle.mcf_model.specs.Faults.{AreListed};
 ghost use Rattle.mcf_model.specs.Tables.{route_of};
 ghost use Rattle.mcf_places.specs.Models.{gate_route, model_of};
-ghost use Rattle.mcf_places.specs.PlannerFaults.{IsProperPlanner, IsSmallPlace, planner_of};
+ghost use Rattle.mcf_places.specs.PlannerFaults.{IsProperPlanner, IsSmallPlace};
+ghost use Rattle.mcf_places.specs.Ways.{with_tables};
 
 use crate::faults::{PLACE_LIMIT, unit_penalty};
 use crate::places::{Place, Policy};
@@ -19,7 +20,7 @@ use std::alloc::Global;
 // Returns the route of all that is missing.
 fn gate_row(most: i64, places: &[Place], policy: Policy) -> RouteRow
     requires few { length places.now ≤ PLACE_LIMIT }
-    ensures route { (steps : List Step) → (rows : List RouteRow) → route_of steps result ≡ gate_route most (planner_of places.now steps rows policy) }
+    ensures route { (steps : List Step) → (rows : List RouteRow) → (returning : List ℕ) → route_of steps result ≡ gate_route most (with_tables places.now steps rows returning policy) }
     ensures plain { (result.first_step + result.step_count) ≡ 0 }
 {
     let penalty = unit_penalty(policy.penalty);
@@ -32,7 +33,7 @@ fn rows_of(alloc: Global, parts: Parts<'_>, most: i64) -> Result<Vec<RouteRow>, 
     requires small { All IsSmallPlace parts.places.now }
     requires inside { All (λ row. IsNode (length parts.places.now) row.tail) parts.rows.now }
     ensures routes { IfOk result (λ made. map (route_of parts.entry.steps.now) made.items
-        ≡ (model_of most (planner_of parts.entry.places.now parts.entry.steps.now parts.entry.rows.now parts.entry.policy)).routes) }
+        ≡ (model_of most (with_tables parts.entry.places.now parts.entry.steps.now parts.entry.rows.now parts.entry.returning.now parts.entry.policy)).routes) }
     ensures listed { IfOk result (λ made. AreListed parts.entry.steps.now parts.entry.rows.now → AreListed parts.entry.steps.now made.items) }
 {
     let mut rows = Vec::new(alloc);

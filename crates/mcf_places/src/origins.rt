@@ -6,7 +6,8 @@ ghost use Rattle.mcf_model.specs.Tables.{route_of};
 ghost use Rattle.mcf_places.specs.declared.origins.Origin.{Origin as AnOrigin};
 ghost use Rattle.mcf_places.specs.declared.origins.Origin.TheVariants.{OfAll};
 ghost use Rattle.mcf_places.specs.Kinds.{kind_has};
-ghost use Rattle.mcf_places.specs.Origins.{arc_count, arc_origins, found_in, next_in, origin_of, place_origins, route_origins, supply_origin};
+ghost use Rattle.mcf_places.specs.PlannerFaults.{IsProperPlanner};
+ghost use Rattle.mcf_places.specs.Origins.{IsRowOrigin, arc_count, arc_origins, found_in, next_in, origin_of, place_origins, route_origins, row_of, row_origin, supply_origin};
 
 use crate::places::{Place, Policy};
 use crate::problem::Planner;
@@ -21,7 +22,7 @@ use mcf_text::NodeId;
 pub enum Origin {
     /// This place, counted from 1: its supply or its bounds.
     OfPlace(usize),
-    /// This route, counted from 1.
+    /// This row of routes, counted from 1.
     OfRoute(usize),
     /// All places and routes: their number, their balance, or what is missing in total.
     OfAll,
@@ -122,7 +123,8 @@ fn supply_origin(places: &[Place], node: NodeId) -> Origin
 
 // Returns what the numbers of an arc come from; arcs count from 0.
 fn arc_origin(planner: &Planner, arc: usize) -> Origin
-    ensures { result ≡ slice_index_or (arc_origins planner.now) arc OfAll }
+    ensures value { result ≡ slice_index_or (arc_origins planner.now) arc OfAll }
+    ensures proper { IsProperPlanner planner.now }
 {
     let parts = planner.parts();
     let routes = seek_route(parts.rows, arc);
@@ -132,13 +134,46 @@ fn arc_origin(planner: &Planner, arc: usize) -> Origin
     found(missing)
 }
 
-/// Returns what the fault of a network that `least` names comes from.
+// Returns the row of the route with a number.
+fn row_of(planner: &Planner, route: usize) -> usize
+    ensures { result ≡ row_of planner.now route }
+{
+    let count = planner.row_count();
+    if route <= count {
+        return route;
+    }
+    let at = route - count - 1;
+    let returning = planner.returning();
+    if at < returning.len() {
+        returning[at]
+    } else {
+        0
+    }
+}
+
+// Returns an origin with the row of a route.
+fn row_origin(planner: &Planner, origin: Origin) -> Origin
+    ensures { result ≡ row_origin planner.now origin }
+{
+    match origin {
+        Origin::OfRoute(route) => Origin::OfRoute(row_of(planner, route)),
+        other => other,
+    }
+}
+
+/// Returns what the fault of a network that `least` names comes from. A route that is the way back
+/// of a row comes from that row.
 pub fn origin_of(planner: &Planner, fault: ArrayFault) -> Origin
-    ensures { result ≡ origin_of planner.now fault }
+    ensures value { result ≡ origin_of planner.now fault }
+    ensures row { IsRowOrigin planner.now result }
 {
     match fault {
         ArrayFault::Size => Origin::OfAll,
         ArrayFault::Supply(node) => supply_origin(planner.places(), node),
-        ArrayFault::Arc(arc, _) => arc_origin(planner, (arc.get() as usize).saturating_sub(1)),
+        ArrayFault::Arc(arc, _) => {
+            let place = (arc.get() as usize).saturating_sub(1);
+            let origin = arc_origin(planner, place);
+            row_origin(planner, origin)
+        }
     }
 }

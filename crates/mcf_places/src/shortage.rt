@@ -92,6 +92,13 @@ fn free_rows(alloc: Global, rows: &[RouteRow]) -> Result<Vec<RouteRow>, NoMemory
     Ok(made)
 }
 
+// Returns a copy of numbers.
+fn copied(alloc: Global, numbers: &[usize]) -> Result<Vec<usize>, NoMemory>
+    ensures { IfOk result (λ made. made.items ≡ numbers.now) }
+{
+    Ok(numbers.iter().copied().collect(alloc)?)
+}
+
 // Returns the problem in which only what is missing costs something, 1 a unit.
 pub(crate) fn shortage_of(alloc: Global, planner: &Planner) -> Result<Planner, NoMemory>
     ensures { IfOk result (λ made. made ≡ shortage_of planner.now) }
@@ -100,11 +107,13 @@ pub(crate) fn shortage_of(alloc: Global, planner: &Planner) -> Result<Planner, N
     let places = free_places(alloc, parts.places)?;
     let steps = free_steps(alloc, parts.steps)?;
     let rows = free_rows(alloc, parts.rows)?;
+    let returning = copied(alloc, parts.returning)?;
     let policy = counting(parts.policy);
     Ok(Planner {
         places,
         steps,
         rows,
+        returning,
         policy,
     })
 }

@@ -6,6 +6,8 @@
 //! They are a crate of their own, since a crate with tests is proved twice.
 
 #[cfg(test)]
+mod both_ways;
+#[cfg(test)]
 mod chosen;
 #[cfg(test)]
 mod faults;

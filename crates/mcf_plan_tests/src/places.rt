@@ -56,7 +56,12 @@ const NOWHERE: PlannerFault = PlannerFault::Routes(ModelFault {
     what: RouteFault::Place,
 });
 
-const ROWS: [FaultRow; 9] = [
+const BACK_AND_FORTH: PlannerFault = PlannerFault::Routes(ModelFault {
+    route: 1,
+    what: RouteFault::BothWays,
+});
+
+const ROWS: [FaultRow; 10] = [
     GOOD,
     FaultRow {
         supply: i64::MIN,
@@ -87,7 +92,15 @@ const ROWS: [FaultRow; 9] = [
             both: true,
             ..ROUTE
         },
-        faults: &[PlannerFault::BothWays(1)],
+        ..GOOD
+    },
+    FaultRow {
+        route: RouteRow {
+            both: true,
+            least: 1,
+            ..ROUTE
+        },
+        faults: &[BACK_AND_FORTH],
         ..GOOD
     },
     FaultRow {
@@ -172,6 +185,7 @@ fn a_problem_says_what_it_has(rt: HostRuntime) -> Result<(), Fail> {
         return Ok(());
     };
     assert_eq!(rt; (planner.places().len(), planner.route_count()), (2, 1));
+    assert_eq!(rt; (planner.row_count(), planner.returning().len()), (1, 0));
     let policy = planner.policy();
     assert!(rt; policy.unused && policy.short);
     Ok(())

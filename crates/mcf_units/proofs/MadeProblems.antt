@@ -9,6 +9,7 @@ use Rattle.mcf_places.specs.declared.places.Place.{Place}
 use Rattle.mcf_places.specs.declared.places.Policy.{Policy}
 use Rattle.mcf_places.specs.PlannerFaults.{IsMade, IsProperPlanner, planner_faults, planner_of}
 use Rattle.mcf_places.specs.Planners.{Planner}
+use Rattle.mcf_places.specs.Ways.{problem_of}
 use Rattle.mcf_reading.specs.declared.place_rows.PlaceEntry.{PlaceEntry}
 use Rattle.mcf_reading.specs.Reading.{Entries}
 use Rattle.mcf_units.specs.declared.great.GreatFault.{GreatFault}
@@ -48,7 +49,7 @@ module _ (said : Entries) (terms : Terms) (s : Scales) (entries : List PlaceEntr
       let t = scales_of said terms.penalty in
       let routes = routes_of_rows t [] said.routes in (
         scaled,
-        made.0 ∙ in_units planner_of ∙ ap (λ rs. record { places = map (place_in t) said.places; routes = rs; policy = policy_in t terms }) routes,
+        made.0 ∙ in_units planner_of ∙ ap (λ rs. problem_of (map (place_in t) said.places) rs (policy_in t terms)) routes,
         clear,
         proper,
       )

@@ -4,6 +4,7 @@ pub use Rattle.mcf_reading.specs.Reading
 pub use Rattle.mcf_reading.specs.RouteRows
 pub use Rattle.mcf_places.specs.Planners
 pub use Rattle.mcf_places.specs.PlannerFaults
+pub use Rattle.mcf_places.specs.Ways
 pub mod Scales
 pub mod Wholes
 pub mod GreatNumbers

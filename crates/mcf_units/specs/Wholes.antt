@@ -12,6 +12,7 @@ use Rattle.mcf_places.specs.declared.places.Policy.{Policy}
 use Rattle.mcf_model.specs.Bottlenecks.{limit_or_zero}
 use Rattle.mcf_model.specs.Model.{Route as ModelRoute}
 use Rattle.mcf_places.specs.Planners.{Planner}
+use Rattle.mcf_places.specs.Ways.{problem_of}
 use Rattle.mcf_reading.specs.Cells.{zero_decimal}
 use Rattle.mcf_reading.specs.declared.place_rows.BoundsEntry.{BoundsEntry}
 use Rattle.mcf_reading.specs.declared.place_rows.PlaceEntry.{PlaceEntry}
@@ -83,11 +84,7 @@ policy_in s terms = record { unused = terms.unused; short = terms.short; penalty
 
 -- the planner's problem of the tables, in units
 abbrev pub planner_in : Scales → Entries → Terms → Planner
-planner_in s said terms = record {
-  places = map (place_in s) said.places;
-  routes = map (route_in s) said.routes;
-  policy = policy_in s terms;
-}
+planner_in s said terms = problem_of (map (place_in s) said.places) (map (route_in s) said.routes) (policy_in s terms)
 
 -- ---- the same as tables of numbers
 

@@ -34,7 +34,7 @@ pub enum Made {
 
 /// Makes the planner's problem of two tables. Amounts are counted in a unit that has as many
 /// decimals as the amount with most of them, and costs in such a unit of their own. The k-th place,
-/// and the k-th route, is that of the k-th row below the heads.
+/// and the k-th row of routes, is that of the k-th row below the heads.
 ///
 /// # Errors
 ///

@@ -1,6 +1,7 @@
 use Rattle.std.proofs.Common.{◌≡◌, ◌+◌, ◌++◌, drop, map}
 use Rattle.mcf_places.specs.declared.faults.PlannerFault.TheVariants.{NoLimit}
-use Rattle.mcf_places.specs.PlannerFaults.{is_open, numbers_of}
+use Rattle.mcf_places.specs.PlannerFaults.{is_open}
+use Rattle.mcf_places.specs.Ways.{numbers_of}
 use Rattle.mcf_places.proofs.faults.push_open.Given as goal
 
 abbrev pub invariant-loop-place : goal.invariant-loop-place
