@@ -1,6 +1,6 @@
 #![tactic(auto)]
 
-//! Tests of the reading of two tables: one of each kind of fault, and each public call with ample
+//! Tests of the reading of tables: one of each kind of fault, and each public call with ample
 //! memory.
 //!
 //! They are a crate of their own, since a crate with tests is proved twice.
@@ -9,6 +9,8 @@
 mod entries;
 #[cfg(test)]
 mod faults;
+#[cfg(test)]
+mod rosters;
 #[cfg(test)]
 mod texts;
 #[cfg(test)]

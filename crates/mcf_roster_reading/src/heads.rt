@@ -1,0 +1,137 @@
+//! The heads of the columns that are read, and their faults.
+ghost use Rattle.std.specs.Prelude.{◌≡◌, ◌++◌, IfOk, OnOk};
+ghost use Rattle.std.specs.List.{flat_map};
+ghost use Rattle.mcf_roster_reading.specs.Columns.{at_least_two, column_kind, column_or_first, column_under, head_fault, head_faults, head_word, is_list, is_needed, is_there, only_place, place_under};
+
+use crate::kinds::{Fault, FaultKind, Head, Location, push_told};
+use mcf_table::{Column, Records};
+use mcf_text::NoMemory;
+use std::alloc::Global;
+
+// The text of a head.
+fn head_word(head: Head) -> &'static [u8]
+    ensures { result.now ≡ head_word head }
+{
+    match head {
+        Head::Who => b"who",
+        Head::What => b"what",
+        Head::Cost => b"cost",
+        Head::Takes => b"takes",
+        Head::Needs => b"needs",
+    }
+}
+
+// The column with a head.
+pub(crate) fn column_under(records: &Records, head: Head) -> Column
+    ensures { result ≡ column_under records.now head }
+{
+    records.column_of(head_word(head))
+}
+
+// Whether one column or more has the head.
+fn is_there(column: Column) -> bool
+    ensures { result ≡ is_there column }
+{
+    match column {
+        Column::Missing => false,
+        _ => true,
+    }
+}
+
+// The place of a column, if just one has its head.
+fn only_place(column: Column) -> Option<usize>
+    ensures { result ≡ only_place column }
+{
+    match column {
+        Column::At(place) => Some(place),
+        _ => None,
+    }
+}
+
+// The place of the column with a head, if just one has it.
+pub(crate) fn place_under(records: &Records, head: Head) -> Option<usize>
+    ensures { result ≡ place_under records.now head }
+{
+    only_place(column_under(records, head))
+}
+
+// The place of the column with a head, or the first.
+pub(crate) fn column_or_first(records: &Records, head: Head) -> usize
+    ensures { result ≡ column_or_first records.now head }
+{
+    place_under(records, head).unwrap_or(0)
+}
+
+// Whether two tests hold, at least.
+fn at_least_two(first: bool, second: bool, third: bool) -> bool
+    ensures { result ≡ at_least_two first second third }
+{
+    (first && second) || (first && third) || (second && third)
+}
+
+// Whether the table is a list.
+pub(crate) fn is_list(records: &Records) -> bool
+    ensures { result ≡ is_list records.now }
+{
+    let who = is_there(column_under(records, Head::Who));
+    let what = is_there(column_under(records, Head::What));
+    let cost = is_there(column_under(records, Head::Cost));
+    at_least_two(who, what, cost)
+}
+
+// Whether a list must have a column with this head.
+fn is_needed(head: Head) -> bool
+    ensures { result ≡ is_needed head }
+{
+    match head {
+        Head::Who | Head::What | Head::Cost => true,
+        _ => false,
+    }
+}
+
+// What is wrong with the column of a head.
+fn column_kind(is_needed: bool, column: Column) -> Option<FaultKind>
+    ensures { result ≡ column_kind is_needed column }
+{
+    match column {
+        Column::Missing if is_needed => Some(FaultKind::NoColumn),
+        Column::Twice => Some(FaultKind::TwoColumns),
+        _ => None,
+    }
+}
+
+// Appends the fault of a head, if it has one.
+fn push_head_fault(records: &Records, head: Head, faults: &mut Vec<Fault>) -> Result<(), NoMemory>
+    ensures { OnOk result (faults.new.items ≡ faults.old.items ++ head_fault records.now head) }
+{
+    let kind = column_kind(is_needed(head), column_under(records, head));
+    push_told(faults, Location::Under(head), kind)
+}
+
+// Appends the faults of heads, in order.
+fn push_head_faults(
+    records: &Records,
+    heads: &[Head],
+    faults: &mut Vec<Fault>,
+) -> Result<(), NoMemory>
+    ensures { OnOk result (faults.new.items ≡ faults.old.items ++ flat_map (head_fault records.now) heads.now) }
+{
+    for head in heads {
+        push_head_fault(records, *head, faults)?;
+    }
+    Ok(())
+}
+
+// The faults of the heads that are read.
+pub(crate) fn head_faults(alloc: Global, records: &Records) -> Result<Vec<Fault>, NoMemory>
+    ensures { IfOk result (λ found. found.items ≡ head_faults records.now) }
+{
+    let mut faults = Vec::new(alloc);
+    if is_list(records) {
+        let heads = [Head::Who, Head::What, Head::Cost, Head::Takes, Head::Needs];
+        push_head_faults(records, &heads, &mut faults)?;
+    } else {
+        push_head_faults(records, &[Head::Takes], &mut faults)?;
+    }
+    Ok(faults)
+}
