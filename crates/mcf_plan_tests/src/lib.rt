@@ -16,6 +16,8 @@ mod figures;
 #[cfg(test)]
 mod flow_tables;
 #[cfg(test)]
+mod pair_tables;
+#[cfg(test)]
 mod places;
 #[cfg(test)]
 mod places_planned;

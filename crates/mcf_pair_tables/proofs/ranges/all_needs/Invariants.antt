@@ -1,0 +1,6 @@
+use Rattle.std.proofs.Common.{◌≡◌, map, take}
+use Rattle.mcf_pair_tables.specs.PairRanges.{needs_range}
+use Rattle.mcf_pair_tables.proofs.ranges.all_needs.Given as goal
+
+abbrev pub invariant-loop-one : goal.invariant-loop-one
+invariant-loop-one l = l.made.items ≡ map (needs_range l.each) (take l.one-index l.said)
