@@ -11,3 +11,4 @@ pub mod RowLemmas
 pub mod SeparatorLemmas
 pub mod Unambiguous
 pub mod WrittenLemmas
+pub mod WrittenRows

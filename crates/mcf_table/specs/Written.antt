@@ -14,6 +14,11 @@ row_text separator [] = []
 row_text separator (cell ∷ []) = quoted 0 cell
 row_text separator (cell ∷ other ∷ cells) = quoted 0 cell ++ separator ∷ row_text separator (other ∷ cells)
 
+-- cells of a row after its first, each between quotes, after a separator
+abbrev pub further_text : ℕ → List (List ℕ) → List ℕ
+further_text separator [] = []
+further_text separator (cell ∷ cells) = separator ∷ quoted 0 cell ++ further_text separator cells
+
 -- the rows, each ended by a line feed
 abbrev pub table_text : ℕ → List (List (List ℕ)) → List ℕ
 table_text separator rows = ended line_feed (map (row_text separator) rows)

@@ -22,6 +22,7 @@ mod reading;
 mod records;
 mod rows;
 mod separators;
+mod written;
 
 pub use fault::{FieldFault, TextFault};
 pub use heads::{CellPlace, Column};
@@ -31,3 +32,4 @@ pub use near::{head_letters, is_one_edit, near_head, near_word, word_and_digits}
 pub use reading::records_of;
 pub use records::Records;
 pub use separators::separator_of;
+pub use written::put_row;

@@ -1,8 +1,8 @@
 //! Texts of tables: `python/mcf_plan/tables.py`, which reads them by Python's module csv, gives the
 //! same rows, lines and faults.
 use mcf_table::{
-    CellPlace, Column, FieldFault, Records, TextFault, named_separator, records_of, separator_of,
-    texts_are_unambiguous, written_tables_read_back,
+    CellPlace, Column, FieldFault, Records, TextFault, named_separator, put_row, records_of,
+    separator_of, texts_are_unambiguous, written_tables_read_back,
 };
 use mcf_text::NoMemory;
 use std::alloc::Global;
@@ -278,5 +278,14 @@ fn texts_name_separators(rt: HostRuntime) -> Result<(), Fail> {
 fn laws_of_texts_hold(_rt: HostRuntime) -> Result<(), Fail> {
     texts_are_unambiguous();
     written_tables_read_back();
+    Ok(())
+}
+
+#[test]
+fn a_row_is_written_between_quotes(rt: HostRuntime) -> Result<(), Fail> {
+    let mut out = Vec::new(rt.alloc());
+    put_row(&mut out, b';', &[b"Mill \"A\"", b"", b"1;2"])?;
+    put_row(&mut out, b';', &[])?;
+    assert!(rt; out.as_slice() == b"\"Mill \"\"A\"\"\";\"\";\"1;2\"\n\n".as_slice());
     Ok(())
 }
