@@ -48,9 +48,13 @@ fn put_step(text: &mut Vec<u8>, step: usize) -> Result<(), NoMemory>
     put_number(text, step as i128)
 }
 
-// The text of a head.
+/// The text of a head: its word, and from the second step on a space and the number of the step.
+///
+/// # Errors
+///
+/// `NoMemory` if an allocation is refused.
 #[tactic(auto, unfolding(crate::specs::HeadTexts::head_text))]
-fn head_text(alloc: Global, head: Head) -> Result<Vec<u8>, NoMemory>
+pub fn head_text(alloc: Global, head: Head) -> Result<Vec<u8>, NoMemory>
     ensures { IfOk result (λ made. made.items ≡ head_text head) }
 {
     let mut text = Vec::new(alloc);

@@ -21,6 +21,7 @@ mod steps;
 mod tables;
 mod told;
 
+pub use heads::head_text;
 pub use kinds::{Fault, FaultKind};
 pub use locations::{ColumnAt, Head, Location, Table};
 pub use place_rows::{BoundsEntry, PlaceEntry};
