@@ -104,8 +104,8 @@ fn solve<'a>(alloc: Global) -> Result<Command<'a>, AllocError>
         .arg(file_argument(alloc))
 }
 
-// An option with this name, whose value is one of some words, with a default.
-fn word_option<'a>(
+/// An option with this name, whose value is one of some words, with a default.
+pub fn word_option<'a>(
     alloc: Global,
     name: &'a str,
     value: &'a str,

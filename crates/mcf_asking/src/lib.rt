@@ -7,4 +7,4 @@
 
 mod asking;
 
-pub use asking::{Asked, command};
+pub use asking::{Asked, command, word_option};
