@@ -30,4 +30,4 @@ pub use laws::{
 pub use plan_model::{PlanModel, RouteParts};
 pub use planning::{Bottleneck, LeastPlan, Planned, ShownFlow, Solved, Solves, plan};
 pub use reach::reach_of;
-pub use rows::{RouteRow, Step};
+pub use rows::{RouteRow, Step, own_steps};

@@ -34,7 +34,7 @@ pub struct RouteRow {
 }
 
 /// Returns the steps of a route before the last, as far as the table has them.
-pub(crate) fn own_steps(steps: &[Step], row: RouteRow) -> &[Step]
+pub fn own_steps(steps: &[Step], row: RouteRow) -> &[Step]
     ensures { result.now ≡ own_steps steps.now row }
 {
     let first = steps.len().min(row.first_step as usize);

@@ -22,13 +22,13 @@ use Rattle.mcf_places.specs.Planners.{EachPlace, Planner, given, place_sum, want
 use Rattle.mcf_places.proofs.FinerModels.{given_times, wanted_times}
 
 module _ (k : ℤ) (k1 : pos 1 ≤ℤ k) where
-  when_times : (b : Bool) (z : ℤ) → when b (k *ℤ z) ≡ k *ℤ when b z
+  pub when_times : (b : Bool) (z : ℤ) → when b (k *ℤ z) ≡ k *ℤ when b z
   when_times true z = refl
   when_times false z = sym (mul-zero k)
 
   -- ---- routes
 
-  limit_times : (o : Option ℤ) → limit_or_zero (option_map (λ m. k *ℤ m) o) ≡ k *ℤ limit_or_zero o
+  pub limit_times : (o : Option ℤ) → limit_or_zero (option_map (λ m. k *ℤ m) o) ≡ k *ℤ limit_or_zero o
   limit_times (Some m) = refl
   limit_times None = sym (mul-zero k)
 
@@ -47,7 +47,7 @@ module _ (k : ℤ) (k1 : pos 1 ≤ℤ k) where
       let other = ap (when back) (route_room_times r) ∙ when_times back (route_room r) in
       omega (arith, ints, one, other, mul-add k (when there (route_room r)) (when back (route_room r)))
 
-  sum_times : (t s : Route → ℤ) → ((r : Route) → s (scaled_route k r) ≡ k *ℤ t r) → (rs : List Route)
+  pub sum_times : (t s : Route → ℤ) → ((r : Route) → s (scaled_route k r) ≡ k *ℤ t r) → (rs : List Route)
       → route_sum s (map (scaled_route k) rs) ≡ k *ℤ route_sum t rs
   sum_times t s each [] = sym (mul-zero k)
   sum_times t s each (r ∷ rs) = omega (arith, ints, each r, sum_times t s each rs, mul-add k (t r) (route_sum t rs))
@@ -69,7 +69,7 @@ module _ (k : ℤ) (k1 : pos 1 ≤ℤ k) where
   least_through (Some b) = refl
   least_through None = sym (mul-zero k)
 
-  places_times : (t s : ℕ → Place → ℤ) → ((j : ℕ) (p : Place) → s j (finer_place k p) ≡ k *ℤ t j p) → (v : ℕ) (ps : List Place)
+  pub places_times : (t s : ℕ → Place → ℤ) → ((j : ℕ) (p : Place) → s j (finer_place k p) ≡ k *ℤ t j p) → (v : ℕ) (ps : List Place)
       → place_sum s v (map (finer_place k) ps) ≡ k *ℤ place_sum t v ps
   places_times t s each v [] = sym (mul-zero k)
   places_times t s each v (p ∷ ps) = omega (arith, ints, each v p, places_times t s each (suc v) ps, mul-add k (t v p) (place_sum t (suc v) ps))

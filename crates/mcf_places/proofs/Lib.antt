@@ -19,3 +19,8 @@ mod FinerCuts
 mod ArcOrigins
 mod RowOrigins
 mod Stages
+mod Throughputs
+mod LimitedPlans
+mod LimitedCuts
+mod ProperLimits
+mod CutSums

@@ -19,7 +19,7 @@ use Rattle.mcf_places.specs.declared.places.Bounds.{Bounds}
 use Rattle.mcf_places.specs.declared.places.Policy.{Policy}
 use Rattle.mcf_places.specs.declared.places.Place.{Place}
 use Rattle.mcf_places.specs.Models.{exit_by, exit_of, from_exit, gate_of, gate_route, hub_of, missings, model_of, place_at, plain_route, routes_by, some_bounds, stayings, supplies_of, throughs, with_exits, with_first}
-use Rattle.mcf_places.specs.PlannerFaults.{CostsThrough, EarnsNothing, IsLimitedPlanner, IsLimitedThrough, IsProperPlanner, IsSmallPlace}
+use Rattle.mcf_places.specs.PlannerFaults.{CostsThrough, EarnsNothing, HasLimits, IsLimitedPlanner, IsLimitedThrough, IsProperPlanner, IsSmallPlace}
 use Rattle.mcf_places.specs.PlannerLaws.{AreSoundRoutes}
 use Rattle.mcf_places.specs.Planners.{EachPlace, Planner, unit_penalty}
 use Rattle.mcf_places.specs.Ways.{with_tables}
@@ -116,10 +116,11 @@ module _ (most : ℤ) (P : Planner) where
   through_all Q w h (Some b) = h b
   through_all Q w h None = tt
 
-  limited_model : IsLimitedPlanner P → All (λ r. IsLimited r.last_most) (model_of most P).routes
-  limited_model h =
-      all_routes (λ r. IsLimited r.last_most) (λ r. IsLimited r.last_most) (λ r k. k) h.routes
-      (λ w a b. through w (place_at P.places w).through (h.places (w - 1) no_place (omega (arith, a, b))))
+  limited_model : All (λ r. IsLimited r.last_most) P.routes → All (λ p. IsLimitedThrough p.through) P.places
+      → All (λ r. IsLimited r.last_most) (model_of most P).routes
+  limited_model routes places =
+      all_routes (λ r. IsLimited r.last_most) (λ r. IsLimited r.last_most) (λ r k. k) routes
+      (λ w a b. through w (place_at P.places w).through (places (w - 1) no_place (omega (arith, a, b))))
       (λ w a b. if_route _ _ (λ r. IsLimited r.last_most) tt) (λ w a b. if_route _ _ (λ r. IsLimited r.last_most) tt) tt
     where
       through : (w : ℕ) (o : Option Bounds) → IsLimitedThrough o
@@ -141,20 +142,21 @@ module _ (most : ℤ) (P : Planner) where
       through w (Some c) k = k
       through w None k = tt
 
-  pub proper_model : IsProperPlanner P → IsProper (model_of most P)
-  proper_model h =
+  pub proper_model : IsProperPlanner P → HasLimits P → IsProper (model_of most P)
+  proper_model h limits =
       record {
         sound = sound_model h.sound.routes;
-        bounded = bounded h.bounded;
+        bounded = bounded h.bounded limits;
         steps_take = all_routes StepsTake StepsTake (λ r k. k) h.steps_take
             (λ w a b. through_all StepsTake w (λ c k d l. absurd (omega arith)) (place_at P.places w).through)
             (λ w a b. if_route _ _ StepsTake (λ k d l. absurd (omega arith))) (λ w a b. if_route _ _ StepsTake (λ k d l. absurd (omega arith)))
             (λ k d l. absurd (omega arith));
       }
     where
-      bounded : IsLimitedPlanner P ⊎ EarnsNothing P → IsBounded (model_of most P)
-      bounded (inl k) = inl (limited_model k)
-      bounded (inr k) = inr (free_model h.penalty k)
+      bounded : IsLimitedPlanner P ⊎ EarnsNothing P → HasLimits P → IsBounded (model_of most P)
+      bounded (inl k) (inl all) = inl (limited_model k.routes all)
+      bounded (inl k) (inr none) = inr (free_model h.penalty none)
+      bounded (inr none) l = inr (free_model h.penalty none)
 
 -- ---- the model that is made of lists
 
@@ -179,10 +181,10 @@ module _ (most : ℤ) (P : Planner) (places : List Place) (steps : List Step) (r
       ∙ ap (λ (r : List Route). record { supplies = supplies_of P.places; routes = r })
       (ap (λ t. map (route_of t) made_rows) steps_are ∙ rows_are ∙ ap (λ Q. (model_of most Q).routes) same_planner)
 
-  pub makes_model : IsProperPlanner P → AreListed steps rows → (AreListed steps rows → AreListed steps made_rows)
+  pub makes_model : IsProperPlanner P → HasLimits P → AreListed steps rows → (AreListed steps rows → AreListed steps made_rows)
       → IsProper (tables_of supplies made_steps made_rows) × AreListed made_steps made_rows
-  makes_model proper listed keep =
-      (subst IsProper (sym same_model) (proper_model most P proper), subst (λ t. AreListed t made_rows) (sym steps_are) (keep listed))
+  makes_model proper limits listed keep =
+      (subst IsProper (sym same_model) (proper_model most P proper limits), subst (λ t. AreListed t made_rows) (sym steps_are) (keep listed))
 
 -- the ends of the routes of a problem without faults are places
 pub tails_inside : (P : Planner) (places : List Place) (steps : List Step) (rows : List RouteRow) → places ≡ P.places → map (route_of steps) rows ≡ P.routes

@@ -1,5 +1,5 @@
 -- Problems without faults are proper.
-use Rattle.std.proofs.Common.{◌≡◌, ℕ, suc, ◌+◌, ◌≤◌, Bool, true, false, ◌&&◌, List, [], ◌∷◌, length, map, refl, sym, ◌∙◌, subst, arith, pos, ◌+ℤ◌, inl, inr, int_lt}
+use Rattle.std.proofs.Common.{◌≡◌, ℕ, suc, ◌+◌, ◌≤◌, Bool, true, false, ◌&&◌, List, [], ◌∷◌, length, map, refl, sym, ◌∙◌, subst, arith, pos, ◌+ℤ◌, ◌≤ℤ◌, inl, inr, int_lt}
 use Rattle.std.specs.Prelude.{◌⊎◌, Option, Some, None, nat_lt, if◌then◌else◌}
 use Rattle.std.specs.List.{All, list_any}
 use Rattle.std.specs.Option.{is_none}
@@ -16,12 +16,15 @@ use Rattle.mcf_model.proofs.Proper.{IsFaultless, each_clear, faultless, neither}
 use Rattle.mcf_places.specs.declared.faults.PlannerFault.{PlannerFault}
 use Rattle.mcf_places.specs.declared.faults.PlannerFault.TheVariants.{Size, Total, Penalty, NoLimit, Routes}
 use Rattle.mcf_places.specs.declared.faults.TheConstants.{PLACE_LIMIT, SUM_LIMIT}
+use Rattle.mcf_places.specs.declared.limits.TheConstants.{THROUGHPUT_LIMIT}
 use Rattle.mcf_places.specs.declared.places.Bounds.{Bounds}
 use Rattle.mcf_places.specs.declared.places.Place.{Place}
 use Rattle.mcf_places.specs.declared.places.Policy.{Policy}
 use Rattle.mcf_places.specs.PlannerFaults.{CostsThrough, EarnsNothing, IsLimitedPlanner, IsLimitedThrough, IsProperPlanner, earning, fault_if, is_open, open_faults, place_earns, planner_faults, planner_of}
 use Rattle.mcf_places.specs.Planners.{all_given, all_wanted, unit_penalty}
-use Rattle.mcf_places.specs.Ways.{numbers_of, row_returns, way_rows, with_tables}
+use Rattle.mcf_places.specs.Throughput.{is_beyond, throughput}
+use Rattle.mcf_places.specs.Ways.{numbers_of, row_returns, way_rows, ways_of, with_tables}
+use Rattle.mcf_places.proofs.Throughputs.{ways_throughput}
 use Rattle.mcf_places.proofs.MadeWays.{all_ways, few_ways, planner_same, rows_inside, ways_free, ways_listed, ways_same, ways_sound}
 
 not_so : (b : Bool) (f : PlannerFault) → fault_if b f ≡ [] → b ≡ false
@@ -41,11 +44,11 @@ none_of test number (x ∷ xs) e = go (test x) refl e (none_of test (suc number)
     go true is e later = cc e
     go false is e later = All-cons (λ x. test x ≡ false) x xs is (later e)
 
-limited_through : (o : Option Bounds) → is_open o ≡ false → IsLimitedThrough o
+pub limited_through : (o : Option Bounds) → is_open o ≡ false → IsLimitedThrough o
 limited_through (Some b) e = limited_from b.most e
 limited_through None e = tt
 
-costs_through : (o : Option Bounds) → place_earns o ≡ false → CostsThrough o
+pub costs_through : (o : Option Bounds) → place_earns o ≡ false → CostsThrough o
 costs_through (Some b) e = not_below b.cost (pos 0) e
 costs_through None e = tt
 
@@ -57,7 +60,7 @@ module _ (places : List Place) (steps : List Step) (rows : List RouteRow) (polic
       let a = neither (fault_if (nat_lt PLACE_LIMIT n) Size) _ e in
       let b = neither (fault_if (int_lt (pos SUM_LIMIT) (all_given places +ℤ all_wanted places)) Total) _ a.1 in
       let c = neither (fault_if (int_lt (unit_penalty policy.penalty) (pos 0)) Penalty) _ b.1 in
-      let d = neither (open_faults earns places) _ c.1 in
+      let d = neither (open_faults (earns && is_beyond places (map (route_of steps) rows)) places) _ c.1 in
       let clear = each_clear n steps earns 1 rows (unmapped Routes (faults_from n steps earns 1 rows) d.1) in
       let routes = map (route_of steps) rows in
       let F = IsFaultless n steps (earning places steps rows) in
@@ -77,7 +80,7 @@ module _ (places : List Place) (steps : List Step) (rows : List RouteRow) (polic
               (All-map StepsTake (route_of steps) rows (all_of F (λ row. StepsTake (route_of steps row)) rows (λ row k. k.takes) each));
           few_returning = few_ways places routes;
           returning_rows = rows_inside places routes;
-          bounded = bounded (earning places steps rows) refl d.0
+          bounded = bounded (earning places steps rows) (is_beyond places (map (route_of steps) rows)) refl refl d.0
               (all_of F (λ row. (earning places steps rows && is_none row.last_most) ≡ false) rows (λ row k. k.limited) each);
         },
         ways_listed places steps rows (all_of F (λ row. (row.first_step + row.step_count) ≤ length steps) rows (λ row k. k.listed) each),
@@ -86,17 +89,26 @@ module _ (places : List Place) (steps : List Step) (rows : List RouteRow) (polic
       few : (x y : ℕ) → nat_lt x y ≡ false → y ≤ x
       few x y h = grind arith
 
-      bounded : (b : Bool) → earning places steps rows ≡ b → open_faults b places ≡ [] → All (λ row. (b && is_none row.last_most) ≡ false) rows
+      places_bounded : (c : Bool) → is_beyond places (map (route_of steps) rows) ≡ c → open_faults c places ≡ []
+          → All (λ p. IsLimitedThrough p.through) places ⊎ (throughput places (ways_of places (map (route_of steps) rows)) ≤ℤ pos THROUGHPUT_LIMIT)
+      places_bounded true f o =
+          inl (all_of (λ p. is_open p.through ≡ false) (λ p. IsLimitedThrough p.through) places (λ p k. limited_through p.through k)
+          (none_of (λ p. is_open p.through) 1 places (unmapped NoLimit (numbers_of (λ p. is_open p.through) 1 places) o)))
+      places_bounded false f o =
+          inr (subst (λ z. z ≤ℤ pos THROUGHPUT_LIMIT) (sym (ways_throughput places (map (route_of steps) rows)))
+          (not_below (pos THROUGHPUT_LIMIT) (throughput places (map (route_of steps) rows)) f))
+
+      bounded : (b c : Bool) → earning places steps rows ≡ b → is_beyond places (map (route_of steps) rows) ≡ c → open_faults (b && c) places ≡ []
+          → All (λ row. (b && is_none row.last_most) ≡ false) rows
           → IsLimitedPlanner (planner_of places steps rows policy) ⊎ EarnsNothing (planner_of places steps rows policy)
-      bounded true e o l =
+      bounded true c e f o l =
           inl (record {
             routes = all_ways places (λ r. IsLimited r.last_most) (λ r. IsLimited r.last_most) (λ r k. k) (λ r k. k) (map (route_of steps) rows)
                 (All-map (λ r. IsLimited r.last_most) (route_of steps) rows
                 (all_of (λ row. is_none row.last_most ≡ false) (λ row. IsLimited row.last_most) rows (λ row k. limited_from row.last_most k) l));
-            places = all_of (λ p. is_open p.through ≡ false) (λ p. IsLimitedThrough p.through) places (λ p k. limited_through p.through k)
-                (none_of (λ p. is_open p.through) 1 places (unmapped NoLimit (numbers_of (λ p. is_open p.through) 1 places) o));
+            places = places_bounded c f o;
           })
-      bounded false e o l =
+      bounded false c e f o l =
           let both = or_false (list_any (λ p. place_earns p.through) places) (some_earn steps rows) e in
           inr (record {
             routes = all_ways places (λ r. CostAtLeast (pos 0) r.steps r.last_cost) (λ r. CostAtLeast (pos 0) r.steps r.last_cost) (λ r k. k) (λ r k. k)

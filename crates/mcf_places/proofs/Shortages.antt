@@ -19,7 +19,7 @@ use Rattle.mcf_model.proofs.FaultTests.{all_of}
 use Rattle.mcf_places.specs.declared.places.Bounds.{Bounds}
 use Rattle.mcf_places.specs.declared.places.Place.{Place}
 use Rattle.mcf_places.specs.declared.places.Policy.{Policy}
-use Rattle.mcf_places.specs.PlannerFaults.{CostsThrough, IsProperPlanner}
+use Rattle.mcf_places.specs.PlannerFaults.{CostsThrough, EarnsNothing, IsProperPlanner}
 use Rattle.mcf_places.specs.PlannerLaws.{ReturnsFreely, has_bounds}
 use Rattle.mcf_places.specs.Planners.{EachPlace, IsBalancedAt, IsLeastPlan, IsNoWorse, IsPlan, KeepsBounds, Plan, Planner, all_wanted, cost, given, passes, place_sum, through_cost, total_missing, wanted}
 use Rattle.mcf_places.specs.Shortage.{counting, free_bounds, free_place, free_route, free_row, free_step, shortage_of}
@@ -242,6 +242,15 @@ sum_free t e v (p ∷ ps) = omega (arith, ints, e p, sum_free t e (suc v) ps)
 pub wanted_free : (ps : List Place) → all_wanted (map free_place ps) ≡ all_wanted ps
 wanted_free ps = sum_free wanted (λ p. refl) 1 ps
 
+pub earns_nothing_free : (P : Planner) → EarnsNothing (shortage_of P)
+earns_nothing_free P =
+    record {
+      routes = All-map (λ r. CostAtLeast (pos 0) r.steps r.last_cost) free_route P.routes
+          (any_all (λ r. CostAtLeast (pos 0) (map free_step r.steps) (pos 0)) (λ r. free_at_least r.steps) P.routes);
+      places = All-map (λ p. CostsThrough p.through) free_place P.places
+          (any_all (λ p. CostsThrough (option_map free_bounds p.through)) (λ p. through_costs p.through) P.places);
+    }
+
 pub proper_free : (P : Planner) → IsProperPlanner P → IsProperPlanner (shortage_of P)
 proper_free P h =
     record {
@@ -261,12 +270,7 @@ proper_free P h =
           (all_of StepsTake (λ r. StepsTake (free_route r)) P.routes (λ r k. steps_free r.steps k) h.steps_take);
       few_returning = omega (arith, h.few_returning, length-map P.routes free_route);
       returning_rows = subst (λ n. All (IsNode (n - length P.returning)) P.returning) (sym (length-map P.routes free_route)) h.returning_rows;
-      bounded = inr (record {
-        routes = All-map (λ r. CostAtLeast (pos 0) r.steps r.last_cost) free_route P.routes
-            (any_all (λ r. CostAtLeast (pos 0) (map free_step r.steps) (pos 0)) (λ r. free_at_least r.steps) P.routes);
-        places = All-map (λ p. CostsThrough p.through) free_place P.places
-            (any_all (λ p. CostsThrough (option_map free_bounds p.through)) (λ p. through_costs p.through) P.places);
-      });
+      bounded = inr (earns_nothing_free P);
     }
 
 -- ---- its rows

@@ -15,6 +15,7 @@ use Rattle.mcf_places.specs.declared.answering.PlannerAnswer.{PlannerAnswer}
 use Rattle.mcf_places.specs.declared.answering.PlannerAnswer.TheVariants.{Least, NoPlan, Beyond}
 use Rattle.mcf_places.specs.declared.told.PlannerBottleneck.{PlannerBottleneck}
 use Rattle.mcf_places.specs.FinerPlanners.{finer, finer_plan}
+use Rattle.mcf_places.specs.LimitedPlanners.{limited}
 use Rattle.mcf_places.specs.Models.{exit_of, hub_of, model_of}
 use Rattle.mcf_places.specs.PlannerBottlenecks.{IsPlannerBottleneck, PlaceSet}
 use Rattle.mcf_places.specs.PlannerLaws.{LeavesEnough}
@@ -57,13 +58,20 @@ pub record IsBeyond (P : Planner) (fault : ArrayFault) : Type 0 where
   pub all_or_least : (most ≡ when P.policy.short (all_wanted P.places)) ⊎ IsLeastMissing most P
   pub beyond : array_fault limits (network_of (reach_of (model_of most P)) (model_of most P)) ≡ Some fault
 
--- a least plan; or places that are a bottleneck; or the first number beyond the limits
+-- a least plan; or places that are a bottleneck; or the first number beyond the limits, of the
+-- problem in which bounds have the limits that they need
 abbrev pub IsPlannerAnswer : Planner → PlannerAnswer → Type 0
 IsPlannerAnswer P (Least p) = IsBestPlannerPlan P p
 IsPlannerAnswer P (NoPlan b) = HasNoPlannerPlan P b
-IsPlannerAnswer P (Beyond fault) = IsBeyond P fault ⊎ IsBeyond (shortage_of P) fault
+IsPlannerAnswer P (Beyond fault) = IsBeyond (limited P) fault ⊎ IsBeyond (shortage_of (limited P)) fault
 
 -- ---- the two stages
+
+-- the answer for a problem in which bounds have the limits that they need
+abbrev pub IsStagedAnswer : Planner → PlannerAnswer → Type 0
+IsStagedAnswer P (Least p) = IsBestPlannerPlan P p
+IsStagedAnswer P (NoPlan b) = HasNoPlannerPlan P b
+IsStagedAnswer P (Beyond fault) = IsBeyond P fault ⊎ IsBeyond (shortage_of P) fault
 
 -- the least that may be missing has to be found first
 abbrev pub has_stages : Bool → Option ℤ → Bool

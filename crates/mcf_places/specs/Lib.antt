@@ -11,7 +11,9 @@ pub mod Planners
 pub mod Models
 pub mod PlannerLaws
 pub mod Ways
+pub mod Throughput
 pub mod PlannerFaults
+pub mod LimitedPlanners
 pub mod Kinds
 pub mod Planning
 pub mod Shortage

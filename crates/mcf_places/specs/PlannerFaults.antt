@@ -1,6 +1,6 @@
 -- Faults of planners' problems: all of them.
 -- Source: own
-use Rattle.std.specs.Prelude.{◌≡◌, ◌≤◌, nat_lt, Bool, true, false, ◌||◌, List, [], ◌∷◌, ◌++◌, length, map, pos, ◌+ℤ◌, ◌≤ℤ◌, int_lt, ◌⊎◌, Option, Some, None, Result, Ok, Err}
+use Rattle.std.specs.Prelude.{◌&&◌, ◌≡◌, ◌≤◌, nat_lt, Bool, true, false, ◌||◌, List, [], ◌∷◌, ◌++◌, length, map, pos, ◌+ℤ◌, ◌≤ℤ◌, int_lt, ◌⊎◌, Option, Some, None, Result, Ok, Err}
 use Rattle.std.specs.Global.{Vec}
 use Rattle.std.specs.List.{All, list_any}
 use Rattle.std.specs.Option.{is_none}
@@ -14,11 +14,13 @@ use Rattle.mcf_model.specs.Tables.{route_of}
 use Rattle.mcf_places.specs.declared.faults.PlannerFault.{PlannerFault}
 use Rattle.mcf_places.specs.declared.faults.PlannerFault.TheVariants.{Size, Total, Penalty, NoLimit, Routes}
 use Rattle.mcf_places.specs.declared.faults.TheConstants.{PLACE_LIMIT, SUM_LIMIT}
+use Rattle.mcf_places.specs.declared.limits.TheConstants.{THROUGHPUT_LIMIT}
 use Rattle.mcf_places.specs.declared.places.Bounds.{Bounds}
 use Rattle.mcf_places.specs.declared.places.Place.{Place}
 use Rattle.mcf_places.specs.declared.places.Policy.{Policy}
 use Rattle.mcf_places.specs.PlannerLaws.{IsSound}
 use Rattle.mcf_places.specs.Planners.{Planner, all_given, all_wanted, given, row_count, unit_penalty, wanted}
+use Rattle.mcf_places.specs.Throughput.{is_beyond, throughput}
 use Rattle.mcf_places.specs.Ways.{numbers_of, problem_of}
 
 -- a unit that passes through a place costs less than 0
@@ -40,19 +42,19 @@ abbrev pub fault_if : Bool → PlannerFault → List PlannerFault
 fault_if true fault = fault ∷ []
 fault_if false fault = []
 
--- the places whose bounds have no limit, if some cost is below 0
+-- the places whose bounds have no limit, if they need one and all amounts are too great for it
 abbrev pub open_faults : Bool → List Place → List PlannerFault
 open_faults true places = map NoLimit (numbers_of (λ p. is_open p.through) 1 places)
 open_faults false places = []
 
 -- all faults: too many places, too great supplies, a penalty below 0, bounds without a limit where
--- some cost is below 0, and faults of rows of routes
+-- some cost is below 0 and all amounts are too great for a limit, and faults of rows of routes
 abbrev pub planner_faults : List Place → List Step → List RouteRow → Policy → List PlannerFault
 planner_faults places steps rows policy =
     fault_if (nat_lt PLACE_LIMIT (length places)) Size
     ++ (fault_if (int_lt (pos SUM_LIMIT) (all_given places +ℤ all_wanted places)) Total
     ++ (fault_if (int_lt (unit_penalty policy.penalty) (pos 0)) Penalty
-    ++ (open_faults (earning places steps rows) places
+    ++ (open_faults (earning places steps rows && is_beyond places (map (route_of steps) rows)) places
     ++ map Routes (faults_from (length places) steps (earning places steps rows) 1 rows))))
 
 -- the planner's problem of places, a table of steps, rows of routes, and a policy
@@ -76,15 +78,20 @@ abbrev pub CostsThrough : Option Bounds → Type 0
 CostsThrough (Some b) = pos 0 ≤ℤ b.cost
 CostsThrough None = Unit {0}
 
--- all routes and all bounds have limits
+-- all routes have limits, and all bounds have, or all amounts together may be the limit of bounds
+-- that have none
 pub record IsLimitedPlanner (P : Planner) : Type 0 where
   pub routes : All (λ r. IsLimited r.last_most) P.routes
-  pub places : All (λ p. IsLimitedThrough p.through) P.places
+  pub places : All (λ p. IsLimitedThrough p.through) P.places ⊎ (throughput P.places P.routes ≤ℤ pos THROUGHPUT_LIMIT)
 
 -- no cost is below 0
 pub record EarnsNothing (P : Planner) : Type 0 where
   pub routes : All (λ r. CostAtLeast (pos 0) r.steps r.last_cost) P.routes
   pub places : All (λ p. CostsThrough p.through) P.places
+
+-- all bounds have limits, or no cost is below 0
+abbrev pub HasLimits : Planner → Type 0
+HasLimits P = All (λ p. IsLimitedThrough p.through) P.places ⊎ EarnsNothing P
 
 -- the problem has no fault
 pub record IsProperPlanner (P : Planner) : Type 0 where

@@ -1,13 +1,14 @@
 //! The least plan of a planner's problem, or the reason why it has no plan.
 ghost use Rattle.std.specs.Prelude.{◌≡◌, ◌++◌, ◌∷◌, [], ◌≤ℤ◌, ℤ, IfOk, List, pos};
 ghost use Rattle.mcf_flows.specs.Network.{when};
-ghost use Rattle.mcf_places.specs.Answers.{IsMissed, IsPlannerAnswer, StandsFor, has_stages};
-ghost use Rattle.mcf_places.specs.PlannerFaults.{IsProperPlanner};
+ghost use Rattle.mcf_places.specs.Answers.{IsMissed, IsPlannerAnswer, IsStagedAnswer, StandsFor, has_stages};
+ghost use Rattle.mcf_places.specs.PlannerFaults.{HasLimits, IsProperPlanner};
 ghost use Rattle.mcf_places.specs.Planners.{all_wanted};
 
 use crate::faults::{SUM_LIMIT, sums};
 use crate::laws::planner_bottlenecks_have_no_plan;
-use crate::making::model_of;
+use crate::limits::{limit_for, limited_of};
+use crate::making::limited_model_of;
 use crate::places::Policy;
 use crate::problem::Planner;
 use crate::reading::{PlannerPlan, plan_of};
@@ -99,9 +100,10 @@ fn in_one_stage<S: Solves>(
 ) -> Result<PlannerAnswer, NoMemory>
     requires proper { IsProperPlanner planner.now }
     requires stands { StandsFor most planner.now }
-    ensures { IfOk result (IsPlannerAnswer planner.now) }
+    requires limits { HasLimits planner.now }
+    ensures { IfOk result (IsStagedAnswer planner.now) }
 {
-    let model = model_of(alloc, planner, most)?;
+    let model = limited_model_of(alloc, planner, most)?;
     let planned = plan(alloc, solver, &model)?;
     match planned {
         Planned::Plan(found) => {
@@ -133,7 +135,7 @@ fn least_missing<S: Solves>(
 {
     let shortage = shortage_of(alloc, planner)?;
     let most = most_missing(&shortage);
-    let model = model_of(alloc, &shortage, most)?;
+    let model = limited_model_of(alloc, &shortage, most)?;
     let planned = plan(alloc, solver, &model)?;
     match planned {
         Planned::Plan(found) => Ok(Missed::Missing(narrowed(found.cost))),
@@ -143,6 +145,27 @@ fn least_missing<S: Solves>(
             Ok(Missed::Unplanned(bottleneck))
         }
         Planned::Beyond(fault) => Ok(Missed::TooGreat(fault)),
+    }
+}
+
+// Returns the answer for a problem in which bounds have the limits that they need.
+fn staged<S: Solves>(
+    alloc: Global,
+    solver: &mut S,
+    planner: &Planner,
+) -> Result<PlannerAnswer, NoMemory>
+    requires proper { IsProperPlanner planner.now }
+    requires limits { HasLimits planner.now }
+    ensures { IfOk result (IsStagedAnswer planner.now) }
+{
+    if !has_stages(planner.policy()) {
+        let most = most_missing(planner);
+        return in_one_stage(alloc, solver, planner, most);
+    }
+    match least_missing(alloc, solver, planner)? {
+        Missed::Missing(most) => in_one_stage(alloc, solver, planner, most),
+        Missed::Unplanned(found) => Ok(PlannerAnswer::NoPlan(found)),
+        Missed::TooGreat(fault) => Ok(PlannerAnswer::Beyond(fault)),
     }
 }
 
@@ -164,13 +187,11 @@ pub fn least<S: Solves>(
 ) -> Result<PlannerAnswer, NoMemory>
     ensures { IfOk result (IsPlannerAnswer planner.now) }
 {
-    if !has_stages(planner.policy()) {
-        let most = most_missing(planner);
-        return in_one_stage(alloc, solver, planner, most);
-    }
-    match least_missing(alloc, solver, planner)? {
-        Missed::Missing(most) => in_one_stage(alloc, solver, planner, most),
-        Missed::Unplanned(found) => Ok(PlannerAnswer::NoPlan(found)),
-        Missed::TooGreat(fault) => Ok(PlannerAnswer::Beyond(fault)),
+    match limit_for(planner) {
+        Some(limit) => {
+            let limited = limited_of(alloc, planner, limit)?;
+            staged(alloc, solver, &limited)
+        }
+        None => staged(alloc, solver, planner),
     }
 }

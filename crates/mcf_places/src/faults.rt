@@ -6,6 +6,7 @@ ghost use Rattle.mcf_places.specs.PlannerFaults.{earning, fault_if, is_open, pla
 ghost use Rattle.mcf_places.specs.Planners.{all_given, all_wanted, given, unit_penalty, wanted};
 ghost use Rattle.mcf_places.specs.Ways.{numbers_of};
 
+use crate::limits::is_beyond;
 use crate::places::{Bounds, Place, Policy};
 use mcf_model::{ModelFault, RouteRow, Step, all_faults, some_earn};
 use mcf_text::NoMemory;
@@ -26,7 +27,8 @@ pub enum PlannerFault {
     Total,
     /// The penalty is below 0.
     Penalty,
-    /// The bounds of this place, counted from 1, have no limit, and some cost is below 0.
+    /// The bounds of this place, counted from 1, have no limit, some cost is below 0, and all
+    /// amounts of the problem sum to more than `THROUGHPUT_LIMIT`.
     NoLimit(usize),
     /// A row of routes that has a fault, and the fault.
     Routes(ModelFault),
@@ -90,7 +92,7 @@ fn place_earns(through: Option<Bounds>) -> bool
 }
 
 // Returns whether the bounds of a place have no limit.
-fn is_open(through: Option<Bounds>) -> bool
+pub(crate) fn is_open(through: Option<Bounds>) -> bool
     ensures { result ≡ is_open through }
 {
     match through {
@@ -163,7 +165,7 @@ pub(crate) fn unit_penalty(penalty: Option<i64>) -> i64
 }
 
 // Returns whether some cost of a planner's problem is below 0.
-fn earning(places: &[Place], steps: &[Step], rows: &[RouteRow]) -> bool
+pub(crate) fn earning(places: &[Place], steps: &[Step], rows: &[RouteRow]) -> bool
     ensures { result ≡ earning places.now steps.now rows.now }
 {
     let places_earn = places_earn(places);
@@ -182,6 +184,7 @@ pub(crate) fn planner_faults(
     ensures { IfOk result (λ found. found.items ≡ planner_faults places.now steps.now rows.now policy) }
 {
     let earning = earning(places, steps, rows);
+    let beyond = is_beyond(places, steps, rows);
     let of_routes = all_faults(alloc, places.len(), steps, earning, rows)?;
     let is_dear = is_too_much(places);
     let mut found = Vec::new(alloc);
@@ -192,7 +195,7 @@ pub(crate) fn planner_faults(
         unit_penalty(policy.penalty) < 0,
         PlannerFault::Penalty,
     )?;
-    if earning {
+    if earning && beyond {
         push_open(&mut found, places)?;
     }
     push_routes(&mut found, &of_routes)?;

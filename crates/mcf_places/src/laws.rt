@@ -1,5 +1,6 @@
 //! Laws about planners' problems. Each is the contract of a function with an empty body.
 ghost use Rattle.mcf_places.specs.PlannerBottlenecks.{PlannerBottlenecksHaveNoPlan};
+ghost use Rattle.mcf_places.specs.LimitedPlanners.{LimitsChangeNoPlan};
 ghost use Rattle.mcf_places.specs.PlannerLaws.{LeastModelPlansAreLeast, PlannersAreModels, PlansMissNoMore};
 
 use mcf_model::bottlenecks_have_no_plan;
@@ -15,6 +16,11 @@ pub fn planners_are_models()
 /// plan misses less.
 pub fn least_model_plans_are_least()
     ensures { LeastModelPlansAreLeast }
+{}
+
+/// The limits that bounds get where they need one and have none change no plan.
+pub fn limits_change_no_plan()
+    ensures { LimitsChangeNoPlan }
 {}
 
 /// No plan misses more than all that places want, and none misses anything if no demand may be

@@ -5,10 +5,12 @@ ghost use Rattle.mcf_flows.specs.Network.{IsNode};
 ghost use Rattle.mcf_model.specs.Faults.{AreListed};
 ghost use Rattle.mcf_model.specs.Tables.{route_of};
 ghost use Rattle.mcf_places.specs.Models.{gate_route, model_of};
-ghost use Rattle.mcf_places.specs.PlannerFaults.{IsProperPlanner, IsSmallPlace};
+ghost use Rattle.mcf_places.specs.PlannerFaults.{HasLimits, IsProperPlanner, IsSmallPlace};
+ghost use Rattle.mcf_places.specs.LimitedPlanners.{limited};
 ghost use Rattle.mcf_places.specs.Ways.{with_tables};
 
 use crate::faults::{PLACE_LIMIT, unit_penalty};
+use crate::limits::{limit_for, limited_of};
 use crate::places::{Place, Policy};
 use crate::problem::{Parts, Planner};
 use crate::rows::{Kind, gate_of, hub_of, plain_row, push_exits, push_kind};
@@ -47,7 +49,7 @@ fn rows_of(alloc: Global, parts: Parts<'_>, most: i64) -> Result<Vec<RouteRow>, 
 }
 
 // Returns a copy of steps.
-fn copied(alloc: Global, steps: &[Step]) -> Result<Vec<Step>, NoMemory>
+pub(crate) fn copied_steps(alloc: Global, steps: &[Step]) -> Result<Vec<Step>, NoMemory>
     ensures { IfOk result (λ made. made.items ≡ steps.now) }
 {
     Ok(steps.iter().copied().collect(alloc)?)
@@ -55,16 +57,36 @@ fn copied(alloc: Global, steps: &[Step]) -> Result<Vec<Step>, NoMemory>
 
 /// Returns the model of a planner's problem in which no more than `most` units are missing in
 /// total. Its first places are those of the problem, and its first routes are those of the problem.
+/// Bounds that have no limit have one in the model, if some cost is below 0: one that changes no
+/// plan (`limits_change_no_plan`).
 ///
 /// # Errors
 /// `NoMemory` if an allocation is refused. The model always has places, so it always allocates.
 pub fn model_of(alloc: Global, planner: &Planner, most: i64) -> Result<PlanModel, NoMemory>
+    ensures { IfOk result (λ made. made ≡ model_of most (limited planner.now)) }
+{
+    match limit_for(planner) {
+        Some(limit) => {
+            let limited = limited_of(alloc, planner, limit)?;
+            limited_model_of(alloc, &limited, most)
+        }
+        None => limited_model_of(alloc, planner, most),
+    }
+}
+
+// Returns the model of a problem in which bounds have the limits that they need.
+pub(crate) fn limited_model_of(
+    alloc: Global,
+    planner: &Planner,
+    most: i64,
+) -> Result<PlanModel, NoMemory>
+    requires { HasLimits planner.now }
     ensures { IfOk result (λ made. made ≡ model_of most planner.now) }
 {
     let parts = planner.parts();
     let supplies = supplies_of(alloc, parts.places)?;
     let rows = rows_of(alloc, parts, most)?;
-    let steps = copied(alloc, parts.steps)?;
+    let steps = copied_steps(alloc, parts.steps)?;
     match PlanModel::of(supplies, steps, rows) {
         Ok(model) => Ok(model),
         Err(_) => unreachable!(),

@@ -15,10 +15,10 @@ use std::marker::Model;
 
 /// A planner's problem without faults: places with bounds on what passes through them, routes
 /// between them, and whether supplies may stay and demands may be missing. Each route is as
-/// `PlanModel` takes it, and there is a route or a place with bounds without a limit only if no
-/// cost is below 0. A row of routes is one route. But where it is used both ways, and what passes
-/// through one of its ends has bounds, it is two routes, one for each way: the way there in its own
-/// place, and the way back after all rows.
+/// `PlanModel` takes it, and there is a route without a limit only if no cost is below 0. A row of
+/// routes is one route. But where it is used both ways, and what passes through one of its ends has
+/// bounds, it is two routes, one for each way: the way there in its own place, and the way back
+/// after all rows.
 ///
 /// Places, rows and routes count from 1. Clauses see the places and the routes in order, the rows
 /// that have a way back of their own, in the order of these ways back, and the policy.

@@ -93,7 +93,7 @@ fn free_rows(alloc: Global, rows: &[RouteRow]) -> Result<Vec<RouteRow>, NoMemory
 }
 
 // Returns a copy of numbers.
-fn copied(alloc: Global, numbers: &[usize]) -> Result<Vec<usize>, NoMemory>
+pub(crate) fn copied_numbers(alloc: Global, numbers: &[usize]) -> Result<Vec<usize>, NoMemory>
     ensures { IfOk result (λ made. made.items ≡ numbers.now) }
 {
     Ok(numbers.iter().copied().collect(alloc)?)
@@ -107,7 +107,7 @@ pub(crate) fn shortage_of(alloc: Global, planner: &Planner) -> Result<Planner, N
     let places = free_places(alloc, parts.places)?;
     let steps = free_steps(alloc, parts.steps)?;
     let rows = free_rows(alloc, parts.rows)?;
-    let returning = copied(alloc, parts.returning)?;
+    let returning = copied_numbers(alloc, parts.returning)?;
     let policy = counting(parts.policy);
     Ok(Planner {
         places,

@@ -26,4 +26,6 @@ mod plans;
 #[cfg(test)]
 mod roster;
 #[cfg(test)]
+mod throughput;
+#[cfg(test)]
 mod tried;

@@ -61,7 +61,7 @@ const BACK_AND_FORTH: PlannerFault = PlannerFault::Routes(ModelFault {
     what: RouteFault::BothWays,
 });
 
-const ROWS: [FaultRow; 10] = [
+const ROWS: [FaultRow; 11] = [
     GOOD,
     FaultRow {
         supply: i64::MIN,
@@ -75,7 +75,16 @@ const ROWS: [FaultRow; 10] = [
     },
     FaultRow {
         through: Some(Bounds { cost: -1, ..WIDE }),
-        faults: &[PlannerFault::NoLimit(2), UNLIMITED],
+        faults: &[UNLIMITED],
+        ..GOOD
+    },
+    FaultRow {
+        through: Some(Bounds { cost: -1, ..WIDE }),
+        route: RouteRow {
+            last_most: Some(i64::MAX),
+            ..ROUTE
+        },
+        faults: &[PlannerFault::NoLimit(2)],
         ..GOOD
     },
     FaultRow {

@@ -1,21 +1,20 @@
-use Rattle.std.proofs.Common.{rules, ◌≡◌, false, true, sym, ◌∙◌, subst, ap, to_z, of_z, w64}
-use Rattle.mcf_places.specs.Answers.{IsMissed, StandsFor, has_stages}
-use Rattle.mcf_places.proofs.Stages.{stands_at_once, stands_for_least}
+use Rattle.std.proofs.Common.{subst, sym}
+use Rattle.mcf_places.specs.PlannerFaults.{HasLimits}
+use Rattle.mcf_places.proofs.LimitedCuts.{answers_limited}
+use Rattle.mcf_places.proofs.ProperLimits.{has_limits, limits_if_none, unlimited_same}
 use Rattle.mcf_places.proofs.answering.least.Goals as goal
 
-pub in_one_stage-requires-clause-stands : goal.in_one_stage-requires-clause-stands
-in_one_stage-requires-clause-stands g c =
-    let read : to_z w64 (of_z w64 c.most_missing-most.result) ≡ c.most_missing-most.result = search rules in
-    let one : c.has_stages.result ≡ false = search rules in
-    subst (λ z. StandsFor z c.args.planner.now) (sym read)
-    (stands_at_once c.most_missing-most.result c.args.planner.now c.policy.ensures.proper
-    (ap (λ p. has_stages p.short p.penalty) (sym c.policy.ensures.value) ∙ sym c.has_stages.ensures ∙ one) c.most_missing-most.ensures)
+pub staged-requires-clause-limits : goal.staged-requires-clause-limits
+staged-requires-clause-limits g c = subst HasLimits (sym c.in_ok-limited-in-Some.ensures) (has_limits c.args.planner.now c.limit_for.ensures.proper.bounded)
 
-pub in_one_stage-requires-in-Missing-clause-stands : goal.in_one_stage-requires-in-Missing-clause-stands
-in_one_stage-requires-in-Missing-clause-stands g c =
-    let read : to_z w64 (of_z w64 c.in-Missing.most) ≡ c.in-Missing.most = search rules in
-    let two : c.has_stages.result ≡ true = search rules in
-    subst (λ z. StandsFor z c.args.planner.now) (sym read)
-    (stands_for_least c.in-Missing.most c.args.planner.now c.policy.ensures.proper
-    (ap (λ p. has_stages p.short p.penalty) (sym c.policy.ensures.value) ∙ sym c.has_stages.ensures ∙ two)
-    (subst (IsMissed c.args.planner.now) c.in-Missing.is c.in_ok-most.ensures))
+pub staged-requires-in-None-clause-limits : goal.staged-requires-in-None-clause-limits
+staged-requires-in-None-clause-limits g c = limits_if_none c.args.planner.now c.limit_for.ensures.proper (sym c.in-None.ensures.value)
+
+pub returns-in_ok-limited-in-Some : goal.returns-in_ok-limited-in-Some
+returns-in_ok-limited-in-Some g c =
+    answers_limited c.args.planner.now c.in_ok-limited-in-Some.limited c.staged.result c.in_ok-limited-in-Some.ensures c.staged.ensures
+
+pub returns-in-None : goal.returns-in-None
+returns-in-None g c =
+    answers_limited c.args.planner.now c.args.planner.now c.staged-in-None.result (sym (unlimited_same c.args.planner.now (sym c.in-None.ensures.value)))
+    c.staged-in-None.ensures

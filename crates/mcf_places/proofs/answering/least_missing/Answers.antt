@@ -1,4 +1,4 @@
-use Rattle.std.proofs.Common.{rules, ◌≡◌, ◌∙◌, sym, subst, ap, arith, length, to_z, of_z, w64}
+use Rattle.std.proofs.Common.{rules, ◌≡◌, ◌∙◌, sym, subst, ap, arith, length, inr, to_z, of_z, w64}
 use Rattle.std.specs.Int.{w128}
 use Rattle.std.proofs.lemmas.Int.{ints}
 use Rattle.std.specs.List.{All}
@@ -6,8 +6,10 @@ use Rattle.mcf_flows.specs.Network.{IsNode, when}
 use Rattle.mcf_model.specs.declared.planning.Planned.TheVariants.{NoPlan}
 use Rattle.mcf_places.specs.Answers.{IsLeastMissing, IsToldBottleneck}
 use Rattle.mcf_places.specs.Models.{model_of, supplies_of}
+use Rattle.mcf_places.specs.PlannerFaults.{HasLimits}
 use Rattle.mcf_places.specs.Planners.{all_wanted}
 use Rattle.mcf_places.specs.Shortage.{shortage_of}
+use Rattle.mcf_places.proofs.Shortages.{earns_nothing_free}
 use Rattle.mcf_places.proofs.Stages.{found_places, missing_within, none_short, planned_of, stage_one}
 use Rattle.mcf_places.proofs.answering.least_missing.Goals as goal
 
@@ -63,3 +65,6 @@ returns-in-NoPlan g c =
     (c.most_missing-most.ensures ∙ ap (λ R. when R.policy.short (all_wanted R.places)) c.in_ok-shortage.ensures) c.planner_bottlenecks_have_no_plan.ensures c.in-NoPlan.found
     c.in_ok-bottleneck-in-NoPlan.bottleneck none
     (subst (λ R. IsToldBottleneck R c.in-NoPlan.found c.in_ok-bottleneck-in-NoPlan.bottleneck) c.in_ok-shortage.ensures c.in_ok-bottleneck-in-NoPlan.ensures)
+
+pub limited_model_of-requires : goal.limited_model_of-requires
+limited_model_of-requires g c = subst HasLimits (sym c.in_ok-shortage.ensures) (inr (earns_nothing_free c.args.planner.now))

@@ -1,25 +1,19 @@
-use Rattle.std.proofs.Common.{rules, ◌≡◌, ◌∙◌, ap, to_z, of_z, w64}
+use Rattle.std.proofs.Common.{◌≡◌, rules, subst, sym, to_z, of_z, w64}
+use Rattle.std.specs.Prelude.{IfOk}
 use Rattle.mcf_places.specs.Models.{model_of}
-use Rattle.mcf_places.specs.Ways.{with_tables}
-use Rattle.mcf_places.proofs.ProperModels.{makes_model, no_error, places_small, tails_inside}
+use Rattle.mcf_places.specs.PlannerFaults.{HasLimits}
+use Rattle.mcf_places.proofs.ProperLimits.{has_limits, limits_if_none, unlimited_same}
 use Rattle.mcf_places.proofs.making.model_of.Goals as goal
 
-pub rows_of-requires-clause-small : goal.rows_of-requires-clause-small
-rows_of-requires-clause-small c = places_small c.args.planner.now c.parts-parts.result.places.now c.parts-parts.ensures.places c.parts-parts.ensures.proper
+pub limited_model_of-requires : goal.limited_model_of-requires
+limited_model_of-requires c = subst HasLimits (sym c.in_ok-limited-in-Some.ensures) (has_limits c.args.planner.now c.limit_for.ensures.proper.bounded)
 
-pub rows_of-requires-clause-inside : goal.rows_of-requires-clause-inside
-rows_of-requires-clause-inside c =
-    tails_inside c.args.planner.now c.parts-parts.result.places.now c.parts-parts.result.steps.now c.parts-parts.result.rows.now c.parts-parts.ensures.places
-    c.parts-parts.ensures.routes c.parts-parts.ensures.proper
+pub limited_model_of-requires-in-None : goal.limited_model_of-requires-in-None
+limited_model_of-requires-in-None c = limits_if_none c.args.planner.now c.limit_for.ensures.proper (sym c.in-None.ensures.value)
 
-pub unreachable-requires : goal.unreachable-requires
-unreachable-requires c =
-    let parts = c.parts-parts.result in
-    let most : to_z w64 (of_z w64 c.args.most) ≡ c.args.most = search rules in
-    no_error c.of.result c.in-Err.field-0 c.in-Err.is
-    (c.of.ensures.proper.1
-    (makes_model c.args.most c.args.planner.now parts.places.now parts.steps.now parts.rows.now parts.returning.now parts.policy c.parts-parts.ensures.places
-    c.parts-parts.ensures.routes c.parts-parts.ensures.returning c.parts-parts.ensures.policy c.in_ok-supplies.supplies.items c.in_ok-steps.steps.items c.in_ok-rows.rows.items
-    c.in_ok-supplies.ensures c.in_ok-steps.ensures
-    (c.in_ok-rows.ensures.routes ∙ ap (λ z. (model_of z (with_tables parts.places.now parts.steps.now parts.rows.now parts.returning.now parts.policy)).routes) most)
-    c.parts-parts.ensures.proper c.parts-parts.ensures.listed c.in_ok-rows.ensures.listed))
+pub returns-in-None : goal.returns-in-None
+returns-in-None c =
+    let P = c.args.planner.now in
+    let kept : to_z w64 (of_z w64 c.args.most) ≡ c.args.most = search rules in
+    subst (λ Q. IfOk c.limited_model_of-in-None.result (λ made. made ≡ model_of c.args.most Q)) (sym (unlimited_same P (sym c.in-None.ensures.value)))
+    (subst (λ z. IfOk c.limited_model_of-in-None.result (λ made. made ≡ model_of z P)) kept c.limited_model_of-in-None.ensures)

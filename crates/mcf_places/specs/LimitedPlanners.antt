@@ -1,0 +1,58 @@
+-- The problem in which each place with bounds has a limit. Where all routes have limits, none of
+-- its plans brings more to a place than all amounts of the problem together; so that is a limit
+-- that changes no plan. It is needed where some cost is below 0.
+-- Source: own
+use Rattle.std.specs.Prelude.{◌≡◌, Bool, not, ◌&&◌, ◌||◌, List, map, ℤ, if◌then◌else◌, Option, Some, None, option_map}
+use Rattle.std.specs.List.{list_any}
+use Rattle.std.specs.Option.{is_none, option_or}
+use Rattle.mcf_model.specs.Faults.{earns}
+use Rattle.mcf_model.specs.Model.{Route}
+use Rattle.mcf_places.specs.declared.places.Bounds.{Bounds}
+use Rattle.mcf_places.specs.declared.places.Place.{Place}
+use Rattle.mcf_places.specs.PlannerFaults.{is_open, place_earns}
+use Rattle.mcf_places.specs.Planners.{IsPlan, Plan, Planner, cost, total_missing}
+use Rattle.mcf_places.specs.Throughput.{throughput}
+
+-- ---- the limit that is missing
+
+-- some bounds have no limit, though all routes have one, and some cost is below 0
+abbrev pub lacks_limits : List Place → List Route → Bool
+lacks_limits places routes =
+    list_any (λ p. is_open p.through) places
+    && (not (list_any (λ r. is_none r.last_most) routes)
+    && (list_any (λ p. place_earns p.through) places || list_any (λ r. earns r.steps r.last_cost) routes))
+
+-- the limit of bounds that need one and have none
+abbrev pub limit_for : Planner → Option ℤ
+limit_for P = if lacks_limits P.places P.routes then Some (throughput P.places P.routes) else None
+
+-- bounds with this limit, if they have none
+abbrev pub limited_bounds : Option ℤ → Bounds → Bounds
+limited_bounds limit b = record { least = b.least; most = option_or b.most limit; cost = b.cost }
+
+-- the place with such bounds
+abbrev pub limited_place : Option ℤ → Place → Place
+limited_place limit p = record { supply = p.supply; through = option_map (limited_bounds limit) p.through }
+
+-- the problem with such bounds
+abbrev pub limited : Planner → Planner
+limited P =
+    record {
+      places = map (limited_place (limit_for P)) P.places;
+      routes = P.routes;
+      returning = P.returning;
+      policy = P.policy;
+    }
+
+-- ---- it is the same problem
+
+-- a plan of either problem is one of the other, at the same cost, and the same is missing
+pub record IsSamePlan (P : Planner) (x : Plan) : Type 0 where
+  pub kept : IsPlan P x → IsPlan (limited P) x
+  pub back : IsPlan (limited P) x → IsPlan P x
+  pub same_cost : cost (limited P) x ≡ cost P x
+  pub same_missing : total_missing (limited P) x ≡ total_missing P x
+
+-- limits change no plan
+abbrev pub LimitsChangeNoPlan : Type 0
+LimitsChangeNoPlan = (P : Planner) (x : Plan) → IsSamePlan P x
