@@ -15,3 +15,4 @@ mod table_texts;
 pub use answering::{ProblemAnswer, SolvedProblem, TableAnswer};
 pub use flow_answer::{Broken, FlowAnswer, SaidTables, plan_tables};
 pub use options::{Options, Texts};
+pub use table_texts::table_of;

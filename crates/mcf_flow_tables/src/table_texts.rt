@@ -29,8 +29,14 @@ fn first_row(text: &[u8]) -> usize
     }
 }
 
-// The rows of a text, from that of its heads on, or why it is no table.
-pub(crate) fn table_of(
+/// Reads the rows of a text, from that of its heads on, or why it is no table. The fields are
+/// separated by the byte that the text names, or else by the one that splits the line of its heads
+/// best; the heads stand in the first of ten rows that has all the wanted ones, or else in the first.
+///
+/// # Errors
+///
+/// `NoMemory` if an allocation is refused.
+pub fn table_of(
     alloc: Global,
     text: &[u8],
     wanted: &[&[u8]],

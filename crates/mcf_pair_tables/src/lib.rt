@@ -14,7 +14,6 @@ mod options;
 mod pair_answer;
 mod ranges;
 mod rosters;
-mod table_texts;
 
 pub use answering::{ChoiceAnswer, SolvedPairs, TableAnswer};
 pub use options::{Each, Options};

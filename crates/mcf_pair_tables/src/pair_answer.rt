@@ -4,7 +4,7 @@ ghost use Rattle.mcf_pair_tables.specs.PairAnswers.{IsPairAnswer};
 
 use crate::answering::{TableAnswer, table_answer};
 use crate::options::Options;
-use crate::table_texts::table_of;
+use mcf_flow_tables::table_of;
 use mcf_model::Solves;
 use mcf_table::{Records, TextFault};
 use mcf_text::NoMemory;
