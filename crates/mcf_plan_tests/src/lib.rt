@@ -22,6 +22,8 @@ mod places;
 #[cfg(test)]
 mod places_planned;
 #[cfg(test)]
+mod plan_texts;
+#[cfg(test)]
 mod plans;
 #[cfg(test)]
 mod roster;

@@ -1,0 +1,12 @@
+use Rattle.std.proofs.Common.{rules, ◌≡◌, ◌++◌, ◌<◌, drop, length}
+use Rattle.mcf_places.specs.Planners.{row_count}
+use Rattle.mcf_plan_text.specs.Lines.{row_line}
+use Rattle.mcf_plan_text.specs.PlanRows.{back_row}
+use Rattle.mcf_plan_text.proofs.TableTexts.{rows_step}
+use Rattle.mcf_plan_text.proofs.plan_rows.put_backs.Goals as goal
+
+pub loop-place-preserved : goal.loop-place-preserved
+loop-place-preserved c =
+    let small : c.loop-place.place < length c.args.planner.now.returning = search rules in
+    let put : c.put_back.new.out.items ≡ c.loop-place.out.items ++ row_line (back_row c.args.scales c.args.routes.now (drop (row_count c.args.planner.now) c.args.carries.now) c.args.planner.now.returning c.loop-place.place) = search rules in
+    rows_step (back_row c.args.scales c.args.routes.now (drop (row_count c.args.planner.now) c.args.carries.now) c.args.planner.now.returning) _ _ _ c.loop-place.place (length c.args.planner.now.returning) small c.loop-place.invariant put

@@ -1,0 +1,11 @@
+use Rattle.std.proofs.Common.{◌≡◌, ◌++◌, map, drop, length, ◌-◌}
+use Rattle.std.specs.List.{range_with_len}
+use Rattle.mcf_places.specs.Planners.{row_count}
+use Rattle.mcf_plan_text.specs.PlanRows.{back_row, back_rows}
+use Rattle.mcf_plan_text.specs.Lines.{rows_text}
+use Rattle.mcf_plan_text.proofs.plan_rows.put_backs.Given as goal
+
+abbrev pub invariant-loop-place : goal.invariant-loop-place
+invariant-loop-place l =
+    l.out.items ++ rows_text (map (back_row l.scales l.routes (drop (row_count l.planner) l.carries) l.planner.returning) (range_with_len l.place (length l.planner.returning - l.place)))
+    ≡ l.initial.out.items ++ rows_text (back_rows l.planner l.scales l.routes l.carries)

@@ -1,0 +1,7 @@
+use Rattle.mcf_plan_text.proofs.TableTexts.{is_plan_text}
+use Rattle.mcf_plan_text.proofs.telling.plan_text.Goals as goal
+
+pub returns : goal.returns
+returns g c =
+    is_plan_text c.text_of.result c.args.texts.places.now c.args.texts.routes.now c.args.options c.in_ok-answer.answer c.in_ok-answer.ensures
+    c.text_of.ensures.text c.text_of.ensures.kind

@@ -1,0 +1,83 @@
+-- The answer to two tables as the text of a table. Each of its rows begins with a word that says
+-- what it is.
+-- Source: own
+use Rattle.std.specs.Prelude.{◌≡◌, ℕ, List, [], ◌∷◌, ◌++◌, codes, map, Option}
+use Rattle.mcf_flow_tables.specs.TableAnswers.{IsFlowAnswer}
+use Rattle.mcf_flow_tables.specs.declared.answering.ProblemAnswer.{ProblemAnswer}
+use Rattle.mcf_flow_tables.specs.declared.answering.ProblemAnswer.TheVariants.{TooGreat, Improper, Solved}
+use Rattle.mcf_flow_tables.specs.declared.answering.TableAnswer.{TableAnswer}
+use Rattle.mcf_flow_tables.specs.declared.answering.TableAnswer.TheVariants.{Faults, Problem}
+use Rattle.mcf_flow_tables.specs.declared.flow_answer.FlowAnswer.{FlowAnswer}
+use Rattle.mcf_flow_tables.specs.declared.flow_answer.FlowAnswer.TheVariants.{NoTables, Tables}
+use Rattle.mcf_flow_tables.specs.declared.options.Options.{Options}
+use Rattle.mcf_places.specs.declared.answering.PlannerAnswer.{PlannerAnswer}
+use Rattle.mcf_places.specs.declared.answering.PlannerAnswer.TheVariants.{Beyond, Least, NoPlan}
+use Rattle.mcf_places.specs.declared.origins.Origin.{Origin}
+use Rattle.mcf_places.specs.Planners.{Planner}
+use Rattle.mcf_reading.specs.declared.locations.Table.TheVariants.{Places, Routes}
+use Rattle.mcf_table.specs.Written.{table_text}
+use Rattle.mcf_units.specs.declared.scales.Scales.{Scales}
+use Rattle.mcf_plan_text.specs.FaultRows.{TwoTables, beyond_row, cell_fault_row, great_row, planner_row, text_rows}
+use Rattle.mcf_plan_text.specs.Lines.{comma}
+use Rattle.mcf_plan_text.specs.PlanRows.{answer_row, bottleneck_rows, plan_rows}
+use Rattle.mcf_plan_text.specs.declared.telling.PlanText.{PlanText}
+use Rattle.mcf_plan_text.specs.declared.telling.TextKind.{TextKind}
+use Rattle.mcf_plan_text.specs.declared.telling.TextKind.TheVariants as told
+
+-- the row that says that there are faults
+abbrev pub faults_row : List (List ℕ)
+faults_row = answer_row (codes "faults")
+
+-- ---- the rows of an answer
+
+-- a least plan, a bottleneck, or the first number beyond the limits
+abbrev pub solved_rows : TwoTables → Planner → Scales → Option Origin → PlannerAnswer → List (List (List ℕ))
+solved_rows two P scales origin (Least plan) = plan_rows two P scales plan
+solved_rows two P scales origin (NoPlan bottleneck) = bottleneck_rows two bottleneck
+solved_rows two P scales origin (Beyond fault) = faults_row ∷ beyond_row two origin fault ∷ []
+
+-- the answer to what tables say
+abbrev pub problem_rows : TwoTables → ProblemAnswer → List (List (List ℕ))
+problem_rows two (TooGreat faults) = faults_row ∷ map (great_row two) faults.items
+problem_rows two (Improper faults) = faults_row ∷ map (planner_row two) faults.items
+problem_rows two (Solved s) = solved_rows two s.planner s.scales s.origin s.answer
+
+-- the answer to the rows of two tables
+abbrev pub table_rows : TwoTables → TableAnswer → List (List (List ℕ))
+table_rows two (Faults faults) = faults_row ∷ map (cell_fault_row two) faults
+table_rows two (Problem answer) = problem_rows two answer
+
+-- the answer to two texts
+abbrev pub answer_rows : FlowAnswer → List (List (List ℕ))
+answer_rows (NoTables broken) = faults_row ∷ (text_rows Places broken.places ++ text_rows Routes broken.routes)
+answer_rows (Tables said) = table_rows (record { places = said.places; routes = said.routes }) said.answer
+
+-- ---- its kind
+
+abbrev pub solved_kind : PlannerAnswer → TextKind
+solved_kind (Least plan) = told.Plan
+solved_kind (NoPlan bottleneck) = told.NoPlan
+solved_kind (Beyond fault) = told.Faults
+
+abbrev pub problem_kind : ProblemAnswer → TextKind
+problem_kind (TooGreat faults) = told.Faults
+problem_kind (Improper faults) = told.Faults
+problem_kind (Solved s) = solved_kind s.answer
+
+abbrev pub table_kind : TableAnswer → TextKind
+table_kind (Faults faults) = told.Faults
+table_kind (Problem answer) = problem_kind answer
+
+-- whether the answer is a plan, that there is none, or faults
+abbrev pub answer_kind : FlowAnswer → TextKind
+answer_kind (NoTables broken) = told.Faults
+answer_kind (Tables said) = table_kind said.answer
+
+-- ---- the text
+
+-- the text says an answer to two texts: its rows, each cell between quotes, with commas between them
+pub record IsPlanText (places routes : List ℕ) (options : Options) (text : PlanText) : Type 0 where
+  pub answer : FlowAnswer
+  pub answers : IsFlowAnswer places routes options answer
+  pub text_is : text.text.items ≡ table_text comma (answer_rows answer)
+  pub kind_is : text.kind ≡ answer_kind answer

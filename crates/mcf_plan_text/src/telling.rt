@@ -1,0 +1,184 @@
+//! The answer to two tables as text.
+ghost use Rattle.std.specs.Prelude.{◌≡◌, ◌++◌, ◌∷◌, [], IfOk, OnOk};
+ghost use Rattle.mcf_plan_text.specs.FaultRows.{tables_in};
+ghost use Rattle.mcf_plan_text.specs.Lines.{rows_text};
+ghost use Rattle.mcf_plan_text.specs.PlanTexts.{IsPlanText, answer_kind, answer_rows, problem_kind, problem_rows, solved_kind, solved_rows, table_kind, table_rows};
+
+use crate::fault_rows::{
+    Two, put_beyond, put_cell_faults, put_greats, put_planner_faults, put_text_fault,
+};
+use crate::plan_rows::{put_answer, put_bottleneck, put_plan};
+use mcf_flow_tables::{
+    FlowAnswer, Options, ProblemAnswer, SolvedProblem, TableAnswer, Texts, plan_tables,
+};
+use mcf_model::Solves;
+use mcf_places::PlannerAnswer;
+use mcf_reading::Table;
+use mcf_text::NoMemory;
+use std::alloc::Global;
+
+/// What kind of answer a text says.
+#[derive(Clone, Copy, Debug, PartialEq, Eq)]
+pub enum TextKind {
+    /// A least plan.
+    Plan,
+    /// A bottleneck: there is no plan.
+    NoPlan,
+    /// Faults of the tables, or a number beyond the limits.
+    Faults,
+}
+
+/// The text of an answer, and its kind.
+#[derive(Drop)]
+pub struct PlanText {
+    /// The rows, each with a line feed; each cell stands between quotes, with commas between them.
+    pub text: Vec<u8>,
+    /// The kind.
+    pub kind: TextKind,
+}
+
+// The kind of the answer to a problem.
+fn solved_kind(answer: &PlannerAnswer) -> TextKind
+    ensures { result ≡ solved_kind answer.now }
+{
+    match answer {
+        PlannerAnswer::Least(_) => TextKind::Plan,
+        PlannerAnswer::NoPlan(_) => TextKind::NoPlan,
+        PlannerAnswer::Beyond(_) => TextKind::Faults,
+    }
+}
+
+// Appends the answer to a problem.
+fn put_solved(
+    alloc: Global,
+    out: &mut Vec<u8>,
+    two: Two<'_>,
+    solved: &SolvedProblem,
+) -> Result<(), NoMemory>
+    ensures { OnOk result (out.new.items ≡ out.old.items
+        ++ rows_text (solved_rows (tables_in two.entry) solved.now.planner solved.now.scales solved.now.origin solved.now.answer)) }
+{
+    match &solved.answer {
+        PlannerAnswer::Least(least) => {
+            put_plan(alloc, out, two, &solved.planner, solved.scales, least)
+        }
+        PlannerAnswer::NoPlan(bottleneck) => put_bottleneck(alloc, out, two, bottleneck),
+        PlannerAnswer::Beyond(fault) => {
+            put_answer(out, b"faults")?;
+            put_beyond(alloc, out, two, solved.origin, fault)
+        }
+    }
+}
+
+// The kind of the answer to what tables say.
+fn problem_kind(answer: &ProblemAnswer) -> TextKind
+    ensures { result ≡ problem_kind answer.now }
+{
+    match answer {
+        ProblemAnswer::Solved(solved) => solved_kind(&solved.answer),
+        _ => TextKind::Faults,
+    }
+}
+
+// Appends the answer to what tables say.
+fn put_problem(
+    alloc: Global,
+    out: &mut Vec<u8>,
+    two: Two<'_>,
+    answer: &ProblemAnswer,
+) -> Result<(), NoMemory>
+    ensures { OnOk result (out.new.items ≡ out.old.items ++ rows_text (problem_rows (tables_in two.entry) answer.now)) }
+{
+    match answer {
+        ProblemAnswer::TooGreat(faults) => {
+            put_answer(out, b"faults")?;
+            put_greats(alloc, out, two, faults)
+        }
+        ProblemAnswer::Improper(faults) => {
+            put_answer(out, b"faults")?;
+            put_planner_faults(alloc, out, two, faults)
+        }
+        ProblemAnswer::Solved(solved) => put_solved(alloc, out, two, solved),
+    }
+}
+
+// The kind of the answer to the rows of two tables.
+fn table_kind(answer: &TableAnswer) -> TextKind
+    ensures { result ≡ table_kind answer.now }
+{
+    match answer {
+        TableAnswer::Faults(_) => TextKind::Faults,
+        TableAnswer::Problem(answer) => problem_kind(answer),
+    }
+}
+
+// Appends the answer to the rows of two tables.
+fn put_table_answer(
+    alloc: Global,
+    out: &mut Vec<u8>,
+    two: Two<'_>,
+    answer: &TableAnswer,
+) -> Result<(), NoMemory>
+    ensures { OnOk result (out.new.items ≡ out.old.items ++ rows_text (table_rows (tables_in two.entry) answer.now)) }
+{
+    match answer {
+        TableAnswer::Faults(faults) => {
+            put_answer(out, b"faults")?;
+            put_cell_faults(alloc, out, two, faults.list())
+        }
+        TableAnswer::Problem(answer) => put_problem(alloc, out, two, answer),
+    }
+}
+
+// The text of an answer.
+fn text_of(alloc: Global, answer: &FlowAnswer) -> Result<PlanText, NoMemory>
+    ensures text { IfOk result (λ told. told.text.items ≡ rows_text (answer_rows answer.now)) }
+    ensures kind { IfOk result (λ told. told.kind ≡ answer_kind answer.now) }
+{
+    let mut text = Vec::new(alloc);
+    match answer {
+        FlowAnswer::NoTables(broken) => {
+            put_answer(&mut text, b"faults")?;
+            put_text_fault(alloc, &mut text, Table::Places, broken.places)?;
+            put_text_fault(alloc, &mut text, Table::Routes, broken.routes)?;
+            Ok(PlanText {
+                text,
+                kind: TextKind::Faults,
+            })
+        }
+        FlowAnswer::Tables(said) => {
+            let two = Two {
+                places: &said.places,
+                routes: &said.routes,
+            };
+            put_table_answer(alloc, &mut text, two, &said.answer)?;
+            Ok(PlanText {
+                text,
+                kind: table_kind(&said.answer),
+            })
+        }
+    }
+}
+
+/// Plans the flow of two tables, as `plan_tables` does, and returns the answer as the text of a
+/// table, whose rows begin with a word that says what they are: `answer` and its kind, which is
+/// `plan`, `no plan` or `faults`. Of a plan, `cost` and `missing` with their number, for each route
+/// `route`, its line, its ends and what it carries, and for each place `place`, its line, its name,
+/// what stays there and what is missing. Of a bottleneck, `side`, and for each of its places
+/// `place`, its line, its name, and whether its entry and its exit are meant. For each fault
+/// `fault`, the table, the line, the column, what is wrong, and the cell.
+///
+/// # Errors
+///
+/// `NoMemory` if an allocation is refused.
+pub fn plan_text<S: Solves>(
+    alloc: Global,
+    solver: &mut S,
+    texts: Texts<'_>,
+    options: Options,
+) -> Result<PlanText, NoMemory>
+    ensures { IfOk result (IsPlanText texts.entry.places.now texts.entry.routes.now options) }
+{
+    let answer = plan_tables(alloc, solver, texts, options)?;
+    text_of(alloc, &answer)
+}
