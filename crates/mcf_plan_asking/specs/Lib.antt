@@ -1,0 +1,2 @@
+pub use Rattle.mcf_asking.specs.Asking
+pub mod PlanAsking

@@ -1,0 +1,116 @@
+-- What the words of a planner's command line ask.
+-- Source: own
+use Rattle.std.specs.Prelude.{◌≡◌, Bool, true, false, List, [], ◌∷◌, Option, Some, None, Result, IfOk, IfErr, codes, map, option_map}
+use Rattle.std.specs.Borrow.{Bor}
+use Rattle.clap.specs.Words.{App, FailsBy, Row, Rule, Shape, Text, fault_of, first_of, kind_of, new_app, new_rule, subcommand_of, takes, with_subcommand}
+use Rattle.clap.specs.Walk.{texts}
+use Rattle.clap.specs.declared.error.Error.{Error}
+use Rattle.clap.specs.declared.error.kind.ErrorKind.TheVariants.{OutOfMemory}
+use Rattle.mcf_asking.specs.Asking.{choice_by, word_rule}
+use Rattle.mcf_decimal.specs.declared.mark.Mark.{Mark}
+use Rattle.mcf_decimal.specs.declared.mark.Mark.TheVariants.{Point, Comma}
+use Rattle.mcf_plan_asking.specs.declared.asking.AskedPlan.{AskedPlan}
+
+-- the words for the mark before decimals, and what each asks for
+abbrev pub mark_words : List (Text × Option Mark)
+mark_words = (codes "auto", None) ∷ (codes ".", Some Point) ∷ (codes ",", Some Comma) ∷ []
+
+-- the words alone
+abbrev pub mark_names : List Text
+mark_names = map (λ (row : Text × Option Mark). row.0) mark_words
+
+-- the words for what may be left, and what each asks for
+abbrev pub leave_words : List (Text × Bool)
+leave_words = (codes "refuse", false) ∷ (codes "allow", true) ∷ []
+
+-- the words alone
+abbrev pub leave_names : List Text
+leave_names = map (λ (row : Text × Bool). row.0) leave_words
+
+-- `--decimal MARK`, one of these words, and `auto` where it is left out
+abbrev pub mark_rule : Bor (List (Bor Text)) → Rule
+mark_rule names = word_rule (codes "decimal") names (codes "auto")
+
+-- an option of this name, one of these words, and `refuse` where it is left out
+abbrev pub leave_rule : Text → Bor (List (Bor Text)) → Rule
+leave_rule name names = word_rule name names (codes "refuse")
+
+-- `--penalty N`, which may be left out
+abbrev pub penalty_rule : Rule
+penalty_rule = record (new_rule (codes "penalty")) { long = Some (codes "penalty"); value_names = 1 }
+
+-- the file of a table, which may be left out
+abbrev pub table_rule : Text → Rule
+table_rule name = record (new_rule name) { value_names = 1 }
+
+-- the arguments of `flow`, with these words for marks, for what may stay and for what may be missing
+abbrev pub flow_rules : Bor (List (Bor Text)) → Bor (List (Bor Text)) → Bor (List (Bor Text)) → List Rule
+flow_rules marks unused short =
+    mark_rule marks ∷ leave_rule (codes "unused") unused ∷ leave_rule (codes "short") short ∷ penalty_rule
+    ∷ table_rule (codes "places") ∷ table_rule (codes "routes") ∷ []
+
+-- `flow [--decimal MARK] [--unused WORD] [--short WORD] [--penalty N] [PLACES] [ROUTES]`
+abbrev pub flow_shape : Bor (List (Bor Text)) → Bor (List (Bor Text)) → Bor (List (Bor Text)) → Shape
+flow_shape marks unused short = record (new_app (codes "flow")).top { rules = flow_rules marks unused short }
+
+-- `mcfplan`, which wants a subcommand, and has a version
+abbrev pub mcfplan_top : App
+mcfplan_top = record { top = record (new_app (codes "mcfplan")).top { has_version = true; subcommand_required = true }; subs = [] }
+
+-- `mcfplan` with its one subcommand
+abbrev pub mcfplan_app : Bor (List (Bor Text)) → Bor (List (Bor Text)) → Bor (List (Bor Text)) → App
+mcfplan_app marks unused short = with_subcommand mcfplan_top (flow_shape marks unused short)
+
+-- what a parse reads of the subcommand `flow`
+pub record IsFlow (shape : Shape) : Type 0 where
+  pub marks : Bor (List (Bor Text))
+  pub unused : Bor (List (Bor Text))
+  pub short : Bor (List (Bor Text))
+  pub marks_spelled : texts marks.now ≡ mark_names
+  pub unused_spelled : texts unused.now ≡ leave_names
+  pub short_spelled : texts short.now ≡ leave_names
+  pub reads : shape ≡ flow_shape marks unused short
+
+-- what a parse reads of the command `mcfplan`
+pub record IsMcfplan (app : App) : Type 0 where
+  pub marks : Bor (List (Bor Text))
+  pub unused : Bor (List (Bor Text))
+  pub short : Bor (List (Bor Text))
+  pub marks_spelled : texts marks.now ≡ mark_names
+  pub unused_spelled : texts unused.now ≡ leave_names
+  pub short_spelled : texts short.now ≡ leave_names
+  pub reads : app ≡ mcfplan_app marks unused short
+
+-- the mark that a word asks for
+abbrev pub mark_by : Option Text → Option Mark
+mark_by name = choice_by mark_words None name
+
+-- whether a word allows
+abbrev pub leave_by : Option Text → Bool
+leave_by name = choice_by leave_words false name
+
+-- the texts of words
+abbrev pub word_text : Option (Bor Text) → Option Text
+word_text word = option_map (λ (w : Bor Text). w.now) word
+
+-- what is asked is what the matches of the subcommand hold that the words name
+pub record AsksPlan (app : App) (words : List Text) (asked : AskedPlan) : Type 0 where
+  pub name : Text
+  pub rows : List Row
+  pub subcommand : subcommand_of app words ≡ Some (name, rows)
+  pub mark : asked.mark ≡ mark_by (first_of (codes "decimal") rows)
+  pub unused : asked.unused ≡ leave_by (first_of (codes "unused") rows)
+  pub short : asked.short ≡ leave_by (first_of (codes "short") rows)
+  pub penalty : word_text asked.penalty ≡ first_of (codes "penalty") rows
+  pub places : word_text asked.places ≡ first_of (codes "places") rows
+  pub routes : word_text asked.routes ≡ first_of (codes "routes") rows
+
+-- what is asked is what the matches hold; only memory may be wanting where the command takes the
+-- words; and else the words have a fault, the first of which is told, help that is asked for among
+-- them
+pub record IsPlanReading (words : List Text) (result : Result AskedPlan Error) : Type 0 where
+  pub app : App
+  pub is_mcfplan : IsMcfplan app
+  pub asks : IfOk result (AsksPlan app words)
+  pub taken : IfErr result (λ e. takes app words ≡ true → kind_of e ≡ OutOfMemory)
+  pub faults : FailsBy (fault_of app words) result
