@@ -140,7 +140,29 @@ Usage: mcf <COMMAND>
 For more information, try '--help'." bin/mcf solve "$unreadable"
     tells_with_little 'mcf: out of memory' bin/mcf solve "$written.large"
 fi
+plans=examples/plans
+# `mcfplan` answers the tables of an example with this status, and with this row.
+plans_to() {
+    bin/mcfplan flow "$plans/$1/places.csv" "$plans/$1/routes.csv" > "$written" 2> "$written.err"
+    status=$?
+    [ "$status" -eq "$2" ] && grep -q -x -F "$3" "$written" && [ ! -s "$written.err" ] ||
+        report "mcfplan flow, $1: status $status, $(cat "$written" "$written.err")"
+}
+
+if [ -x bin/mcfplan ]; then
+    plans_to transport 0 '"cost","980"'
+    cmp -s "$written" crates/mcfplan/stdout || report "mcfplan flow, transport: another plan"
+    plans_to blocked 1 '"answer","no plan"'
+    plans_to bad-tables 2 '"answer","faults"'
+    [ "$(bin/mcfplan --version | head -n 1)" = 'mcfplan 1.0.0' ] || report 'mcfplan --version: another version'
+    tells 'mcfplan: name two tables, PLACES and ROUTES' bin/mcfplan flow $plans/transport/places.csv
+    tells 'mcfplan: cannot read the table of places' bin/mcfplan flow none.csv $plans/transport/routes.csv
+    tells 'mcfplan: cannot read the table of routes' bin/mcfplan flow $plans/transport/places.csv none.csv
+    tells "mcfplan: the penalty isn't a number" bin/mcfplan flow --penalty x none.csv none.csv
+    tells_with_little 'mcfplan: out of memory' bin/mcfplan flow "$written.large" none.csv
+fi
 
 [ "$wrong" -eq 0 ] || { echo "examples: $wrong wrong of $pairs pairs"; exit 1; }
 [ ! -x bin/mcf ] || echo "examples: mcf writes the answers of all $pairs instances"
 [ ! -x bin/mcfcheck ] || echo "examples: mcfcheck accepts the answers of all $pairs instances"
+[ ! -x bin/mcfplan ] || echo "examples: mcfplan plans the tables of three examples"

@@ -54,16 +54,19 @@ answer_rows (Tables said) = table_rows (record { places = said.places; routes = 
 
 -- ---- its kind
 
+-- that of a least plan, of a bottleneck, or of a number beyond the limits
 abbrev pub solved_kind : PlannerAnswer → TextKind
 solved_kind (Least plan) = told.Plan
 solved_kind (NoPlan bottleneck) = told.NoPlan
 solved_kind (Beyond fault) = told.Faults
 
+-- that of the answer to what tables say
 abbrev pub problem_kind : ProblemAnswer → TextKind
 problem_kind (TooGreat faults) = told.Faults
 problem_kind (Improper faults) = told.Faults
 problem_kind (Solved s) = solved_kind s.answer
 
+-- that of the answer to the rows of two tables
 abbrev pub table_kind : TableAnswer → TextKind
 table_kind (Faults faults) = told.Faults
 table_kind (Problem answer) = problem_kind answer

@@ -1,0 +1,226 @@
+//! The command `mcfplan`, over a reader of files and two sinks.
+ghost use Rattle.std.specs.Prelude.{◌≡◌, ◌≢◌, ◌≤◌, ◌⊎◌, IfOk, Ok, OnOk, map, option_map};
+ghost use Rattle.std.specs.Fn.{CalledAt};
+ghost use Rattle.clap.specs.Words.{kind_of};
+ghost use Rattle.mcf_plan_suite.specs.PlanServing.{IsAsked, IsShownPlan, ServesPlan, penalty_in, status_of};
+
+use crate::version::VERSION;
+use clap::Error;
+use clap::error::ErrorKind;
+use mcf_checker::FileFault;
+use mcf_decimal::{Decimal, Mark, number};
+use mcf_flow_tables::{Options, Texts};
+use mcf_model::Solves;
+use mcf_plan_asking::{AskedPlan, plan_command};
+use mcf_plan_text::{PlanText, TextKind, plan_text};
+use mcf_solver::{RunFault, Sink, send};
+use mcf_text::NoMemory;
+use mcf_units::Terms;
+use std::alloc::{AllocError, Global};
+use std::convert::AsStr;
+
+// The status if nothing was answered.
+const FAILED: u8 = 3;
+
+// Why nothing was answered.
+#[derive(Drop)]
+enum Failure {
+    // The words aren't a command of `mcfplan`, for the reason in this text.
+    Usage(String),
+    // A table isn't named.
+    Tables,
+    // The penalty isn't a number.
+    Penalty,
+    // The file of a table can't be read.
+    Places,
+    Routes,
+    // Writing failed.
+    Write,
+    // Memory ran out.
+    NoMemory,
+}
+
+impl Failure {
+    // The text that reports it.
+    fn text(&self) -> &str {
+        match self {
+            Failure::Usage(text) => text.as_str(),
+            Failure::Tables => "mcfplan: name two tables, PLACES and ROUTES\n",
+            Failure::Penalty => "mcfplan: the penalty isn't a number\n",
+            Failure::Places => "mcfplan: cannot read the table of places\n",
+            Failure::Routes => "mcfplan: cannot read the table of routes\n",
+            Failure::Write => "mcfplan: write failed\n",
+            Failure::NoMemory => "mcfplan: out of memory\n",
+        }
+    }
+}
+
+impl From<AllocError> for Failure {
+    fn from(_error: AllocError) -> Failure {
+        Failure::NoMemory
+    }
+}
+
+impl From<NoMemory> for Failure {
+    fn from(_error: NoMemory) -> Failure {
+        Failure::NoMemory
+    }
+}
+
+impl From<RunFault> for Failure {
+    fn from(_fault: RunFault) -> Failure {
+        Failure::Write
+    }
+}
+
+// The status for an answer.
+fn status_of(kind: TextKind) -> u8
+    ensures value { result ≡ status_of kind }
+    ensures small { result ≤ 2 }
+{
+    match kind {
+        TextKind::Plan => 0,
+        TextKind::NoPlan => 1,
+        TextKind::Faults => 2,
+    }
+}
+
+// The penalty that is named, if one is.
+fn penalty_in(mark: Option<Mark>, word: Option<&str>) -> Result<Option<Decimal>, Failure>
+    ensures { IfOk result (λ penalty. penalty_in mark (option_map (λ w. w.now) word.entry) ≡ Ok penalty) }
+{
+    match word {
+        None => Ok(None),
+        Some(word) => match number(word.as_bytes(), mark) {
+            Ok(found) => Ok(Some(found)),
+            Err(_) => Err(Failure::Penalty),
+        },
+    }
+}
+
+// The bytes of a file, or why they weren't read.
+fn read_file<R: FnMut(&str) -> Result<Vec<u8>, FileFault>>(
+    read: &mut R,
+    name: &str,
+    unreadable: Failure,
+) -> Result<Vec<u8>, Failure>
+    requires { R.IsAlwaysCallable read.old }
+    ensures { IfOk result (λ bytes. CalledAt R.FnMut read.old name.now (Ok bytes) read.new) }
+{
+    match read(name) {
+        Ok(bytes) => Ok(bytes),
+        Err(FileFault::NoMemory) => Err(Failure::NoMemory),
+        Err(FileFault::Unreadable) => Err(unreadable),
+    }
+}
+
+// The answer to what is asked.
+fn text_of<S: Solves, R: FnMut(&str) -> Result<Vec<u8>, FileFault>>(
+    alloc: Global,
+    solver: &mut S,
+    read: &mut R,
+    asked: AskedPlan<'_>,
+) -> Result<PlanText, Failure>
+    requires { R.IsAlwaysCallable read.old }
+    ensures { IfOk result (IsAsked R.FnMut (λ file. file.items) read.old read.new asked.entry) }
+{
+    let penalty = penalty_in(asked.mark, asked.penalty)?;
+    let options = Options {
+        mark: asked.mark,
+        terms: Terms {
+            unused: asked.unused,
+            short: asked.short,
+            penalty,
+        },
+    };
+    let (Some(place_file), Some(route_file)) = (asked.places, asked.routes) else {
+        return Err(Failure::Tables);
+    };
+    let places = read_file(read, place_file, Failure::Places)?;
+    let routes = read_file(read, route_file, Failure::Routes)?;
+    let texts = Texts {
+        places: &places,
+        routes: &routes,
+    };
+    let text = plan_text(alloc, solver, texts, options)?;
+    Ok(text)
+}
+
+// Prints the help or the version, if the words ask for it, and returns the status.
+fn show<O: Sink>(alloc: Global, error: &Error, out: &mut O) -> Result<u8, Failure>
+    ensures status { IfOk result (λ status. status ≡ 0) }
+    ensures shown { OnOk result (IsShownPlan (kind_of error.now) (O.contents out.old) (O.contents out.new)) }
+    ensures finished { OnOk result (O.IsFinished out.new) }
+{
+    match error.kind() {
+        ErrorKind::OutOfMemory => Err(Failure::NoMemory),
+        ErrorKind::DisplayHelp => {
+            let text = format!(in alloc; "{error}")?;
+            send(out, text.as_bytes())?;
+            Ok(0)
+        }
+        ErrorKind::DisplayVersion => {
+            send(out, VERSION.as_bytes())?;
+            Ok(0)
+        }
+        _ => {
+            let text = format!(in alloc; "{error}")?;
+            Err(Failure::Usage(text))
+        }
+    }
+}
+
+// Writes the answer that the words ask for, or the help or the version, and returns the status.
+fn answer<W: AsStr, S: Solves, R: FnMut(&str) -> Result<Vec<u8>, FileFault>, O: Sink>(
+    alloc: Global,
+    words: &[W],
+    solver: &mut S,
+    read: &mut R,
+    out: &mut O,
+) -> Result<u8, Failure>
+    requires { R.IsAlwaysCallable read.old }
+    ensures status { IfOk result (λ status. status ≤ 2) }
+    ensures served { IfOk result (λ status.
+        ServesPlan R.FnMut (λ file. file.items) read.old read.new (map W.text words.now) status (O.contents out.old) (O.contents out.new)) }
+    ensures finished { OnOk result (O.IsFinished out.new) }
+{
+    let asked = match plan_command(alloc, words) {
+        Ok(asked) => asked,
+        Err(error) => return show(alloc, &error, out),
+    };
+    let text = text_of(alloc, solver, read, asked)?;
+    send(out, &text.text)?;
+    Ok(status_of(text.kind))
+}
+
+/// Does what the words of a planner's command line ask, and returns the exit status.
+///
+/// The words begin with the name of the program: `mcfplan flow [--decimal MARK] [--unused WORD]
+/// [--short WORD] [--penalty N] PLACES ROUTES`, as `plan_command` reads them, or `mcfplan
+/// --version`. `read` returns the bytes of a file; it is called for PLACES first. The answer goes to
+/// `out`, as the text of a table, which `plan_text` describes. Status 0 means a least plan, or the
+/// requested help or version on `out`; 1 that there is no plan; 2 faults. Status 3, with a line or
+/// the text of the usage fault on `err`, means that the words aren't a command of `mcfplan`, a file
+/// can't be read, writing fails, or memory runs out.
+pub fn serve_plan<
+    W: AsStr,
+    S: Solves,
+    R: FnMut(&str) -> Result<Vec<u8>, FileFault>,
+    O: Sink,
+    E: Sink,
+>(alloc: Global, words: &[W], solver: &mut S, read: &mut R, out: &mut O, err: &mut E) -> u8
+    requires { R.IsAlwaysCallable read.old }
+    ensures status { result ≤ 3 }
+    ensures served { (result ≡ 3)
+        ⊎ ServesPlan R.FnMut (λ file. file.items) read.old read.new (map W.text words.now) result (O.contents out.old) (O.contents out.new) }
+    ensures finished { result ≢ 3 → O.IsFinished out.new }
+    ensures quiet { result ≢ 3 → err.new ≡ err.old }
+{
+    match answer(alloc, words, solver, read, out) {
+        Ok(status) => status,
+        Err(failure) => {
+            let _ = send(err, failure.text().as_bytes());
+            FAILED
+        }
+    }
+}
