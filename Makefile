@@ -95,6 +95,7 @@ page-test:
 PREFIX = /usr/local
 BIN = $(DESTDIR)$(PREFIX)/bin
 MAN = $(DESTDIR)$(PREFIX)/share/man/man1
+PROGRAMS = mcf mcfcheck mcfplan
 TOOLS = mcf_plan mcf_explain mcf_one
 PACKAGES = mcf_plan mcf_explain
 BASH = $(DESTDIR)$(PREFIX)/share/bash-completion/completions
@@ -107,13 +108,13 @@ VERSION = $(shell sed -n 's/.*"mcf \([0-9.]*\).*/\1/p' crates/mcf_suite/src/vers
 
 # Builds nothing, so that one user can install what another user proved.
 install:
-	@test -x bin/mcf && test -x bin/mcfcheck || { echo "make install: bin/mcf and bin/mcfcheck aren't there; run make first" >&2; exit 1; }
+	@for program in $(PROGRAMS); do test -x bin/$$program || { echo "make install: bin/$$program isn't there; run make first" >&2; exit 1; }; done
 	install -d "$(BIN)" "$(MAN)" "$(BASH)" "$(ZSH)" $(PACKAGES:%="$(PYTHON)/%")
-	install -m 755 bin/mcf bin/mcfcheck $(TOOLS:%=tools/%) "$(BIN)"
+	install -m 755 $(PROGRAMS:%=bin/%) $(TOOLS:%=tools/%) "$(BIN)"
 	for package in $(PACKAGES); do install -m 644 python/$$package/*.* "$(PYTHON)/$$package" || exit 1; done
-	install -m 644 man/mcf.1 man/mcfcheck.1 $(TOOLS:%=man/%.1) "$(MAN)"
+	install -m 644 $(PROGRAMS:%=man/%.1) $(TOOLS:%=man/%.1) "$(MAN)"
 	install -m 644 completion/mcf.bash "$(BASH)/mcf"
-	for command in mcfcheck $(TOOLS); do ln -sf mcf "$(BASH)/$$command" || exit 1; done
+	for command in mcfcheck mcfplan $(TOOLS); do ln -sf mcf "$(BASH)/$$command" || exit 1; done
 	install -m 644 completion/_mcf "$(ZSH)"
 	@if test -f bin/mcf.html; then install -m 644 bin/mcf.html "$(SHARED)"; else echo "install: skipped: the page, which isn't built (make page)"; fi
 	@if test -f bin/libmcf.so.1; then $(MAKE) --no-print-directory install-library; else echo "install: skipped: the library, which isn't built (make library)"; fi
@@ -128,9 +129,9 @@ install-library:
 	install -m 644 python/mcf/*.* "$(PYTHON)/mcf"
 
 uninstall:
-	rm -f "$(BIN)/mcf" "$(BIN)/mcfcheck" $(TOOLS:%="$(BIN)/%")
-	rm -f "$(MAN)/mcf.1" "$(MAN)/mcfcheck.1" $(TOOLS:%="$(MAN)/%.1")
-	rm -f "$(BASH)/mcf" "$(BASH)/mcfcheck" $(TOOLS:%="$(BASH)/%") "$(ZSH)/_mcf" "$(SHARED)/mcf.html"
+	rm -f $(PROGRAMS:%="$(BIN)/%") $(TOOLS:%="$(BIN)/%")
+	rm -f $(PROGRAMS:%="$(MAN)/%.1") $(TOOLS:%="$(MAN)/%.1")
+	rm -f $(PROGRAMS:%="$(BASH)/%") $(TOOLS:%="$(BASH)/%") "$(ZSH)/_mcf" "$(SHARED)/mcf.html"
 	rm -rf $(PACKAGES:%="$(PYTHON)/%") "$(PYTHON)/mcf"
 	rm -f "$(LIB)/libmcf.so.1" "$(LIB)/libmcf.so" "$(LIB)/libmcf.a" "$(LIB)/pkgconfig/mcf.pc" "$(INCLUDE)/mcf.h"
 	@rmdir "$(PYTHON)" "$(SHARED)" 2> /dev/null || true

@@ -1,16 +1,18 @@
-# Completion of mcf, mcfcheck, mcf_plan, mcf_explain and mcf_one for bash: source it, or put it where bash-completion looks. Where it has nothing to
+# Completion of mcf, mcfcheck, mcfplan, mcf_plan, mcf_explain and mcf_one for bash: source it, or put it where bash-completion looks. Where it has nothing to
 # say, names of files come. _mcf has the same words for zsh; python/tests/test_completion.py compares both with what the commands say themselves.
 
-# What may come after an option.
+# What may come after an option of a command.
 _mcf_values()
 {
-    case $1 in
-        --engine) echo auto cancel simplex scaling fast sap ;;
-        --pricing) echo first best block wide ;;
-        --form) echo full sparse 1 2 ;;
-        --unused | --short) echo allow refuse ;;
-        --each) echo who what both ;;
-        --decimal) echo , . ;;
+    case $1:$2 in
+        *:--engine) echo auto cancel simplex scaling fast sap ;;
+        *:--pricing) echo first best block wide ;;
+        *:--form) echo full sparse 1 2 ;;
+        mcfplan:--unused | mcfplan:--short) echo refuse allow ;;
+        *:--unused | *:--short) echo allow refuse ;;
+        *:--each) echo who what both ;;
+        mcfplan:--decimal) echo auto . , ;;
+        *:--decimal) echo , . ;;
     esac
 }
 
@@ -22,6 +24,8 @@ _mcf_options()
     case $1:$2 in
         mcf:solve) echo -h --help "$solve" ;;
         mcf:*) echo -h --help -V --version ;;
+        mcfplan:flow) echo -h --help --decimal --unused --short --penalty ;;
+        mcfplan:*) echo -h --help -V --version ;;
         mcf_one:*) echo "$solve" ;;
         mcf_plan:flow) echo -h --help "$plan" --unused --short --most-flow --penalty --no-picture ;;
         mcf_plan:pairs) echo -h --help "$plan" --each --maximise --maximize ;;
@@ -36,6 +40,7 @@ _mcf_subcommands()
 {
     case $1 in
         mcf) echo solve help ;;
+        mcfplan) echo flow help ;;
         mcf_plan) echo flow pairs diff ;;
     esac
 }
@@ -49,7 +54,7 @@ _mcf()
     elif [ "$before" = "=" ]; then
         before=${COMP_WORDS[COMP_CWORD - 2]}
     fi
-    words=$(_mcf_values "$before")
+    words=$(_mcf_values "$command" "$before")
     if [ -z "$words" ]; then
         case $COMP_CWORD:$word in
             1:-*) words=$(_mcf_options "$command") ;;
@@ -65,4 +70,4 @@ _mcf()
     fi
 }
 
-complete -o bashdefault -o default -F _mcf mcf mcfcheck mcf_plan mcf_explain mcf_one
+complete -o bashdefault -o default -F _mcf mcf mcfcheck mcfplan mcf_plan mcf_explain mcf_one

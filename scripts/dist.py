@@ -34,6 +34,7 @@ TARGETS = {"programs": "make", "library": "make library", "page": "make page"}
 BUILT = {
     "mcf": ("programs", "crates/"),
     "mcfcheck": ("programs", "crates/"),
+    "mcfplan": ("programs", "crates/"),
     "libmcf.so.1": ("library", "crates/"),
     "libmcf.a": ("library", "crates/"),
     "libmcf-aarch64.so": ("library", "crates/", "library/heap.c"),
@@ -192,7 +193,7 @@ def pack_deb(tree, path, version, at):
         )
     (tree / "usr/share/zsh/site-functions").rename(tree / "usr/share/zsh/vendor-completions")
     size = sum(file.lstat().st_size for file in tree.rglob("*") if file.is_file())
-    needed = libc(*(BIN / name for name in ("mcf", "mcfcheck", "libmcf.so.1")))
+    needed = libc(*(BIN / name for name in ("mcf", "mcfcheck", "mcfplan", "libmcf.so.1")))
     control = filled(
         "debian/control",
         VERSION=version,

@@ -65,9 +65,9 @@ assert importlib.metadata.version('yokdelm') == mcf.__version__
 assert any(e.name == 'mcf' for e in importlib.metadata.entry_points()['networkx.backends'])"
     step "what is said of licences" grep -q "no licence has been chosen yet" "$root/usr/share/doc/yokdelm/copyright"
     step "the linker finds the library" chroot "$root" sh -c "ldconfig -p | grep -q 'libmcf.so.1 '"
-    step "manual pages" chroot "$root" sh -ec 'for page in mcf mcfcheck mcf_plan mcf_explain mcf_one; do man "$page" | grep -q "^NAME"; done'
+    step "manual pages" chroot "$root" sh -ec 'for page in mcf mcfcheck mcfplan mcf_plan mcf_explain mcf_one; do man "$page" | grep -q "^NAME"; done'
     step "completion" chroot "$root" env MCF_BIN=/usr/bin python3 /src/python/tests/run.py test_completion
-    step "completion is loaded by bash" chroot "$root" bash -c '. /usr/share/bash-completion/completions/mcf_plan; complete -p mcf mcfcheck mcf_plan'
+    step "completion is loaded by bash" chroot "$root" bash -c '. /usr/share/bash-completion/completions/mcf_plan; complete -p mcf mcfcheck mcfplan mcf_plan'
     step "completion is loaded by zsh" chroot "$root" zsh -fc 'autoload -Uz compinit; compinit -u -D; [[ $_comps[mcf_plan] == _mcf ]]; autoload +X _mcf'
     step "the .deb removed" chroot "$root" dpkg -r yokdelm || return 1
     files_of "$root" > "$scratch/after"

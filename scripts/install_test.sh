@@ -29,6 +29,7 @@ programs() {
     step 0 "s 14" mcf solve transport.min
     step 0 "accepted flow 14" mcfcheck transport.min transport.ans
     step 0 "0 copy.min accepted flow 14" mcf_one copy.min
+    step 0 '"cost","980"' mcfplan flow plans/transport/places.csv plans/transport/routes.csv
 }
 
 tools() {
@@ -57,12 +58,12 @@ print(r.cost, r.flow)'
 
 # The completion that the shells load for each command.
 completion() {
-    for command in mcf mcfcheck mcf_plan mcf_explain mcf_one; do
+    for command in mcf mcfcheck mcfplan mcf_plan mcf_explain mcf_one; do
         step 0 "-F _mcf $command" bash -c '. "$1" && complete -p "$2"' bash "$root/usr/share/bash-completion/completions/$command" "$command"
     done
     if command -v zsh > /dev/null; then
-        step 0 "_mcf _mcf _mcf _mcf _mcf" zsh -fc 'fpath=($1 $fpath); autoload -Uz compinit; compinit -u -D
-            echo $_comps[mcf] $_comps[mcfcheck] $_comps[mcf_plan] $_comps[mcf_explain] $_comps[mcf_one]; autoload +X _mcf' zsh "$root/usr/share/zsh/site-functions"
+        step 0 "_mcf _mcf _mcf _mcf _mcf _mcf" zsh -fc 'fpath=($1 $fpath); autoload -Uz compinit; compinit -u -D
+            echo $_comps[mcf] $_comps[mcfcheck] $_comps[mcfplan] $_comps[mcf_plan] $_comps[mcf_explain] $_comps[mcf_one]; autoload +X _mcf' zsh "$root/usr/share/zsh/site-functions"
     else
         skip "the completion of zsh: there is no zsh"
     fi
@@ -78,7 +79,7 @@ pages() {
     done
 }
 
-[ -x bin/mcf ] && [ -x bin/mcfcheck ] || { skip "mcf and mcfcheck aren't built (make builds them)"; exit 0; }
+[ -x bin/mcf ] && [ -x bin/mcfcheck ] && [ -x bin/mcfplan ] || { skip "mcf, mcfcheck and mcfplan aren't built (make builds them)"; exit 0; }
 scratch=$(mktemp -d) || exit 1
 trap 'rm -rf "$scratch"' EXIT
 trap 'exit 130' INT TERM HUP PIPE

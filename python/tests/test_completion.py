@@ -8,12 +8,14 @@ import sys
 import unittest
 
 TOP = pathlib.Path(__file__).resolve().parents[2]
-SOLVER = pathlib.Path(os.environ.get("MCF_BIN", TOP / "bin"), "mcf")
+BIN = pathlib.Path(os.environ.get("MCF_BIN", TOP / "bin"))
 HELP = {"-h", "--help"}
 # The lines whose last word a shell completes: a command and its subcommand.
 LINES = (
     ("mcf",),
     ("mcf", "solve"),
+    ("mcfplan",),
+    ("mcfplan", "flow"),
     ("mcf_plan",),
     ("mcf_plan", "flow"),
     ("mcf_plan", "pairs"),
@@ -38,8 +40,8 @@ def said(*words):
 
 def helped(command, *words):
     """The options of a command in its help, each with its values if the help lists them."""
-    if command == "mcf":
-        text = said(SOLVER, *words, "--help").split("\nOptions:")[1].split("\n\n")[0]
+    if command in ("mcf", "mcfplan"):
+        text = said(BIN / command, *words, "--help").split("\nOptions:")[1].split("\n\n")[0]
         values = re.findall(r"(--[a-z-]+) <\w+> .*\[possible values: ([^]]*)\]", text)
         return set(options_in(text)), {option: named.split(", ") for option, named in values}
     text = said(sys.executable, TOP / "tools" / command, *words, "--help")
