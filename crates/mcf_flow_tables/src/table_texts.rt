@@ -31,7 +31,8 @@ fn first_row(text: &[u8]) -> usize
 
 /// Reads the rows of a text, from that of its heads on, or why it is no table. The fields are
 /// separated by the byte that the text names, or else by the one that splits the line of its heads
-/// best; the heads stand in the first of ten rows that has all the wanted ones, or else in the first.
+/// best; the heads stand in the first of ten rows that has all the wanted ones, or else in the
+/// first.
 ///
 /// # Errors
 ///

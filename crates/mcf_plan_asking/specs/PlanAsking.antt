@@ -43,7 +43,8 @@ penalty_rule = record (new_rule (codes "penalty")) { long = Some (codes "penalty
 abbrev pub table_rule : Text → Rule
 table_rule name = record (new_rule name) { value_names = 1 }
 
--- the arguments of `flow`, with these words for marks, for what may stay and for what may be missing
+-- the arguments of `flow`, with these words for marks, for what may stay and for what may be
+-- missing
 abbrev pub flow_rules : Bor (List (Bor Text)) → Bor (List (Bor Text)) → Bor (List (Bor Text)) → List Rule
 flow_rules marks unused short =
     mark_rule marks ∷ leave_rule (codes "unused") unused ∷ leave_rule (codes "short") short ∷ penalty_rule

@@ -35,8 +35,8 @@ static MARKS: [&str; 3] = ["auto", ".", ","];
 static LEAVES: [&str; 2] = ["refuse", "allow"];
 
 /// Parses the words of a command line: `mcfplan flow [--decimal auto|.|,] [--unused refuse|allow]
-/// [--short refuse|allow] [--penalty N] PLACES ROUTES`. The defaults are `auto` and `refuse`. PLACES
-/// and ROUTES may be left out here; it is for the caller to want them, and to read N.
+/// [--short refuse|allow] [--penalty N] PLACES ROUTES`. The defaults are `auto` and `refuse`.
+/// PLACES and ROUTES may be left out here; it is for the caller to want them, and to read N.
 ///
 /// The words begin with the name of the program, which isn't read.
 ///

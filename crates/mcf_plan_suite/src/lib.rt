@@ -1,7 +1,7 @@
 #![tactic(auto)]
 
-//! The whole planner's program: it does what the words of a command line ask, over a reader of files
-//! and two sinks, and reports by its exit status.
+//! The whole planner's program: it does what the words of a command line ask, over a reader of
+//! files and two sinks, and reports by its exit status.
 //!
 //! It builds on `mcf_plan_text`, which plans two tables, and on `mcf_plan_asking`, which reads a
 //! command line; it uses any solver that `mcf_model` takes. The definitions in `specs/`: `Planning`

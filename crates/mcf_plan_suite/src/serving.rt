@@ -197,11 +197,11 @@ fn answer<W: AsStr, S: Solves, R: FnMut(&str) -> Result<Vec<u8>, FileFault>, O: 
 ///
 /// The words begin with the name of the program: `mcfplan flow [--decimal MARK] [--unused WORD]
 /// [--short WORD] [--penalty N] PLACES ROUTES`, as `plan_command` reads them, or `mcfplan
-/// --version`. `read` returns the bytes of a file; it is called for PLACES first. The answer goes to
-/// `out`, as the text of a table, which `plan_text` describes. Status 0 means a least plan, or the
-/// requested help or version on `out`; 1 that there is no plan; 2 faults. Status 3, with a line or
-/// the text of the usage fault on `err`, means that the words aren't a command of `mcfplan`, a file
-/// can't be read, writing fails, or memory runs out.
+/// --version`. `read` returns the bytes of a file; it is called for PLACES first. The answer goes
+/// to `out`, as the text of a table, which `plan_text` describes. Status 0 means a least plan, or
+/// the requested help or version on `out`; 1 that there is no plan; 2 faults. Status 3, with a line
+/// or the text of the usage fault on `err`, means that the words aren't a command of `mcfplan`, a
+/// file can't be read, writing fails, or memory runs out.
 pub fn serve_plan<
     W: AsStr,
     S: Solves,

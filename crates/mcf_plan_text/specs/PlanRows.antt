@@ -48,8 +48,8 @@ place_row scales places stays missing place =
     codes "place" ∷ decimal (line_at places (suc place)) ∷ cell_under (codes "name") places (suc place)
     ∷ amount_text scales (slice_index_or stays place (pos 0)) ∷ amount_text scales (slice_index_or missing place (pos 0)) ∷ []
 
--- what goes back on the route of a row, if that is an amount of its own: `back`, its line, its ends,
--- the amount
+-- what goes back on the route of a row, if that is an amount of its own: `back`, its line, its
+-- ends, the amount
 abbrev pub back_row : Scales → List Record → List ℤ → List ℕ → ℕ → List (List ℕ)
 back_row scales routes backs returning place =
     let row = slice_index_or returning place 0 in

@@ -78,7 +78,8 @@ answer_kind (Tables said) = table_kind said.answer
 
 -- ---- the text
 
--- the text says an answer to two texts: its rows, each cell between quotes, with commas between them
+-- the text says an answer to two texts: its rows, each cell between quotes, with commas between
+-- them
 pub record IsPlanText (places routes : List ℕ) (options : Options) (text : PlanText) : Type 0 where
   pub answer : FlowAnswer
   pub answers : IsFlowAnswer places routes options answer
