@@ -18,6 +18,8 @@ PART
   net       builds the net of a million arcs, and visits the residual arcs of each node
   pieces    reads a text of 100 MB in pieces, beside reading it at once, as whole processes, with
             their peak memory
+  plans     plans tables of 128 to a million routes, beside `mcf solve` and LEMON on the same nets
+            as instances, as whole processes (bench/plans.py); prints a table
   raise     raises prices of a least-cost flow to the greatest ones, in nets of three families and
             of rising size
   read      reads an instance, and keeps it in 32 bytes an arc
@@ -55,6 +57,7 @@ import typing
 
 import assignments
 import pieces
+import plans
 import processes
 import programs
 import table
@@ -186,7 +189,7 @@ REPEATED = {"feasible", "net", "raise", "recover"}
 # ratio
 LEMON = {"scaling": ("cs", 9), "simplex": ("ns", 2.5)}
 # the parts with their own modules
-WHOLE = ("assign", "fast", "matrices", "pieces", "table")
+WHOLE = ("assign", "fast", "matrices", "pieces", "plans", "table")
 # the parts with LEMON as their only peer
 LEMON_ALONE = {"simplex"}
 # the seconds to leave out beside a peer of our own
@@ -295,6 +298,8 @@ def measure(part, words):
         return measure_matrices()
     if part == "pieces":
         return pieces.measure(words)
+    if part == "plans":
+        return plans.measure(words, lemon_program() if has_lemon() else None, family_file)
     if part == "table":
         return table.measure(words, lemon_program() if has_lemon() else None, family_file)
     maker, limit = PARTS[part]

@@ -40,9 +40,22 @@ SECONDS, FEWEST, MOST_RUNS = 8, 1, 5
 OURS = "mcf"
 
 
+def cost_of(lines):
+    """The cost that a program prints: on a line `s COST`, or in a word `cost=COST`."""
+    for line in lines:
+        if line.startswith("s "):
+            return line.split()[1]
+        for word in line.split():
+            if word.startswith("cost="):
+                return word.partition("=")[2]
+    return None
+
+
 class Run:
     """The least processor seconds of some runs, the greatest peak memory in megabytes, and the
     cost."""
+
+    cost_of = staticmethod(cost_of)
 
     def __init__(self):
         self.seconds, self.peak, self.cost = float("inf"), 0.0, None
@@ -55,26 +68,15 @@ class Run:
             if status:
                 sys.exit(f"{' '.join(command)} ended with status {process.returncode}")
             out.seek(0)
-            self.cost = cost_of(out)
+            self.cost = self.cost_of(out)
         self.seconds = min(self.seconds, usage.ru_utime + usage.ru_stime)
         self.peak = max(self.peak, usage.ru_maxrss / 1024)
 
 
-def cost_of(lines):
-    """The cost that a program prints: on a line `s COST`, or in a word `cost=COST`."""
-    for line in lines:
-        if line.startswith("s "):
-            return line.split()[1]
-        for word in line.split():
-            if word.startswith("cost="):
-                return word.partition("=")[2]
-    return None
-
-
-def measured(commands, most=MOST_RUNS, fewest=FEWEST, seconds=SECONDS):
+def measured(commands, most=MOST_RUNS, fewest=FEWEST, seconds=SECONDS, kinds=None):
     """Runs the commands in turn for some seconds, within the limits on the number of runs. Returns
-    the measurements of each."""
-    runs = {name: Run() for name in commands}
+    the measurements of each, in a `Run` or the kind that is named for it."""
+    runs = {name: (kinds or {}).get(name, Run)() for name in commands}
     start = time.monotonic()
     for turn in range(most):
         if turn >= fewest and time.monotonic() - start > seconds:

@@ -2,9 +2,9 @@
 //!
 //! A bad case is a net on which the search is expected to be faster than the simplex. The rule
 //! decides after each quarter: a quarter of as many pivots as the net has nodes, so that four
-//! quarters have as many. It reads what the run counts (`RunCounts`). Only counts decide, never a
-//! clock, so that a net is always answered in the same way. No clause states what is decided: the
-//! answer is right in any case.
+//! quarters have as many; and within the first one. It reads what the run counts (`RunCounts`).
+//! Only counts decide, never a clock, so that a net is always answered in the same way. No clause
+//! states what is decided: the answer is right in any case.
 //!
 //! A pivot moves the nodes of the part of the tree that it attaches elsewhere, whose prices change.
 //! A node sends to the root as long as its artificial arc, between it and the root of the tree,
@@ -27,12 +27,22 @@ const DENSE: u64 = 64;
 // on all families.
 const LEAST_NODES_TO_LEAVE: u32 = 1_500;
 
-// From this many nodes on, it pays to leave a run after the first quarter if the eligible arcs form
-// a front: they lie close together.
+// From this many nodes on, it pays to leave a run within the first quarter if the eligible arcs
+// form a front: they lie close together, as in long grids, so that most blocks hold none. It is
+// tested after each of this many parts of the quarter, by how often all arcs were scanned: the
+// whole quarter scans them 1,477 times in a grid of 16 rows and 2^17 nodes.
 const FRONT_NODES: u32 = 8_000;
+
+const FRONT_PARTS: u32 = 16;
+
+const FRONT_READINGS: u64 = 80;
 
 // From this many nodes on, it pays to leave a run after four quarters, and after six.
 const MANY_NODES: u32 = 12_000;
+
+// From this many nodes on, two quarters suffice if most pivots push flow: the next two take a fifth
+// of the time at 2^16 nodes (family `star`).
+const PUSHING_NODES: u32 = 50_000;
 
 // From this many nodes on, how many nodes a pivot moves decides (`of_large`). Until that decision,
 // the blocks of such nets have fewer arcs.
@@ -96,6 +106,8 @@ pub(crate) struct Watch {
     // The number of pivots in a quarter, and the number of quarters so far.
     step: u32,
     quarters: u32,
+    // The number of pivots in a part of the first quarter.
+    part: u32,
     // The number of artificial arcs that carried something at the start.
     first_loaded: u64,
     before: RunCounts,
@@ -151,7 +163,8 @@ pub(crate) fn rule_for(net: &Net) -> Following
 impl Watch {
     /// The watch over a run that has made no pivot.
     pub(crate) fn of(net: &Net, counts: RunCounts) -> Watch
-        ensures { 1 ≤ result.step }
+        ensures step { 1 ≤ result.step }
+        ensures part { 1 ≤ result.part }
     {
         let nodes = net.node_count();
         Watch {
@@ -159,6 +172,7 @@ impl Watch {
             arcs: u64::from(net.arc_count()),
             step: (nodes / 4).max(1),
             quarters: 0,
+            part: (nodes / (4 * FRONT_PARTS)).max(1),
             first_loaded: counts.loaded,
             before: counts,
             is_dense: is_dense(net),
@@ -168,10 +182,15 @@ impl Watch {
 
     /// The number of pivots until the next decision.
     pub(crate) fn step(&self) -> u32
-        requires { 1 ≤ self.now.step }
+        requires step { 1 ≤ self.now.step }
+        requires part { 1 ≤ self.now.part }
         ensures { 1 ≤ result }
     {
-        self.step
+        if self.quarters == 0 {
+            self.part
+        } else {
+            self.step
+        }
     }
 
     /// The least number of arcs in a block at first.
@@ -183,10 +202,17 @@ impl Watch {
         }
     }
 
-    /// The decision after the last quarter of pivots.
+    /// The decision after the last quarter of pivots, or within the first one.
     pub(crate) fn decide(&mut self, counts: RunCounts) -> Decision
-        ensures { self.new.step ≡ self.old.step }
+        ensures step { self.new.step ≡ self.old.step }
+        ensures part { self.new.part ≡ self.old.part }
     {
+        if self.quarters == 0 && self.is_front(&counts) {
+            return Decision::Leave;
+        }
+        if counts.pivots < u64::from(self.step) {
+            return Decision::Wait;
+        }
         let quarter = Quarter {
             step: u64::from(self.step),
             moved: counts.moved.wrapping_sub(self.before.moved),
@@ -206,6 +232,9 @@ impl Watch {
         if self.is_dense {
             return Decision::Wait;
         }
+        if self.quarters == 2 && self.nodes >= PUSHING_NODES && is_moving(quarter, counts) {
+            return Decision::Leave;
+        }
         if self.quarters == 2 && is_busy(counts) {
             return Decision::Split(self.busy_stretches());
         }
@@ -217,9 +246,6 @@ impl Watch {
         }
         if self.is_sure {
             return Decision::Wait;
-        }
-        if self.quarters < 4 {
-            return self.of_front(counts);
         }
         if self.quarters < 6 {
             return self.of_first_round(quarter, counts);
@@ -253,16 +279,10 @@ impl Watch {
         }
     }
 
-    // The run is left after the first quarter if it has scanned more than 80 times all arcs. Most
-    // blocks then hold no eligible arc, since the eligible arcs lie close together, as in long
-    // grids.
-    fn of_front(&self, counts: &RunCounts) -> Decision {
-        let is_front = 80u64.wrapping_mul(self.arcs) < counts.scanned;
-        if self.quarters == 1 && is_front && FRONT_NODES <= self.nodes {
-            Decision::Leave
-        } else {
-            Decision::Wait
-        }
+    // Whether the eligible arcs form a front, in a net of many nodes that isn't dense.
+    fn is_front(&self, counts: &RunCounts) -> bool {
+        let is_front = FRONT_READINGS.wrapping_mul(self.arcs) < counts.scanned;
+        is_front && FRONT_NODES <= self.nodes && !self.is_dense
     }
 
     // After as many pivots as there are nodes. The run is left if nearly all senders still send to
@@ -273,9 +293,8 @@ impl Watch {
             return Decision::Wait;
         }
         let is_stuck = quarter.is_still_loaded(95) && 8 <= self.first_loaded;
-        let is_moving = counts.still.wrapping_mul(2) < counts.pivots && quarter.is_still_loaded(11);
         let is_large = MANY_NODES <= self.nodes;
-        let is_slow = is_moving && least_moving_nodes(counts) <= self.nodes;
+        let is_slow = is_moving(quarter, counts) && least_moving_nodes(counts) <= self.nodes;
         if (is_stuck && is_large) || is_slow {
             return Decision::Leave;
         }
@@ -329,6 +348,11 @@ impl Watch {
             Decision::Stay
         }
     }
+}
+
+// Whether most pivots push flow, and many nodes still send to the root.
+fn is_moving(quarter: &Quarter, counts: &RunCounts) -> bool {
+    counts.still.wrapping_mul(2) < counts.pivots && quarter.is_still_loaded(11)
 }
 
 // Whether many pivots push flow, but not nearly all: between an eighth and a half of all so far are

@@ -10,7 +10,8 @@ quarters-init c =
     record {
       run = subst (λ (r : RunState FollowingRule). IsRunOf c.args.net.now r) (sym c.set_least_arcs.ensures)
           (run_start c.args.net.now c.in_ok-run.run' c.in_ok-run.ensures.basis (c.in_ok-run.ensures.rule ∙ c.rule_for.ensures));
-      step = c.of-watch.ensures;
+      step = c.of-watch.ensures.step;
+      part = c.of-watch.ensures.part;
     }
 
 pub returns-then-eq : goal.returns-then-eq
@@ -29,7 +30,8 @@ quarters-preserved c =
     record {
       run = subst (λ (r : RunState FollowingRule). IsRunOf c.args.net.now r) (sym c.obey.ensures)
           (run_on c.args.net.now c.quarters.run c.advance.new.self c.quarters.invariant.run c.step.result c.quarters-test.ensures.run);
-      step = (let same = c.decide-decision.ensures in let some = c.quarters.invariant.step in omega (arith, same, some));
+      step = (let same = c.decide-decision.ensures.step in let some = c.quarters.invariant.step in omega (arith, same, some));
+      part = (let same = c.decide-decision.ensures.part in let some = c.quarters.invariant.part in omega (arith, same, some));
     }
 
 pub returns : goal.returns

@@ -8,6 +8,7 @@ invariant-quarters l =
     record {
       run : IsRunOf l.net l.run;
       step : 1 ≤ l.watch.step;
+      part : 1 ≤ l.watch.part;
     }
 
 abbrev pub decreases-quarters : goal.decreases-quarters
