@@ -5,3 +5,5 @@ mod Chains
 mod FigureBounds
 mod Told
 mod LooseRoutes
+mod Forests
+mod Classes

@@ -1,5 +1,5 @@
 -- What one unit more costs on a route.
-use Rattle.std.proofs.Common.{◌≡◌, ℕ, zero, suc, ◌+◌, ◌<◌, List, [], ◌∷◌, add-one, ap, sym, ◌∙◌, arith, get_or, length, take, ℤ, pos, ◌+ℤ◌, ◌-ℤ◌, ◌≤ℤ◌}
+use Rattle.std.proofs.Common.{◌≡◌, List, [], ◌∷◌, arith, ℤ, pos, ◌+ℤ◌, ◌-ℤ◌, ◌≤ℤ◌}
 use Rattle.std.specs.Prelude.{Some}
 use Rattle.std.specs.Int.{int_min}
 use Rattle.std.proofs.Math.IntN.{◌*ℤ◌}
@@ -69,18 +69,3 @@ charge_no_less k (s ∷ steps) c x h =
     let there : int_min (x +ℤ pos 1) s.most ≡ s.most = omega (arith, ints, clamps, more) in
     let e1 : (x +ℤ pos 1) -ℤ s.most ≡ (x -ℤ s.most) +ℤ pos 1 = omega (arith, ints) in
     rw (here, there, e1) (omega (arith, ints, charge_no_less k steps c (x -ℤ s.most) h.1)))
-
--- ---- the room of steps, as a loop adds it up
-
-pub room_plus : (steps : List Step) (most : ℤ) → room steps most ≡ room steps (pos 0) +ℤ most
-room_plus [] most = omega (arith, ints)
-room_plus (s ∷ steps) most = omega (arith, ints, room_plus steps most)
-
-pub room_next : (steps : List Step) (i : ℕ) (d : Step) (x : ℤ) → x ≡ (get_or steps i d).most → i < length steps
-    → room (take (i + 1) steps) (pos 0) ≡ room (take i steps) (pos 0) +ℤ x
-room_next steps i d x e h = rw add-one (go steps i h ∙ ap (λ z. room (take i steps) (pos 0) +ℤ z) (sym e))
-  where
-    go : (steps : List Step) (i : ℕ) → i < length steps → room (take (suc i) steps) (pos 0) ≡ room (take i steps) (pos 0) +ℤ (get_or steps i d).most
-    go [] i h = absurd (omega arith)
-    go (s ∷ steps) zero h = omega (arith, ints)
-    go (s ∷ steps) (suc i) h = omega (arith, ints, go steps i (omega arith))

@@ -5,4 +5,5 @@ pub mod Changes
 pub mod Figures
 pub mod FigureLaws
 pub mod Told
+pub mod Groups
 pub mod Private

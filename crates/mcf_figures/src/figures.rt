@@ -76,6 +76,7 @@ fn figures_of(
     requires { All (λ s. pos 0 ≤ℤ s.most) own.now }
     ensures some { IfSome result (AreNumbers (route_with row own.now) carried (tail -ℤ head)) }
     ensures none { IfNone result (¬ AreSmall carried tail head) }
+    ensures small { IfSome result (λ f. AreSmall carried tail head) }
 {
     let small = is_small(carried);
     let small_tail = is_small(tail);
@@ -101,6 +102,7 @@ pub fn route_figures(
 ) -> Option<RouteFigures>
     ensures some { IfSome result (AreRouteFigures prices.now (slice_index_or model.now.routes place no_route) (slice_index_or carries.now place (pos 0))) }
     ensures none { IfNone result (¬ HasFigures model.now prices.now carries.now place) }
+    ensures has { IfSome result (λ f. HasFigures model.now prices.now carries.now place) }
 {
     if model.route_count() <= place {
         return None;

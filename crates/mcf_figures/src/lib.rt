@@ -4,11 +4,12 @@
 //! the places between which a unit costs what their prices say.
 //!
 //! It builds on `mcf_model`, whose least plans come with prices that show them. The definitions are
-//! in `specs/`: `Changes` has models with one unit more, `Figures` the figures, and `FigureLaws`
-//! what they say of these models. No definition names a network.
+//! in `specs/`: `Changes` has models with one unit more, `Figures` the figures, `Groups` the groups
+//! of places, and `FigureLaws` what the figures say of these models. No definition names a network.
 
 mod figure_laws;
 mod figures;
+mod groups;
 mod loose;
 mod units;
 
@@ -16,3 +17,4 @@ pub use figure_laws::{
     exact_savings_are_reached, joined_prices_are_reached, prices_are_bounds, savings_are_bounds,
 };
 pub use figures::{RouteFigures, route_figures};
+pub use groups::{groups_of, is_exact};

@@ -7,8 +7,7 @@ ghost use Rattle.mcf_model.specs.Tables.{route_with};
 ghost use Rattle.mcf_figures.specs.Figures.{figure_limit};
 ghost use Rattle.mcf_figures.specs.Private.Units.{all_four, fits_more, is_between, is_between_both, is_loose, is_still, unit_cost};
 
-use crate::units::room;
-use mcf_model::{RouteRow, Step};
+use mcf_model::{RouteRow, Step, room};
 
 // Returns what is left of an amount after a step is filled, or `None` if one unit more fits it.
 fn past(step: Step, amount: i128) -> Option<i128>
@@ -103,8 +102,8 @@ fn is_still(row: RouteRow, own: &[Step], drop: i128) -> bool
     all_four(true, fits, next, drop == 0)
 }
 
-// Returns whether a number is 0.
-fn is_zero(number: i128) -> bool
+/// Returns whether a number is 0.
+pub(crate) fn is_zero(number: i128) -> bool
     ensures { result ≡ int_eq number (pos 0) }
 {
     number == 0

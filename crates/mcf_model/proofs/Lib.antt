@@ -18,3 +18,4 @@ pub mod FaultTests
 pub mod Proper
 mod Capped
 pub mod Planners
+pub mod RoomSums

@@ -16,6 +16,7 @@ mod laws;
 mod plan_model;
 mod planning;
 mod reach;
+mod rooms;
 mod rows;
 
 pub use arcs::arcs_of;
@@ -30,4 +31,5 @@ pub use laws::{
 pub use plan_model::{PlanModel, RouteParts};
 pub use planning::{Bottleneck, LeastPlan, Planned, ShownFlow, Solved, Solves, plan};
 pub use reach::reach_of;
+pub use rooms::room;
 pub use rows::{RouteRow, Step, own_steps};

@@ -1,6 +1,6 @@
 use Rattle.std.proofs.Common.{◌≡◌, ◌*◌, ◌^◌, take, pos, neg_ℤ, ◌≤ℤ◌}
 use Rattle.mcf_model.specs.Model.{room}
-use Rattle.mcf_figures.proofs.units.rooms.Given as goal
+use Rattle.mcf_model.proofs.rooms.rooms.Given as goal
 
 abbrev pub invariant-loop-place : goal.invariant-loop-place
 invariant-loop-place l = record {

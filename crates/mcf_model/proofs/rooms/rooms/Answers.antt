@@ -1,7 +1,7 @@
 use Rattle.std.proofs.Common.{rules, ◌^◌, ◌<◌, arith}
 use Rattle.std.proofs.lemmas.Int.{ints}
-use Rattle.mcf_figures.proofs.UnitCosts.{room_next}
-use Rattle.mcf_figures.proofs.units.rooms.Goals as goal
+use Rattle.mcf_model.proofs.RoomSums.{room_next}
+use Rattle.mcf_model.proofs.rooms.rooms.Goals as goal
 
 pub loop-place-preserved : goal.loop-place-preserved
 loop-place-preserved c =
