@@ -323,7 +323,7 @@ module _ (P : Planner) where
       }
 
   pub answer_limited : (a : PlannerAnswer) → IsStagedAnswer (limited P) a → IsPlannerAnswer P a
-  answer_limited (Least p) h = best_limited p h
+  answer_limited (Least p) h = (best_limited p h.0, h.1)
   answer_limited (NoPlan b) h = none_limited b h
   answer_limited (Beyond fault) h = h
 

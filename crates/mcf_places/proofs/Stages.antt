@@ -13,13 +13,14 @@ use Rattle.mcf_model.specs.declared.planning.Bottleneck.{Bottleneck}
 use Rattle.mcf_model.specs.declared.planning.LeastPlan.{LeastPlan}
 use Rattle.mcf_model.specs.declared.planning.Planned.{Planned}
 use Rattle.mcf_model.specs.declared.planning.Planned.TheVariants.{Plan as Found}
-use Rattle.mcf_model.specs.Model.{IsLeastPlan as IsLeastModelPlan, Model}
+use Rattle.mcf_model.specs.Model.{IsLeastPlan as IsLeastModelPlan, IsPlan as IsModelPlan, Model}
+use Rattle.mcf_model.specs.Prices.{ShowsPlan}
 use Rattle.mcf_model.specs.Planning.{HasNoPlan, IsBestPlan, IsPlanned}
 use Rattle.mcf_places.specs.declared.faults.TheConstants.{SUM_LIMIT}
 use Rattle.mcf_places.specs.declared.answering.LeastPlannerPlan.{LeastPlannerPlan}
 use Rattle.mcf_places.specs.declared.places.Place.{Place}
 use Rattle.mcf_places.specs.declared.told.PlannerBottleneck.{PlannerBottleneck}
-use Rattle.mcf_places.specs.Answers.{HasNoPlannerPlan, IsBestPlannerPlan, IsLeastMissing, IsToldBottleneck, StandsFor, has_stages}
+use Rattle.mcf_places.specs.Answers.{HasNoPlannerPlan, IsAllowed, IsBestPlannerPlan, IsLeastMissing, IsShownIn, IsToldBottleneck, StandsFor, has_stages}
 use Rattle.mcf_places.specs.FinerPlanners.{finer, finer_plan}
 use Rattle.mcf_places.specs.Models.{amounts_by, supplies_of, model_of, plan_of, routes_of}
 use Rattle.mcf_places.specs.PlannerBottlenecks.{PlannerBottlenecksHaveNoPlan}
@@ -136,6 +137,22 @@ module _ (most : ℤ) (P : Planner) (proper : IsProperPlanner P) (stands : Stand
             (subst (λ m. IsLeastModelPlan m (map (λ z. k *ℤ z) plan)) (sym (model_finer k k1 P most)) (best.least_in_finer_units k k1)));
         missing_is = g (before_gate P (plan_of P plan)) (total_missing P (plan_of P plan)) (sym mine.back_again ∙ sym (gate_last P (plan_of P plan)))
             ∙ ap (total_missing P) (sym e);
+      }
+
+  -- the prices of the model's least plan show the plan that is read from it
+  pub shown_plan : IsAllowed (has_stages P.policy.short P.policy.penalty) most P → (found : LeastPlan) (made : LeastPlannerPlan)
+      → IsBestPlan (model_of most P) found → plan_in made.plan ≡ plan_of P found.carries.items → made.shown.model ≡ model_of most P
+      → made.shown.carries.items ≡ found.carries.items → made.shown.prices.items ≡ found.prices.items → IsShownIn P made
+  shown_plan allowed found made best e f g h =
+      record {
+        most = most;
+        allowed = allowed;
+        model_is = f;
+        plan_is = e ∙ ap (plan_of P) (sym g);
+        is_plan = subst (λ m. IsModelPlan m made.shown.carries.items) (sym f) (subst (IsModelPlan (model_of most P)) (sym g) best.least.is_plan);
+        shown = subst (λ m. ShowsPlan m.routes made.shown.prices.items made.shown.carries.items) (sym f)
+            (subst (λ ps. ShowsPlan (model_of most P).routes ps made.shown.carries.items) (sym h)
+            (subst (ShowsPlan (model_of most P).routes found.prices.items) (sym g) best.shown));
       }
 
   pub no_planner_plan : PlannerBottlenecksHaveNoPlan → (b : Bottleneck) (made : PlannerBottleneck) → HasNoPlan (model_of most P) b → IsToldBottleneck P b made → HasNoPlannerPlan P made
@@ -260,3 +277,12 @@ pub stage_one : (P short : Planner) (most sent : ℤ) (model : Model) (planned :
 stage_one P short most sent model planned found proper is most_is sent_is model_is planned_is h =
     least_missing_is most P proper (most_is ∙ ap (λ R. when R.policy.short (all_wanted R.places)) is) found
     (planned_of model (model_of most (shortage_of P)) planned (Found found) (model_is ∙ ap (λ z. model_of z short) sent_is ∙ ap (model_of most) is) planned_is h)
+
+-- what may be missing in the last stage
+pub allowed_at_once : (most : ℤ) (P : Planner) (stages : Bool) → stages ≡ false → most ≡ when P.policy.short (all_wanted P.places) → IsAllowed stages most P
+allowed_at_once most P true two is = cc two
+allowed_at_once most P false one is = is
+
+pub allowed_least : (most : ℤ) (P : Planner) (stages : Bool) → stages ≡ true → IsLeastMissing most P → IsAllowed stages most P
+allowed_least most P true two least = least
+allowed_least most P false one least = cc one

@@ -8,6 +8,8 @@ use Rattle.mcf_instance.specs.declared.arrays.ArrayFault.{ArrayFault}
 use Rattle.mcf_instance.specs.Arrays.{array_fault}
 use Rattle.mcf_model.specs.declared.planning.Bottleneck.{Bottleneck}
 use Rattle.mcf_model.specs.Arcs.{network_of, reach_of}
+use Rattle.mcf_model.specs.Model.{IsPlan as IsModelPlan}
+use Rattle.mcf_model.specs.Prices.{ShowsPlan}
 use Rattle.mcf_places.specs.declared.answering.LeastPlannerPlan.{LeastPlannerPlan}
 use Rattle.mcf_places.specs.declared.answering.Missed.{Missed}
 use Rattle.mcf_places.specs.declared.answering.Missed.TheVariants.{Missing, Unplanned, TooGreat}
@@ -16,7 +18,7 @@ use Rattle.mcf_places.specs.declared.answering.PlannerAnswer.TheVariants.{Least,
 use Rattle.mcf_places.specs.declared.told.PlannerBottleneck.{PlannerBottleneck}
 use Rattle.mcf_places.specs.FinerPlanners.{finer, finer_plan}
 use Rattle.mcf_places.specs.LimitedPlanners.{limited}
-use Rattle.mcf_places.specs.Models.{exit_of, hub_of, model_of}
+use Rattle.mcf_places.specs.Models.{exit_of, hub_of, model_of, plan_of}
 use Rattle.mcf_places.specs.PlannerBottlenecks.{IsPlannerBottleneck, PlaceSet}
 use Rattle.mcf_places.specs.PlannerLaws.{LeavesEnough}
 use Rattle.mcf_places.specs.Planners.{IsLeastPlan, IsPlan, Plan, Planner, all_wanted, cost, total_missing}
@@ -51,6 +53,27 @@ pub record IsLeastMissing (most : ℤ) (P : Planner) : Type 0 where
   pub least : (other : Plan) → IsPlan P other → most ≤ℤ total_missing P other
   pub least_in_finer_units : (k : ℤ) (other : Plan) → pos 1 ≤ℤ k → IsPlan (finer k P) other → (k *ℤ most) ≤ℤ total_missing (finer k P) other
 
+-- the least that may be missing has to be found first
+abbrev pub has_stages : Bool → Option ℤ → Bool
+has_stages true None = true
+has_stages true (Some penalty) = false
+has_stages false penalty = false
+
+-- so much may be missing in the model of the problem that is solved last: the least that is missing
+-- in a plan, if that has to be found first, and otherwise what places want
+abbrev pub IsAllowed : Bool → ℤ → Planner → Type 0
+IsAllowed true most P = IsLeastMissing most P
+IsAllowed false most P = most ≡ when P.policy.short (all_wanted P.places)
+
+-- the model that is solved last, a plan of it that the plan is read from, and prices that show it
+pub record IsShownIn (P : Planner) (p : LeastPlannerPlan) : Type 0 where
+  pub most : ℤ
+  pub allowed : IsAllowed (has_stages P.policy.short P.policy.penalty) most P
+  pub model_is : p.shown.model ≡ model_of most P
+  pub plan_is : plan_in p.plan ≡ plan_of P p.shown.carries.items
+  pub is_plan : IsModelPlan p.shown.model p.shown.carries.items
+  pub shown : ShowsPlan p.shown.model.routes p.shown.prices.items p.shown.carries.items
+
 -- the first fault of the network of a model of the problem, in which as much may be missing as
 -- places want, or the least that is missing in a plan
 pub record IsBeyond (P : Planner) (fault : ArrayFault) : Type 0 where
@@ -58,10 +81,10 @@ pub record IsBeyond (P : Planner) (fault : ArrayFault) : Type 0 where
   pub all_or_least : (most ≡ when P.policy.short (all_wanted P.places)) ⊎ IsLeastMissing most P
   pub beyond : array_fault limits (network_of (reach_of (model_of most P)) (model_of most P)) ≡ Some fault
 
--- a least plan; or places that are a bottleneck; or the first number beyond the limits, of the
--- problem in which bounds have the limits that they need
+-- a least plan, with the model of the problem in which bounds have the limits that they need; or
+-- places that are a bottleneck; or the first number beyond the limits of that problem
 abbrev pub IsPlannerAnswer : Planner → PlannerAnswer → Type 0
-IsPlannerAnswer P (Least p) = IsBestPlannerPlan P p
+IsPlannerAnswer P (Least p) = IsBestPlannerPlan P p × IsShownIn (limited P) p
 IsPlannerAnswer P (NoPlan b) = HasNoPlannerPlan P b
 IsPlannerAnswer P (Beyond fault) = IsBeyond (limited P) fault ⊎ IsBeyond (shortage_of (limited P)) fault
 
@@ -69,15 +92,9 @@ IsPlannerAnswer P (Beyond fault) = IsBeyond (limited P) fault ⊎ IsBeyond (shor
 
 -- the answer for a problem in which bounds have the limits that they need
 abbrev pub IsStagedAnswer : Planner → PlannerAnswer → Type 0
-IsStagedAnswer P (Least p) = IsBestPlannerPlan P p
+IsStagedAnswer P (Least p) = IsBestPlannerPlan P p × IsShownIn P p
 IsStagedAnswer P (NoPlan b) = HasNoPlannerPlan P b
 IsStagedAnswer P (Beyond fault) = IsBeyond P fault ⊎ IsBeyond (shortage_of P) fault
-
--- the least that may be missing has to be found first
-abbrev pub has_stages : Bool → Option ℤ → Bool
-has_stages true None = true
-has_stages true (Some penalty) = false
-has_stages false penalty = false
 
 -- a model in which no more than `most` is missing stands for the problem: its least plans are least
 -- plans of the problem, in finer units, too; and it has all plans, or it has the one that misses

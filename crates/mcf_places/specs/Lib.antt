@@ -4,6 +4,7 @@ pub use Rattle.mcf_model.specs.Bottlenecks
 pub use Rattle.mcf_model.specs.Complements
 pub use Rattle.mcf_model.specs.Faults
 pub use Rattle.mcf_model.specs.Laws
+pub use Rattle.mcf_model.specs.Prices
 pub use Rattle.mcf_model.specs.Arcs
 pub use Rattle.mcf_instance.specs.Arrays
 pub use Rattle.mcf_flows.specs.Limits
@@ -22,3 +23,4 @@ pub mod FinerPlanners
 pub mod Told
 pub mod Origins
 pub mod Answers
+pub mod Crossings

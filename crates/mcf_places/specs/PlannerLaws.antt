@@ -3,10 +3,10 @@
 use Rattle.std.specs.Prelude.{◌≡◌, ℕ, Bool, true, false, ◌&&◌, ◌||◌, List, length, ℤ, ◌≤ℤ◌, Option, Some, None}
 use Rattle.std.specs.List.{All}
 use Rattle.std.specs.Option.{is_some}
-use Rattle.mcf_flows.specs.Network.{when}
-use Rattle.mcf_model.specs.Model.{IsLeastPlan as IsLeastModelPlan, IsPlan as IsModelPlan, IsSoundRoute, Route, plan_cost}
+use Rattle.mcf_flows.specs.Network.{IsNode, when}
+use Rattle.mcf_model.specs.Model.{IsLeastPlan as IsLeastModelPlan, IsPlan as IsModelPlan, IsSound as IsSoundModel, IsSoundRoute, Route, plan_cost}
 use Rattle.mcf_places.specs.declared.places.Place.{Place}
-use Rattle.mcf_places.specs.Models.{model_of, place_at, plan_of, routes_of}
+use Rattle.mcf_places.specs.Models.{exit_of, model_of, place_at, plan_of, routes_of}
 use Rattle.mcf_places.specs.Planners.{IsLeastPlan, IsPlan, Plan, Planner, all_wanted, cost, total_missing}
 
 -- what passes through the place with a number has bounds
@@ -63,3 +63,9 @@ LeastModelPlansAreLeast =
 -- what is wanted in total, or nothing if no demand may be missing, bounds what any plan misses
 abbrev pub PlansMissNoMore : Type 0
 PlansMissNoMore = (P : Planner) (x : Plan) → IsPlan P x → total_missing P x ≤ℤ when P.policy.short (all_wanted P.places)
+
+-- the model of a sound problem is sound, and the exit of each place is a place of it
+pub record SoundPlannersHaveSoundModels : Type 0 where
+  pub sound_model : (most : ℤ) (P : Planner) → IsSound P → IsSoundModel (model_of most P)
+  pub exit_is_place : (most : ℤ) (P : Planner) (v : ℕ) → IsNode (length P.places) v
+      → IsNode (length (model_of most P).supplies) (exit_of P.places v)

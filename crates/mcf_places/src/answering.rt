@@ -1,7 +1,7 @@
 //! The least plan of a planner's problem, or the reason why it has no plan.
 ghost use Rattle.std.specs.Prelude.{◌≡◌, ◌++◌, ◌∷◌, [], ◌≤ℤ◌, ℤ, IfOk, List, pos};
 ghost use Rattle.mcf_flows.specs.Network.{when};
-ghost use Rattle.mcf_places.specs.Answers.{IsMissed, IsPlannerAnswer, IsStagedAnswer, StandsFor, has_stages};
+ghost use Rattle.mcf_places.specs.Answers.{IsAllowed, IsMissed, IsPlannerAnswer, IsStagedAnswer, StandsFor, has_stages};
 ghost use Rattle.mcf_places.specs.PlannerFaults.{HasLimits, IsProperPlanner};
 ghost use Rattle.mcf_places.specs.Planners.{all_wanted};
 
@@ -15,16 +15,28 @@ use crate::reading::{PlannerPlan, plan_of};
 use crate::shortage::shortage_of;
 use crate::told::{PlannerBottleneck, told};
 use mcf_instance::ArrayFault;
-use mcf_model::{Planned, Solves, plan};
+use mcf_model::{PlanModel, Planned, Solves, plan};
 use mcf_text::NoMemory;
 use std::alloc::Global;
 
-/// A least plan of a planner's problem, its cost, and what is missing in total.
+/// The model of a problem, a least plan of it, and prices of the model's places that show it. The
+/// model has the limits that bounds need, and no more may be missing in it than in the plan, if as
+/// little as possible may be missing.
+#[derive(Drop)]
+pub struct ShownModel {
+    pub model: PlanModel,
+    pub carries: Vec<i128>,
+    pub prices: Vec<i128>,
+}
+
+/// A least plan of a planner's problem, its cost, and what is missing in total; and the plan of the
+/// problem's model that it is read from.
 #[derive(Drop)]
 pub struct LeastPlannerPlan {
     pub plan: PlannerPlan,
     pub cost: i128,
     pub missing: i128,
+    pub shown: ShownModel,
 }
 
 /// The answer for a planner's problem.
@@ -100,6 +112,7 @@ fn in_one_stage<S: Solves>(
 ) -> Result<PlannerAnswer, NoMemory>
     requires proper { IsProperPlanner planner.now }
     requires stands { StandsFor most planner.now }
+    requires allowed { IsAllowed (has_stages planner.now.policy.short planner.now.policy.penalty) most planner.now }
     requires limits { HasLimits planner.now }
     ensures { IfOk result (IsStagedAnswer planner.now) }
 {
@@ -113,6 +126,11 @@ fn in_one_stage<S: Solves>(
                 plan,
                 cost: found.cost,
                 missing,
+                shown: ShownModel {
+                    model,
+                    carries: found.carries,
+                    prices: found.prices,
+                },
             }))
         }
         Planned::NoPlan(found) => {
@@ -177,6 +195,10 @@ fn staged<S: Solves>(
 /// Where demands may be missing and no penalty is named, no plan misses less than the plan
 /// returned, and of those that miss as much none costs less. That holds of plans in finer units,
 /// too.
+///
+/// A least plan comes with the model that it was found in and with prices that show it there: the
+/// model of the problem in which bounds have the limits that they need, and in which no more is
+/// missing than places want, or than the least that has to be missing.
 ///
 /// # Errors
 /// `NoMemory` if an allocation is refused. The model always has places, so it always allocates.

@@ -34,15 +34,15 @@ pub enum PlannerFault {
     Routes(ModelFault),
 }
 
-// What all places give, and what they want.
-#[derive(Clone, Copy)]
-pub(crate) struct Totals {
-    pub(crate) given: i128,
-    pub(crate) wanted: i128,
+/// What all places give, and what they want.
+#[derive(Clone, Copy, Debug, PartialEq, Eq)]
+pub struct Totals {
+    pub given: i128,
+    pub wanted: i128,
 }
 
-// Returns what a place gives.
-pub(crate) fn given(place: Place) -> i128
+/// Returns what a place gives.
+pub fn given(place: Place) -> i128
     ensures value { result ≡ given place }
     ensures low { pos 0 ≤ℤ result }
     ensures high { result ≤ℤ pos (2 ^ 63) }
@@ -50,8 +50,8 @@ pub(crate) fn given(place: Place) -> i128
     i128::from(place.supply).max(0)
 }
 
-// Returns what a place wants.
-pub(crate) fn wanted(place: Place) -> i128
+/// Returns what a place wants.
+pub fn wanted(place: Place) -> i128
     ensures value { result ≡ wanted place }
     ensures low { pos 0 ≤ℤ result }
     ensures high { result ≤ℤ pos (2 ^ 63) }

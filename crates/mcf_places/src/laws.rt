@@ -1,7 +1,7 @@
 //! Laws about planners' problems. Each is the contract of a function with an empty body.
 ghost use Rattle.mcf_places.specs.PlannerBottlenecks.{PlannerBottlenecksHaveNoPlan};
 ghost use Rattle.mcf_places.specs.LimitedPlanners.{LimitsChangeNoPlan};
-ghost use Rattle.mcf_places.specs.PlannerLaws.{LeastModelPlansAreLeast, PlannersAreModels, PlansMissNoMore};
+ghost use Rattle.mcf_places.specs.PlannerLaws.{LeastModelPlansAreLeast, PlannersAreModels, PlansMissNoMore, SoundPlannersHaveSoundModels};
 
 use mcf_model::bottlenecks_have_no_plan;
 
@@ -27,6 +27,11 @@ pub fn limits_change_no_plan()
 /// missing.
 pub fn plans_miss_no_more()
     ensures { PlansMissNoMore }
+{}
+
+/// The model of a sound problem is sound.
+pub fn sound_planners_have_sound_models()
+    ensures { SoundPlannersHaveSoundModels }
 {}
 
 /// If some places are a bottleneck, the problem has no plan.

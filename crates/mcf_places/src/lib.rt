@@ -7,12 +7,14 @@
 //! solver that it takes. The definitions are in `specs/`: `Planners` has problems and plans,
 //! `Models` their models, `PlannerLaws` the laws between both, `Ways` the routes of rows that are
 //! used both ways, `PlannerFaults` the faults of a problem, `PlannerBottlenecks` the reasons why it
-//! has no plan, `FinerPlanners` problems in finer units, `LimitedPlanners` the problem in which
+//! has no plan, `Crossings` what leads away from these places,
+//! `FinerPlanners` problems in finer units, `LimitedPlanners` the problem in which
 //! bounds have the limits that they need, `Throughput` those limits, `Shortage` the problem in
 //! which only what is missing costs something, `Answers` the answers, and `Origins` where a number
 //! beyond the limits comes from.
 
 mod answering;
+mod crossings;
 mod faults;
 mod laws;
 mod limits;
@@ -27,11 +29,12 @@ mod supplies;
 mod told;
 mod ways;
 
-pub use answering::{LeastPlannerPlan, PlannerAnswer, least};
-pub use faults::{PLACE_LIMIT, PlannerFault, SUM_LIMIT};
+pub use answering::{LeastPlannerPlan, PlannerAnswer, ShownModel, least};
+pub use crossings::Crossing;
+pub use faults::{PLACE_LIMIT, PlannerFault, SUM_LIMIT, Totals, given, wanted};
 pub use laws::{
     least_model_plans_are_least, limits_change_no_plan, planner_bottlenecks_have_no_plan,
-    planners_are_models, plans_miss_no_more,
+    planners_are_models, plans_miss_no_more, sound_planners_have_sound_models,
 };
 pub use limits::THROUGHPUT_LIMIT;
 pub use making::model_of;

@@ -1,14 +1,14 @@
 //! Planners' problems without faults.
-ghost use Rattle.std.specs.Prelude.{◌≡◌, IfOk, length, map};
-ghost use Rattle.mcf_model.specs.Tables.{route_of};
+ghost use Rattle.std.specs.Prelude.{◌≡◌, ◌<◌, IfOk, length, map, slice_index_or};
+ghost use Rattle.mcf_model.specs.Tables.{no_route, route_of, route_with};
 ghost use Rattle.mcf_model.specs.Faults.{AreListed};
 ghost use Rattle.mcf_places.specs.PlannerFaults.{IsMade, IsProperPlanner};
-ghost use Rattle.mcf_places.specs.Planners.{row_count};
+ghost use Rattle.mcf_places.specs.Planners.{all_given, all_wanted, row_count};
 
-use crate::faults::{PlannerFault, planner_faults};
+use crate::faults::{PlannerFault, Totals, planner_faults, sums};
 use crate::places::{Place, Policy};
 use crate::ways::ways_of;
-use mcf_model::{RouteRow, Step};
+use mcf_model::{RouteParts, RouteRow, Step, own_steps};
 use mcf_text::NoMemory;
 use std::alloc::Global;
 use std::marker::Model;
@@ -100,6 +100,27 @@ impl Planner {
         ensures proper { IsProperPlanner self.now }
     {
         self.rows.len()
+    }
+
+    /// Returns a route by its place, counted from 0.
+    pub fn route(&self, place: usize) -> RouteParts<'_>
+        requires place { place < length self.now.routes }
+        ensures value { route_with result.row result.steps.now ≡ slice_index_or self.now.routes place no_route }
+        ensures proper { IsProperPlanner self.now }
+    {
+        let row = self.rows[place];
+        RouteParts {
+            row,
+            steps: own_steps(&self.steps, row),
+        }
+    }
+
+    /// Returns what all places give, and what they want.
+    pub fn totals(&self) -> Totals
+        ensures given { result.given ≡ all_given self.now.places }
+        ensures wanted { result.wanted ≡ all_wanted self.now.places }
+    {
+        sums(&self.places)
     }
 
     /// Returns the number of the rows of routes.

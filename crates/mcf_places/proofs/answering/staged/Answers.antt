@@ -1,6 +1,6 @@
 use Rattle.std.proofs.Common.{rules, ◌≡◌, false, true, sym, ◌∙◌, subst, ap, to_z, of_z, w64}
-use Rattle.mcf_places.specs.Answers.{IsMissed, StandsFor, has_stages}
-use Rattle.mcf_places.proofs.Stages.{stands_at_once, stands_for_least}
+use Rattle.mcf_places.specs.Answers.{IsAllowed, IsMissed, StandsFor, has_stages}
+use Rattle.mcf_places.proofs.Stages.{allowed_at_once, allowed_least, stands_at_once, stands_for_least}
 use Rattle.mcf_places.proofs.answering.staged.Goals as goal
 
 pub in_one_stage-requires-clause-stands : goal.in_one_stage-requires-clause-stands
@@ -19,3 +19,23 @@ in_one_stage-requires-in-Missing-clause-stands g c =
     (stands_for_least c.in-Missing.most c.args.planner.now c.policy.ensures.proper
     (ap (λ p. has_stages p.short p.penalty) (sym c.policy.ensures.value) ∙ sym c.has_stages.ensures ∙ two)
     (subst (IsMissed c.args.planner.now) c.in-Missing.is c.in_ok-most.ensures))
+
+pub in_one_stage-requires-clause-allowed : goal.in_one_stage-requires-clause-allowed
+in_one_stage-requires-clause-allowed g c =
+    let read : to_z w64 (of_z w64 c.most_missing-most.result) ≡ c.most_missing-most.result = search rules in
+    let one : c.has_stages.result ≡ false = search rules in
+    let P = c.args.planner.now in
+    let stages = has_stages P.policy.short P.policy.penalty in
+    subst (λ z. IsAllowed stages z P) (sym read)
+    (allowed_at_once c.most_missing-most.result P stages (ap (λ p. has_stages p.short p.penalty) (sym c.policy.ensures.value) ∙ sym c.has_stages.ensures ∙ one)
+    c.most_missing-most.ensures)
+
+pub in_one_stage-requires-in-Missing-clause-allowed : goal.in_one_stage-requires-in-Missing-clause-allowed
+in_one_stage-requires-in-Missing-clause-allowed g c =
+    let read : to_z w64 (of_z w64 c.in-Missing.most) ≡ c.in-Missing.most = search rules in
+    let two : c.has_stages.result ≡ true = search rules in
+    let P = c.args.planner.now in
+    let stages = has_stages P.policy.short P.policy.penalty in
+    subst (λ z. IsAllowed stages z P) (sym read)
+    (allowed_least c.in-Missing.most P stages (ap (λ p. has_stages p.short p.penalty) (sym c.policy.ensures.value) ∙ sym c.has_stages.ensures ∙ two)
+    (subst (IsMissed P) c.in-Missing.is c.in_ok-most.ensures))
