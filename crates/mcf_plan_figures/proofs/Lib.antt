@@ -1,0 +1,4 @@
+mod ChangedModels
+mod RouteRooms
+mod ThroughRooms
+mod Units

@@ -1,0 +1,68 @@
+//! Laws about the figures of planners' plans. Each is the contract of a function that only cites
+//! other laws.
+ghost use Rattle.mcf_plan_figures.specs.PlannerFigureLaws.{ExactRouteSavingsAreReached, ExactThroughSavingsAreReached, JoinedUnitsCostThat, RouteSavingsAreBounds, ThroughSavingsAreBounds, UnitsCostNoLess};
+
+use mcf_figures::{
+    exact_savings_are_reached, joined_prices_are_reached, prices_are_bounds, savings_are_bounds,
+};
+use mcf_places::{planners_are_models, sound_planners_have_sound_models};
+
+/// With one more unit of room on a route, no plan costs less than a least plan by more than the
+/// saving of that route.
+pub fn route_savings_are_bounds()
+    ensures { RouteSavingsAreBounds }
+{
+    planners_are_models();
+    sound_planners_have_sound_models();
+    savings_are_bounds();
+}
+
+/// If the saving of a route is exact, some plan with one more unit of room on it costs less by just
+/// the saving.
+pub fn exact_route_savings_are_reached()
+    ensures { ExactRouteSavingsAreReached }
+{
+    planners_are_models();
+    sound_planners_have_sound_models();
+    exact_savings_are_reached();
+}
+
+/// If one more unit may pass through a place, no plan costs less than a least plan by more than the
+/// saving of that place.
+pub fn through_savings_are_bounds()
+    ensures { ThroughSavingsAreBounds }
+{
+    planners_are_models();
+    sound_planners_have_sound_models();
+    savings_are_bounds();
+}
+
+/// If the saving of a place is exact, some plan in which one more unit may pass through it costs
+/// less by just the saving.
+pub fn exact_through_savings_are_reached()
+    ensures { ExactThroughSavingsAreReached }
+{
+    planners_are_models();
+    sound_planners_have_sound_models();
+    exact_savings_are_reached();
+}
+
+/// If one more unit comes in at one place and is taken out at another, each plan costs more than a
+/// least plan by at least the difference of their prices.
+pub fn units_cost_no_less()
+    ensures { UnitsCostNoLess }
+{
+    planners_are_models();
+    sound_planners_have_sound_models();
+    prices_are_bounds();
+}
+
+/// If loose routes join two places, some plan in which one more unit comes in at one of them and is
+/// taken out at the other costs more by just the difference of their prices.
+pub fn joined_units_cost_that()
+    ensures { JoinedUnitsCostThat }
+{
+    planners_are_models();
+    sound_planners_have_sound_models();
+    joined_prices_are_reached();
+}

@@ -1,0 +1,16 @@
+#![tactic(auto)]
+
+//! Figures of a planner's least plan, in words of places and routes: what is free on each route and
+//! through each place, what one more unit saves there, and what a unit costs at each place.
+//!
+//! It builds on `mcf_figures`, which has the figures of models, and on `mcf_places`, whose least
+//! plans come with the model that they were found in. The definitions are in `specs/`: `Changes`
+//! has problems with one unit more, `PlannerFigures` the figures, and `PlannerFigureLaws` what they
+//! say of these problems. No definition names a network.
+
+mod figure_laws;
+
+pub use figure_laws::{
+    exact_route_savings_are_reached, exact_through_savings_are_reached, joined_units_cost_that,
+    route_savings_are_bounds, through_savings_are_bounds, units_cost_no_less,
+};
