@@ -7,11 +7,11 @@ use Rattle.mcf_table.specs.Texts.{Record}
 use Rattle.mcf_table.specs.declared.heads.CellPlace.{CellPlace}
 use Rattle.mcf_table.specs.declared.heads.Column.{Column}
 use Rattle.mcf_table.specs.declared.heads.Column.TheVariants.{Missing, Twice, At}
-use Rattle.mcf_reading.specs.HeadTexts.{column_under, place_heads, route_heads}
+use Rattle.mcf_reading.specs.HeadTexts.{column_under, read_heads}
 use Rattle.mcf_reading.specs.declared.kinds.Fault.{Fault}
 use Rattle.mcf_reading.specs.declared.kinds.FaultKind.{FaultKind}
 use Rattle.mcf_reading.specs.declared.kinds.FaultKind.TheVariants.{NoColumn, TwoColumns, Beyond}
-use Rattle.mcf_reading.specs.declared.locations.ColumnAt.TheVariants.{Under, Past}
+use Rattle.mcf_reading.specs.declared.locations.ColumnAt.TheVariants.{Under, Placed}
 use Rattle.mcf_reading.specs.declared.locations.Head.{Head}
 use Rattle.mcf_reading.specs.declared.locations.Head.TheVariants.{Name, Supply, Most, Cost, From, To}
 use Rattle.mcf_reading.specs.declared.locations.Location.{Location}
@@ -47,14 +47,14 @@ column_kind needed (At place) = None
 abbrev pub head_fault : Table → List Record → Head → List Fault
 head_fault table records head = told (under table 0 head) (column_kind (is_needed table head) (column_under records head))
 
--- the faults of the heads of both tables, in the order of the heads
-abbrev pub head_faults : List Record → List Record → List Fault
-head_faults places routes = flat_map (head_fault Places places) place_heads ++ flat_map (head_fault Routes routes) (route_heads routes)
+-- the faults of the heads that are looked for in a table, in their order
+abbrev pub column_faults : Table → List Record → List Fault
+column_faults table records = flat_map (head_fault table records) (read_heads table records)
 
 -- the fault of a cell beyond the last head
 abbrev pub beyond_fault : Table → CellPlace → Fault
 beyond_fault table cell = record {
-  at = record { table = table; row = cell.row; column = Past cell.place };
+  at = record { table = table; row = cell.row; column = Placed cell.place };
   kind = Beyond;
 }
 

@@ -8,6 +8,8 @@ use Rattle.mcf_table.specs.declared.heads.Column.{Column}
 use Rattle.mcf_table.specs.declared.heads.Column.TheVariants.{Missing, Twice, At}
 use Rattle.mcf_reading.specs.declared.locations.Head.{Head}
 use Rattle.mcf_reading.specs.declared.locations.Head.TheVariants.{Name, Supply, Least, Most, Cost, From, To, Both}
+use Rattle.mcf_reading.specs.declared.locations.Table.{Table}
+use Rattle.mcf_reading.specs.declared.locations.Table.TheVariants.{Places, Routes}
 
 -- the word of a head
 abbrev pub head_word : Head → List ℕ
@@ -66,6 +68,20 @@ step_heads step = Most step ∷ Cost step ∷ []
 abbrev pub place_heads : List Head
 place_heads = Name ∷ Supply ∷ Least ∷ Most 1 ∷ Cost 1 ∷ []
 
+-- the heads that are looked for in the table of routes, without those of further steps
+abbrev pub first_route_heads : List Head
+first_route_heads = From ∷ To ∷ Most 1 ∷ Cost 1 ∷ Least ∷ Both ∷ []
+
+-- the heads that a table may have, without those of further steps
+abbrev pub first_heads : Table → List Head
+first_heads Places = place_heads
+first_heads Routes = first_route_heads
+
 -- the heads that are looked for in the table of routes
 abbrev pub route_heads : List Record → List Head
-route_heads records = From ∷ To ∷ Most 1 ∷ Cost 1 ∷ Least ∷ Both ∷ flat_map step_heads (further_steps records)
+route_heads records = first_route_heads ++ flat_map step_heads (further_steps records)
+
+-- the heads that are looked for in a table
+abbrev pub read_heads : Table → List Record → List Head
+read_heads Places records = place_heads
+read_heads Routes records = route_heads records

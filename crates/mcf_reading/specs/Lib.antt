@@ -8,11 +8,13 @@ pub use Rattle.mcf_decimal.specs.Signs
 pub use Rattle.mcf_names.specs.NameFaults
 pub use Rattle.mcf_names.specs.Names
 pub use Rattle.mcf_table.specs.Heads
+pub use Rattle.mcf_table.specs.NearHeads as NearWords
 pub use Rattle.mcf_table.specs.Texts
 pub mod Cells
 pub mod Columns
 pub mod Faults
 pub mod HeadTexts
+pub mod NearHeads
 pub mod PlaceRows
 pub mod Private
 pub mod Reading

@@ -5,7 +5,8 @@ use Rattle.mcf_reading.specs.Cells.{zero_decimal}
 use Rattle.mcf_decimal.specs.declared.mark.Mark.{Mark}
 use Rattle.mcf_table.specs.Texts.{Record}
 use Rattle.mcf_reading.specs.Columns.{all_step_columns, place_columns, route_columns}
-use Rattle.mcf_reading.specs.Faults.{beyond_faults, head_faults}
+use Rattle.mcf_reading.specs.Faults.{beyond_faults, column_faults}
+use Rattle.mcf_reading.specs.NearHeads.{near_faults}
 use Rattle.mcf_reading.specs.ShownMarks.{number_cells, settled_mark}
 use Rattle.mcf_reading.specs.PlaceRows.{all_place_faults, place_entries, place_names}
 use Rattle.mcf_reading.specs.RouteRows.{Route, all_route_faults, route_entries}
@@ -30,6 +31,12 @@ entries mark places routes = record {
   places = place_entries mark (place_columns places) places;
   routes = route_entries mark (route_columns routes) (all_step_columns routes) (names places) routes;
 }
+
+-- The faults of the heads of both tables, in order: those of the heads that are looked for, and
+-- those of columns that aren't read because their heads are only nearly these.
+abbrev pub head_faults : List Record → List Record → List Fault
+head_faults places routes =
+    column_faults Places places ++ column_faults Routes routes ++ near_faults Places places ++ near_faults Routes routes
 
 -- The faults of cells, in order: those beyond the last head of each table, those of the rows of
 -- places, and those of the rows of routes.

@@ -1,11 +1,13 @@
 //! The faults of the heads of both tables.
 ghost use Rattle.std.specs.Prelude.{◌≡◌, ◌++◌, IfOk, OnOk};
 ghost use Rattle.std.specs.List.{flat_map};
-ghost use Rattle.mcf_reading.specs.Faults.{column_kind, head_fault, head_faults, is_needed};
+ghost use Rattle.mcf_reading.specs.Faults.{column_kind, head_fault, is_needed};
+ghost use Rattle.mcf_reading.specs.Reading.{head_faults};
 
-use crate::heads::{column_under, route_heads};
+use crate::heads::{column_under, first_heads, route_heads};
 use crate::kinds::{Fault, FaultKind};
 use crate::locations::{Head, Table};
+use crate::near_heads::push_near_faults;
 use crate::told::{push_told, under};
 use mcf_table::{Column, Records};
 use mcf_text::NoMemory;
@@ -64,7 +66,7 @@ fn push_head_faults(
     Ok(())
 }
 
-// The faults of the heads of both tables, in the order of the heads.
+// The faults of the heads of both tables, in order.
 pub(crate) fn head_faults(
     alloc: Global,
     places: &Records,
@@ -72,16 +74,12 @@ pub(crate) fn head_faults(
 ) -> Result<Vec<Fault>, NoMemory>
     ensures { IfOk result (λ found. found.items ≡ head_faults places.now routes.now) }
 {
-    let place_heads = [
-        Head::Name,
-        Head::Supply,
-        Head::Least,
-        Head::Most(1),
-        Head::Cost(1),
-    ];
+    let place_heads = first_heads(Table::Places);
     let route_heads = route_heads(alloc, routes)?;
     let mut faults = Vec::new(alloc);
-    push_head_faults(alloc, Table::Places, places, &place_heads, &mut faults)?;
+    push_head_faults(alloc, Table::Places, places, place_heads, &mut faults)?;
     push_head_faults(alloc, Table::Routes, routes, &route_heads, &mut faults)?;
+    push_near_faults(alloc, Table::Places, places, place_heads, &mut faults)?;
+    push_near_faults(alloc, Table::Routes, routes, &route_heads, &mut faults)?;
     Ok(faults)
 }

@@ -1,17 +1,45 @@
 //! The heads of the columns that are read.
-ghost use Rattle.std.specs.Prelude.{◌≡◌, ◌+◌, ◌<◌, ◌^◌, ◌++◌, IfOk, OnOk, length};
+ghost use Rattle.std.specs.Prelude.{◌≡◌, ◌+◌, ◌<◌, ◌^◌, ◌++◌, IfOk, OnOk};
 ghost use Rattle.std.specs.List.{flat_map, range_with_len};
-ghost use Rattle.mcf_table.specs.Heads.{heads};
-ghost use Rattle.mcf_reading.specs.HeadTexts.{column_under, further_count, head_step, head_text, head_word, is_there, route_heads, step_heads, step_text};
+ghost use Rattle.mcf_reading.specs.HeadTexts.{column_under, first_heads, further_count, head_step, head_text, head_word, is_there, route_heads, step_heads, step_text};
 ghost use Rattle.mcf_reading.specs.ShownMarks.{route_number_heads};
 
-use crate::locations::Head;
+use crate::locations::{Head, Table};
 use mcf_table::{Column, Records};
 use mcf_text::{NoMemory, put_number};
 use std::alloc::Global;
 
+// The heads that the table of places may have.
+static PLACE_HEADS: [Head; 5] = [
+    Head::Name,
+    Head::Supply,
+    Head::Least,
+    Head::Most(1),
+    Head::Cost(1),
+];
+
+// The heads that the table of routes may have, without those of further steps.
+static ROUTE_HEADS: [Head; 6] = [
+    Head::From,
+    Head::To,
+    Head::Most(1),
+    Head::Cost(1),
+    Head::Least,
+    Head::Both,
+];
+
+// The heads that a table may have, without those of further steps.
+pub(crate) fn first_heads(table: Table) -> &'static [Head]
+    ensures { result.now ≡ first_heads table }
+{
+    match table {
+        Table::Places => &PLACE_HEADS,
+        Table::Routes => &ROUTE_HEADS,
+    }
+}
+
 // The word of a head.
-fn head_word(head: Head) -> &'static [u8]
+pub(crate) fn head_word(head: Head) -> &'static [u8]
     ensures { result.now ≡ head_word head }
 {
     match head {
@@ -73,7 +101,7 @@ pub(crate) fn column_under(alloc: Global, records: &Records, head: Head) -> Resu
 }
 
 // Whether one column or more has the head.
-fn is_there(column: Column) -> bool
+pub(crate) fn is_there(column: Column) -> bool
     ensures { result ≡ is_there column }
 {
     match column {
@@ -90,23 +118,12 @@ fn has_step(alloc: Global, records: &Records, step: usize) -> Result<bool, NoMem
     Ok(is_there(column))
 }
 
-// How many heads there are.
-fn head_count(records: &Records) -> usize
-    ensures { result ≡ length (heads records.now) }
-{
-    if records.len() == 0 {
-        0
-    } else {
-        records.cell_count(0)
-    }
-}
-
 // How many steps follow the first.
 pub(crate) fn further_count(alloc: Global, records: &Records) -> Result<usize, NoMemory>
     ensures count { IfOk result (λ count. count ≡ further_count records.now) }
     ensures few { IfOk result (λ count. count + 4 < 2 ^ 64) }
 {
-    let limit = head_count(records).saturating_sub(4);
+    let limit = records.head_count().saturating_sub(4);
     for count in 0..limit {
         let has = has_step(alloc, records, 2 + count)?;
         if !has {
@@ -133,14 +150,8 @@ pub(crate) fn route_heads(alloc: Global, records: &Records) -> Result<Vec<Head>,
     ensures { IfOk result (λ made. made.items ≡ route_heads records.now) }
 {
     let count = further_count(alloc, records)?;
-    let mut heads = vec![in alloc;
-        Head::From,
-        Head::To,
-        Head::Most(1),
-        Head::Cost(1),
-        Head::Least,
-        Head::Both,
-    ]?;
+    let mut heads = Vec::new(alloc);
+    heads.extend_from_slice(first_heads(Table::Routes))?;
     push_steps(&mut heads, 2, count)?;
     Ok(heads)
 }

@@ -1,5 +1,5 @@
 //! What is wrong with a cell.
-use crate::locations::Location;
+use crate::locations::{Head, Location};
 use mcf_decimal::NumberFault;
 use mcf_names::NameFault;
 
@@ -10,6 +10,10 @@ pub enum FaultKind {
     NoColumn,
     /// Two columns or more have this head.
     TwoColumns,
+    /// The head isn't one that is read, and is nearly this one.
+    NearHead(Head),
+    /// The head is that of a step, and isn't read, since no column has this head.
+    Without(Head),
     /// The cell shows another mark before decimals than the first cell that shows one.
     BothMarks,
     /// The cell isn't empty and stands beyond the last head.

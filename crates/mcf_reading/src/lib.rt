@@ -4,8 +4,9 @@
 //!
 //! It builds on `mcf_table`, `mcf_decimal` and `mcf_names`. The definitions are in `specs/`:
 //! `HeadTexts` and `Columns` say which columns are read, `ShownMarks` which mark stands before
-//! decimals, `Cells`, `PlaceRows` and `RouteRows` what a row says and which faults it has, `Faults`
-//! the other faults, and `Reading` what both tables say together.
+//! decimals, `Cells`, `PlaceRows` and `RouteRows` what a row says and which faults it has,
+//! `NearHeads` which heads are nearly those that are read, `Faults` the other faults, and `Reading`
+//! what both tables say together.
 
 mod cells;
 mod columns;
@@ -14,6 +15,7 @@ mod heads;
 mod kinds;
 mod locations;
 mod marks;
+mod near_heads;
 mod place_rows;
 mod reading;
 mod route_rows;

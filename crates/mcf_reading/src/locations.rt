@@ -36,8 +36,9 @@ pub enum Head {
 pub enum ColumnAt {
     /// The column with this head.
     Under(Head),
-    /// The column at this place, beyond the last head; places are counted from 0.
-    Past(usize),
+    /// The column at this place, which has no head, or one that isn't read; places are counted from
+    /// 0.
+    Placed(usize),
 }
 
 /// Where a cell stands.

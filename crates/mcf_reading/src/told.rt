@@ -41,7 +41,7 @@ fn beyond_fault(table: Table, cell: CellPlace) -> Fault
     let at = Location {
         table,
         row: cell.row,
-        column: ColumnAt::Past(cell.place),
+        column: ColumnAt::Placed(cell.place),
     };
     Fault {
         at,

@@ -45,7 +45,7 @@ static ROWS: [FaultRow; 14] = [
         b"from;to;most;cost\n",
         Table::Places,
         2,
-        ColumnAt::Past(2),
+        ColumnAt::Placed(2),
         FaultKind::Beyond,
     ),
     (

@@ -12,7 +12,7 @@ use std::test::Fail;
 // A table, and its only fault: where it is, and its kind.
 type FaultRow = (&'static [u8], Location, FaultKind);
 
-static FAULTS: [FaultRow; 22] = [
+static FAULTS: [FaultRow; 24] = [
     (
         b"who;cost\nAnna;1\n",
         Location::Under(Head::What),
@@ -103,11 +103,58 @@ static FAULTS: [FaultRow; 22] = [
         Location::Cell(CellPlace { row: 3, place: 1 }),
         FaultKind::TwoRanges,
     ),
+    (
+        b"who;what;cost;needs_\nA;X;1;1\n",
+        Location::Cell(CellPlace { row: 0, place: 3 }),
+        FaultKind::NearHead(Head::Needs),
+    ),
+    (
+        b"who;what;cost;cost 2;costs;note\nA;X;1;1;;\n",
+        Location::Cell(CellPlace { row: 0, place: 3 }),
+        FaultKind::NearHead(Head::Cost),
+    ),
     (b"x", Location::Heads, FaultKind::NoThing),
     (b"name;takes\nAnna;2\n", Location::Heads, FaultKind::NoThing),
     (b";X\nneeds;1\n", Location::Heads, FaultKind::NoPerson),
     (b"who;what;cost\n", Location::Heads, FaultKind::NoThing),
 ];
+
+// A list, and its two faults: the first, and that of the title in a column, which means a head.
+type TwoRow = (&'static [u8], Location, FaultKind, usize, Head);
+
+static TWO: [TwoRow; 2] = [
+    (
+        b"who;what;cost;take;needs_\n",
+        Location::Cell(CellPlace { row: 0, place: 3 }),
+        FaultKind::NearHead(Head::Takes),
+        4,
+        Head::Needs,
+    ),
+    (
+        b"who;what;costs\n",
+        Location::Under(Head::Cost),
+        FaultKind::NoColumn,
+        2,
+        Head::Cost,
+    ),
+];
+
+// Whether a table has just these faults.
+fn has_both(
+    read: &Result<RosterTable<'_>, Faults>,
+    first: Fault,
+    place: usize,
+    meant: Head,
+) -> bool {
+    let second = Fault {
+        at: Location::Cell(CellPlace { row: 0, place }),
+        kind: FaultKind::NearHead(meant),
+    };
+    match read {
+        Err(faults) => faults.list() == [first, second].as_slice(),
+        Ok(_) => false,
+    }
+}
 
 // Whether a table has just this fault.
 fn has_fault(read: &Result<RosterTable<'_>, Faults>, fault: Fault) -> bool {
@@ -136,6 +183,21 @@ fn tables_of_persons_have_faults(rt: HostRuntime) -> Result<(), Fail> {
             None => false,
         };
         assert!(rt; is_fault);
+    }
+    Ok(())
+}
+
+#[test]
+fn titles_are_nearly_heads(rt: HostRuntime) -> Result<(), Fail> {
+    for (text, at, kind, place, meant) in TWO {
+        let are_faults = match rows(rt.alloc(), text)? {
+            Some(records) => {
+                let said = read(rt.alloc(), &records, None)?;
+                has_both(&said, Fault { at, kind }, place, meant)
+            }
+            None => false,
+        };
+        assert!(rt; are_faults);
     }
     Ok(())
 }

@@ -74,11 +74,15 @@ column_kind needed (At place) = None
 abbrev pub head_fault : List Record → Head → List Fault
 head_fault records head = told (Under head) (column_kind (is_needed head) (column_under records head))
 
+-- the heads that are looked for in a list
+abbrev pub list_heads : List Head
+list_heads = Who ∷ What ∷ Cost ∷ Takes ∷ Needs ∷ []
+
 -- the heads that are looked for, in a list or in a matrix
 abbrev pub read_heads : Bool → List Head
-read_heads true = Who ∷ What ∷ Cost ∷ Takes ∷ Needs ∷ []
+read_heads true = list_heads
 read_heads false = Takes ∷ []
 
--- the faults of the heads, in the order of these
-abbrev pub head_faults : List Record → List Fault
-head_faults records = flat_map (head_fault records) (read_heads (is_list records))
+-- the faults of the heads that are looked for, in their order
+abbrev pub column_faults : List Record → List Fault
+column_faults records = flat_map (head_fault records) (read_heads (is_list records))

@@ -8,6 +8,7 @@ pub use Rattle.mcf_decimal.specs.Signs
 pub use Rattle.mcf_names.specs.NameFaults
 pub use Rattle.mcf_names.specs.Names
 pub use Rattle.mcf_table.specs.Heads
+pub use Rattle.mcf_table.specs.NearHeads as NearWords
 pub use Rattle.mcf_table.specs.Texts
 pub mod Cells
 pub mod Columns
@@ -15,6 +16,7 @@ pub mod CostMarks
 pub mod Faults
 pub mod Layouts
 pub mod Naming
+pub mod NearHeads
 pub mod Pairs
 pub mod Reading
 pub mod Repeated

@@ -4,10 +4,11 @@ use Rattle.std.specs.Prelude.{ℕ, List, [], ◌∷◌, ◌++◌, map, Option, R
 use Rattle.mcf_decimal.specs.declared.mark.Mark.{Mark}
 use Rattle.mcf_names.specs.Names.{distinct}
 use Rattle.mcf_table.specs.Texts.{Record}
-use Rattle.mcf_roster_reading.specs.Columns.{head_faults}
+use Rattle.mcf_roster_reading.specs.Columns.{column_faults}
 use Rattle.mcf_roster_reading.specs.Faults.{beyond_faults}
 use Rattle.mcf_roster_reading.specs.Layouts.{Layout, layout_of}
 use Rattle.mcf_roster_reading.specs.CostMarks.{settled_mark}
+use Rattle.mcf_roster_reading.specs.NearHeads.{near_faults}
 use Rattle.mcf_roster_reading.specs.Naming.{all_name_faults, names_at, nothing_faults}
 use Rattle.mcf_roster_reading.specs.Pairs.{allowed, cost_faults, pair_entry}
 use Rattle.mcf_roster_reading.specs.Repeated.{repeated_faults}
@@ -44,6 +45,11 @@ entries mark records l = record {
   needs = sayings records l.needs (things records l);
   pairs = map (pair_entry mark (persons records l) (things records l) records) (allowed records l.pairs);
 }
+
+-- The faults of heads, in order: those of the heads that are looked for, and those of columns of a
+-- list that aren't read because their heads are only nearly these.
+unfoldable pub head_faults : List Record → List Fault
+head_faults records = column_faults records ++ near_faults records
 
 -- The faults of names, in order: those of cells beyond the last head, those of the cells that name
 -- persons and of those that name things, pairs that stand twice, and that there is nothing to read.

@@ -1,15 +1,27 @@
 //! The heads of the columns that are read, and their faults.
 ghost use Rattle.std.specs.Prelude.{◌≡◌, ◌++◌, IfOk, OnOk};
 ghost use Rattle.std.specs.List.{flat_map};
-ghost use Rattle.mcf_roster_reading.specs.Columns.{at_least_two, column_kind, column_or_first, column_under, head_fault, head_faults, head_word, is_list, is_needed, is_there, only_place, place_under};
+ghost use Rattle.mcf_roster_reading.specs.Columns.{at_least_two, column_faults, column_kind, column_or_first, column_under, head_fault, head_word, is_list, is_needed, is_there, list_heads, only_place, place_under};
+ghost use Rattle.mcf_roster_reading.specs.Reading.{head_faults};
 
 use crate::kinds::{Fault, FaultKind, Head, Location, push_told};
+use crate::near_heads::push_near_faults;
 use mcf_table::{Column, Records};
 use mcf_text::NoMemory;
 use std::alloc::Global;
 
+// The heads that are looked for in a list.
+static LIST_HEADS: [Head; 5] = [Head::Who, Head::What, Head::Cost, Head::Takes, Head::Needs];
+
+// The heads that are looked for in a list.
+pub(crate) fn list_heads() -> &'static [Head]
+    ensures { result.now ≡ list_heads }
+{
+    &LIST_HEADS
+}
+
 // The text of a head.
-fn head_word(head: Head) -> &'static [u8]
+pub(crate) fn head_word(head: Head) -> &'static [u8]
     ensures { result.now ≡ head_word head }
 {
     match head {
@@ -29,7 +41,7 @@ pub(crate) fn column_under(records: &Records, head: Head) -> Column
 }
 
 // Whether one column or more has the head.
-fn is_there(column: Column) -> bool
+pub(crate) fn is_there(column: Column) -> bool
     ensures { result ≡ is_there column }
 {
     match column {
@@ -122,16 +134,24 @@ fn push_head_faults(
     Ok(())
 }
 
-// The faults of the heads that are read.
+// Appends the faults of the heads that are looked for, in their order.
+fn push_column_faults(records: &Records, faults: &mut Vec<Fault>) -> Result<(), NoMemory>
+    ensures { OnOk result (faults.new.items ≡ faults.old.items ++ column_faults records.now) }
+{
+    if is_list(records) {
+        push_head_faults(records, list_heads(), faults)
+    } else {
+        push_head_faults(records, &[Head::Takes], faults)
+    }
+}
+
+// The faults of heads, in order.
+#[tactic(auto, unfolding(crate::specs::Reading::head_faults))]
 pub(crate) fn head_faults(alloc: Global, records: &Records) -> Result<Vec<Fault>, NoMemory>
     ensures { IfOk result (λ found. found.items ≡ head_faults records.now) }
 {
     let mut faults = Vec::new(alloc);
-    if is_list(records) {
-        let heads = [Head::Who, Head::What, Head::Cost, Head::Takes, Head::Needs];
-        push_head_faults(records, &heads, &mut faults)?;
-    } else {
-        push_head_faults(records, &[Head::Takes], &mut faults)?;
-    }
+    push_column_faults(records, &mut faults)?;
+    push_near_faults(alloc, records, &mut faults)?;
     Ok(faults)
 }

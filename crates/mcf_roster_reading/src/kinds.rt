@@ -40,6 +40,8 @@ pub enum FaultKind {
     NoColumn,
     /// Two columns or more have this head.
     TwoColumns,
+    /// The head of a list isn't one that is read, and is nearly this one.
+    NearHead(Head),
     /// The cell shows another mark before decimals than the first cell that shows one.
     BothMarks,
     /// The cell isn't empty and stands beyond the last head.

@@ -80,11 +80,7 @@ fn is_thing(records: &Records, below: &[usize], place: usize) -> bool
 fn later_heads(records: &Records) -> usize
     ensures { result ≡ length (heads records.now) - 1 }
 {
-    if records.len() == 0 {
-        0
-    } else {
-        records.cell_count(0).saturating_sub(1)
-    }
+    records.head_count().saturating_sub(1)
 }
 
 // Appends the column, if it is that of a thing.

@@ -1,5 +1,7 @@
 //! Reading a table of persons and things.
 ghost use Rattle.std.specs.Prelude.{◌≡◌, ◌++◌, ◌∷◌, [], IfOk, OnOk, Ok};
+ghost use Rattle.mcf_roster_reading.specs.CostMarks.{settled_mark};
+ghost use Rattle.mcf_roster_reading.specs.Layouts.{layout_of};
 ghost use Rattle.mcf_roster_reading.specs.Reading.{cell_faults, entries, name_faults, number_faults, read_roster, read_settled};
 
 use crate::cells::push_beyond;
@@ -40,6 +42,17 @@ pub fn read<'t>(
     if !found.is_empty() {
         return Ok(Err(Faults::of(found)));
     }
+    read_cells(alloc, records, mark)
+}
+
+// Reads the cells.
+fn read_cells<'t>(
+    alloc: Global,
+    records: &'t Records,
+    mark: Option<Mark>,
+) -> Result<Result<RosterTable<'t>, Faults>, NoMemory>
+    ensures { IfOk result (λ read. read ≡ read_settled (settled_mark mark records.now ((layout_of records.now).pairs)) records.now (layout_of records.now)) }
+{
     let layout = layout_of(alloc, records)?;
     match settled_mark(records, &layout.pairs, mark) {
         Ok(mark) => read_settled(alloc, records, &layout, mark),

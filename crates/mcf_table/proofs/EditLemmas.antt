@@ -4,8 +4,7 @@ use Rattle.std.specs.Prelude.{◌==◌, ◌&&◌}
 use Rattle.std.specs.Str.{bytes_eq}
 use Rattle.std.proofs.lemmas.Bool.{and_from, and_parts, cases_Bool, cond-false, cond-true, eq-eqb, eqb-false, eqb-true, ne_eqb, or_cases, or_left, or_right}
 use Rattle.std.proofs.lemmas.Slice.Eq.{bytes_eq-Decides}
-use Rattle.mcf_table.specs.NearHeads.{IsChanged, IsInserted, IsOneEdit, IsSwapped}
-use Rattle.mcf_table.specs.Private.Edits.{are_swapped, differ_once, is_one_edit}
+use Rattle.mcf_table.specs.NearHeads.{IsChanged, IsInserted, IsOneEdit, IsSwapped, are_swapped, differ_once, is_one_edit}
 
 same : (word : List ℕ) → bytes_eq word word ≡ true
 same word = (bytes_eq-Decides word word).1 refl

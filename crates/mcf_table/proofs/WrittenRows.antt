@@ -1,5 +1,5 @@
 -- The text of a row, cell by cell.
-use Rattle.std.proofs.Common.{◌≡◌, ℕ, List, [], ◌∷◌, ◌++◌, map, OnOk, Result, Ok, Err, Bor, refl, sym, ap, ◌∙◌, append_assoc, append-nil}
+use Rattle.std.proofs.Common.{◌≡◌, ℕ, List, [], ◌∷◌, ◌++◌, map, OnOk, Result, Ok, Err, Bor, sym, ap, ◌∙◌, append_assoc, append-nil}
 use Rattle.std.specs.List.{IsFirstAndRest}
 use Rattle.mcf_table.specs.Rows.{quoted}
 use Rattle.mcf_table.specs.Written.{further_text, row_text}

@@ -16,6 +16,10 @@ cells_of records row = (slice_index_or records row no_record).cells
 abbrev pub heads : List Record → List (List ℕ)
 heads records = cells_of records 0
 
+-- the head at a place, from 0; empty if there are fewer
+abbrev pub head_at : List Record → ℕ → List ℕ
+head_at records place = slice_index_or (heads records) place []
+
 -- the places of the cells that are this head, where an ASCII letter is the same in either case
 abbrev pub places_of : List ℕ → List (List ℕ) → List ℕ
 places_of head cells =

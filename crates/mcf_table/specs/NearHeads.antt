@@ -1,8 +1,9 @@
 -- Heads that are nearly those of a table.
 -- Source: own
-use Rattle.std.specs.Prelude.{◌≡◌, ◌≢◌, ℕ, ◌-◌, ◌<◌, ◌⊎◌, List, [], ◌∷◌, ◌++◌, length, map, filter, take, drop, slice_index_or, min, All, Option, Some, None}
+use Rattle.std.specs.Prelude.{◌≡◌, ◌≢◌, ℕ, ◌+◌, ◌-◌, ◌*◌, ◌==◌, nat_lt, ◌⊎◌, Bool, false, ◌&&◌, ◌||◌, if◌then◌else◌, List, [], ◌∷◌, ◌++◌, length, map, filter, take, drop, min, codes}
 use Rattle.std.specs.Char.{is_ascii_alphanumeric, is_ascii_digit, to_ascii_lowercase}
-use Rattle.std.specs.List.{suffix_len}
+use Rattle.std.specs.List.{list_any, suffix_len}
+use Rattle.std.specs.Str.{bytes_eq}
 
 -- the long word is the short one with one letter more
 pub record IsInserted (short long : List ℕ) : Type 0 where
@@ -36,20 +37,35 @@ pub record IsSwapped (one other : List ℕ) : Type 0 where
 abbrev pub IsOneEdit : List ℕ → List ℕ → Type 0
 IsOneEdit one other = IsInserted one other ⊎ IsInserted other one ⊎ IsChanged one other ⊎ IsSwapped one other
 
+-- ---- the same by computing
+
+-- the first two letters of one word are those of the other, swapped, and the rest is the same
+abbrev pub are_swapped : List ℕ → List ℕ → Bool
+are_swapped [] other = false
+are_swapped (a ∷ []) other = false
+are_swapped (a ∷ b ∷ one) [] = false
+are_swapped (a ∷ b ∷ one) (c ∷ []) = false
+are_swapped (a ∷ b ∷ one) (c ∷ d ∷ other) = a == d && (b == c && bytes_eq one other)
+
+-- one edit at their first letters makes one word the other
+abbrev pub differ_once : List ℕ → List ℕ → Bool
+differ_once [] other = length other == 1
+differ_once (x ∷ one) [] = length (x ∷ one) == 1
+differ_once (x ∷ one) (y ∷ other) =
+    bytes_eq one other || (bytes_eq (x ∷ one) other || (bytes_eq one (y ∷ other) || are_swapped (x ∷ one) (y ∷ other)))
+
+-- One edit past the letters with which both begin makes one word the other. `is_one_edit` in
+-- `src/near.rt` says that this is `IsOneEdit`.
+abbrev pub is_one_edit : List ℕ → List ℕ → Bool
+is_one_edit [] other = differ_once [] other
+is_one_edit (x ∷ one) [] = differ_once (x ∷ one) []
+is_one_edit (x ∷ one) (y ∷ other) = if x == y then is_one_edit one other else differ_once (x ∷ one) (y ∷ other)
+
 -- the word is nearly this head, which is longer than three letters
-abbrev pub IsNear : List ℕ → List ℕ → Type 0
-IsNear word head = (3 < length head) × IsOneEdit word head
+abbrev pub is_near : List ℕ → List ℕ → Bool
+is_near word head = nat_lt 3 (length head) && is_one_edit word head
 
--- the word is nearly the head at this place, and nearly none before it
-pub record IsFirstNear (word : List ℕ) (heads : List (List ℕ)) (place : ℕ) : Type 0 where
-  pub inside : place < length heads
-  pub near : IsNear word (slice_index_or heads place [])
-  pub first : (before : ℕ) → before < place → ¬ IsNear word (slice_index_or heads before [])
-
--- the place of the first head that the word nearly is, if it nearly is one of them
-abbrev pub FindsNear : List ℕ → List (List ℕ) → Option ℕ → Type 0
-FindsNear word heads None = All (λ head. ¬ IsNear word head) heads
-FindsNear word heads (Some place) = IsFirstNear word heads place
+-- ---- the word and the number of a head
 
 -- the letters and digits of a head, those of ASCII alone, in lower case
 abbrev pub head_letters : List ℕ → List ℕ
@@ -66,3 +82,28 @@ head_word letters = take (length letters - digit_count letters) letters
 -- these digits
 abbrev pub head_digits : List ℕ → List ℕ
 head_digits letters = drop (length letters - digit_count letters) letters
+
+-- the number that these digits spell; 0 if there are none
+abbrev pub head_number : List ℕ → ℕ
+head_number [] = 0
+head_number (d ∷ []) = d - 48
+head_number (d ∷ e ∷ more) = 10 * (d - 48) + (e - 48)
+
+-- the word is one of these
+abbrev pub is_among : List (List ℕ) → List ℕ → Bool
+is_among words word = list_any (bytes_eq word) words
+
+-- the word that is meant: `min` and `minimum` mean `least`, `max` and `maximum` mean `most`
+unfoldable pub common_word : List ℕ → List ℕ
+common_word word =
+    if is_among (codes "min" ∷ codes "minimum" ∷ []) word then codes "least"
+    else if is_among (codes "max" ∷ codes "maximum" ∷ []) word then codes "most"
+    else word
+
+-- the word that the letters of a head mean
+abbrev pub meant_word : List ℕ → List ℕ
+meant_word head = common_word (head_word (head_letters head))
+
+-- the digits at the end of the letters of a head
+abbrev pub meant_digits : List ℕ → List ℕ
+meant_digits head = head_digits (head_letters head)

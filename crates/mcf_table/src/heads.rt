@@ -34,7 +34,29 @@ impl Records {
     ghost use Rattle.std.specs.Prelude.{◌≡◌, ◌<◌, ◌++◌, IfOk, OnOk, length, map};
     ghost use Rattle.std.specs.List.{list_all};
     ghost use Rattle.mcf_table.specs.HeadRows.{has_cell, head_row};
-    ghost use Rattle.mcf_table.specs.Heads.{beyond, cells_of, column_of, filled_from, heads, in_row};
+    ghost use Rattle.mcf_table.specs.Heads.{beyond, cells_of, column_of, filled_from, head_at, heads, in_row};
+
+    /// The number of heads.
+    pub fn head_count(&self) -> usize
+        ensures { result ≡ length (heads self.now) }
+    {
+        if self.len() == 0 {
+            0
+        } else {
+            self.cell_count(0)
+        }
+    }
+
+    /// The head at a place, from 0; empty if there are fewer.
+    pub fn head(&self, place: usize) -> &[u8]
+        ensures { result.now ≡ head_at self.now place }
+    {
+        if self.len() == 0 {
+            &[]
+        } else {
+            self.cell(0, place)
+        }
+    }
 
     /// The column with this head. The cells of the first row are the heads; an ASCII letter is the
     /// same in either case.
@@ -105,17 +127,6 @@ impl Records {
             }
         }
         false
-    }
-
-    // The number of heads.
-    fn head_count(&self) -> usize
-        ensures { result ≡ length (heads self.now) }
-    {
-        if self.len() == 0 {
-            0
-        } else {
-            self.cell_count(0)
-        }
     }
 
     // Appends the places of the row's cells that aren't empty, from this place on.

@@ -28,7 +28,7 @@ pub use fault::{FieldFault, TextFault};
 pub use heads::{CellPlace, Column};
 pub use laws::{texts_are_unambiguous, written_tables_read_back};
 pub use named::named_separator;
-pub use near::{head_letters, is_one_edit, near_head, near_word, word_and_digits};
+pub use near::{common_word, head_letters, head_number, is_near, is_one_edit, word_and_digits};
 pub use reading::records_of;
 pub use records::Records;
 pub use separators::separator_of;

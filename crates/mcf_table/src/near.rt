@@ -1,37 +1,11 @@
 //! Heads that are nearly those of a table.
-ghost use Rattle.std.specs.Prelude.{◌≡◌, ◌≤◌, ◌↔◌, IfOk, IsTrue, length, map};
+ghost use Rattle.std.specs.Prelude.{◌≡◌, ◌-◌, ◌≤◌, ◌↔◌, IfOk, IsTrue, length};
 ghost use Rattle.std.specs.Str.{bytes_eq};
-ghost use Rattle.mcf_table.specs.NearHeads.{FindsNear, IsNear, IsOneEdit, digit_count, head_digits, head_letters, head_word};
-ghost use Rattle.mcf_table.specs.Private.Edits.{are_swapped, begin_alike, differ_once, is_one_edit};
+ghost use Rattle.mcf_table.specs.NearHeads.{IsOneEdit, are_swapped, common_word, differ_once, digit_count, head_digits, head_letters, head_number, head_word, is_near, is_one_edit};
+ghost use Rattle.mcf_table.specs.Private.Edits.{begin_alike};
 
 use mcf_text::NoMemory;
 use std::alloc::Global;
-
-/// The place of the first known head from which this one, by its letters and digits in lower case,
-/// differs by one letter that is added, dropped or changed, or by two neighbours that are swapped.
-/// Only known heads of more than three letters count.
-///
-/// # Errors
-///
-/// `NoMemory` if an allocation is refused.
-pub fn near_head(alloc: Global, head: &[u8], known: &[&[u8]]) -> Result<Option<usize>, NoMemory>
-    ensures { IfOk result (λ near. FindsNear (head_letters head.now) (map (λ other. other.now) known.now) near) }
-{
-    let letters = head_letters(alloc, head)?;
-    Ok(near_word(&letters, known))
-}
-
-/// The place of the first known head that is nearly this word; both are in lower case.
-pub fn near_word(word: &[u8], known: &[&[u8]]) -> Option<usize>
-    ensures { FindsNear word.now (map (λ other. other.now) known.now) result }
-{
-    'heads: for place in 0..known.len() {
-        if is_near(word, known[place]) {
-            return Some(place);
-        }
-    }
-    None
-}
 
 /// The letters and digits of a head, in lower case; only those of ASCII count.
 ///
@@ -73,9 +47,44 @@ fn digit_count(letters: &[u8]) -> usize
     }
 }
 
-// Whether the word is nearly this head, which is longer than three letters.
-fn is_near(word: &[u8], head: &[u8]) -> bool
-    ensures { IsTrue result ↔ IsNear word.now head.now }
+/// The number that these digits spell, two at most; 0 if there are none.
+pub fn head_number(digits: &[u8]) -> usize
+    ensures { result ≡ head_number digits.now }
+{
+    match digits {
+        [] => 0,
+        [digit] => digit_value(*digit),
+        [ten, digit, ..] => 10 * digit_value(*ten) + digit_value(*digit),
+    }
+}
+
+// The value of a digit.
+fn digit_value(digit: u8) -> usize
+    ensures value { result ≡ digit - 48 }
+    ensures small { result ≤ 255 }
+{
+    usize::from(digit.saturating_sub(b'0'))
+}
+
+/// The word that is meant by one that heads have for a limit: `least` by `min` and `minimum`,
+/// `most` by `max` and `maximum`; any other means itself.
+#[tactic(auto, unfolding(crate::specs::NearHeads::common_word))]
+pub fn common_word<'t>(word: &'t [u8]) -> &'t [u8]
+    ensures { result.now ≡ common_word word.now }
+{
+    if is_same(word, b"min") || is_same(word, b"minimum") {
+        b"least"
+    } else if is_same(word, b"max") || is_same(word, b"maximum") {
+        b"most"
+    } else {
+        word
+    }
+}
+
+/// Whether the word is nearly this head, which is longer than three letters: one letter is added,
+/// dropped or changed, or two neighbours are swapped.
+pub fn is_near(word: &[u8], head: &[u8]) -> bool
+    ensures { result ≡ is_near word.now head.now }
 {
     3 < head.len() && is_one_edit(word, head)
 }
@@ -83,7 +92,8 @@ fn is_near(word: &[u8], head: &[u8]) -> bool
 /// Whether one word becomes the other if one letter is added, dropped or changed, or if two
 /// neighbours are swapped. It takes time linear in their lengths.
 pub fn is_one_edit(one: &[u8], other: &[u8]) -> bool
-    ensures { IsTrue result ↔ IsOneEdit one.now other.now }
+    ensures value { result ≡ is_one_edit one.now other.now }
+    ensures edit { IsTrue result ↔ IsOneEdit one.now other.now }
 {
     edited_once(one, other)
 }

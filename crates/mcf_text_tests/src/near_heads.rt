@@ -1,6 +1,6 @@
 //! Heads that are nearly known: `is_one_letter` and `meant` of `python/mcf_plan/heads.py` give the
 //! same.
-use mcf_table::{head_letters, is_one_edit, near_head, near_word, word_and_digits};
+use mcf_table::{common_word, head_letters, head_number, is_near, is_one_edit, word_and_digits};
 use std::test::Fail;
 
 // Words, and whether one edit makes the one the other.
@@ -23,22 +23,39 @@ static EDITS: [(&[u8], &[u8], bool); 16] = [
     (b"abcd", b"badc", false),
 ];
 
-// Heads that tables have.
-static KNOWN: [&[u8]; 6] = [b"name", b"supply", b"x", b"both", b"most", b"cost"];
-
-// Heads, and the places of the known ones that they nearly are.
-static NEAR: [(&[u8], Option<usize>); 10] = [
-    (b"Suply", Some(1)),
-    (b"nmae", Some(0)),
-    (b" C.o-s T s", Some(5)),
-    (b"\xE2\x82\xAC costs", Some(5)),
-    (b"bot", Some(3)),
-    (b"Cost", Some(4)),
-    (b"", None),
-    (b"y", None),
-    (b"supplier", None),
-    (b"most2", Some(4)),
+// Words that the letters of titles mean, heads, and whether the first nearly is the second.
+static NEAR: [(&[u8], &[u8], bool); 9] = [
+    (b"suply", b"supply", true),
+    (b"nmae", b"name", true),
+    (b"costs", b"cost", true),
+    (b"bot", b"both", true),
+    (b"cost", b"most", true),
+    (b"cost", b"cost", false),
+    (b"", b"x", false),
+    (b"fro", b"who", false),
+    (b"supplier", b"supply", false),
 ];
+
+// Titles, and their letters.
+static LETTERS: [(&[u8], &[u8]); 4] = [
+    (b"Most_2 ", b"most2"),
+    (b" C.o-s T s", b"costs"),
+    (b"\xE2\x82\xAC costs", b"costs"),
+    (b"", b""),
+];
+
+// Words, and those that they mean.
+static MEANT: [(&[u8], &[u8]); 6] = [
+    (b"min", b"least"),
+    (b"minimum", b"least"),
+    (b"max", b"most"),
+    (b"maximum", b"most"),
+    (b"mins", b"mins"),
+    (b"cost", b"cost"),
+];
+
+// Digits, and their numbers.
+static NUMBERS: [(&[u8], usize); 5] = [(b"", 0), (b"7", 7), (b"02", 2), (b"20", 20), (b"99", 99)];
 
 // Letters of heads, their words and their digits.
 static DIGITS: [(&[u8], &[u8], &[u8]); 6] = [
@@ -59,12 +76,27 @@ fn words_differ_by_one_edit(rt: HostRuntime) -> Result<(), Fail> {
 }
 
 #[test]
-fn heads_are_nearly_known(rt: HostRuntime) -> Result<(), Fail> {
-    for (head, wanted) in NEAR {
-        let near = near_head(rt.alloc(), head, &KNOWN)?;
-        assert!(rt; near == wanted);
+fn words_are_nearly_heads(rt: HostRuntime) -> Result<(), Fail> {
+    for (word, head, wanted) in NEAR {
+        assert!(rt; is_near(word, head) == wanted);
     }
-    assert!(rt; near_word(b"costs", &KNOWN) == Some(5));
+    Ok(())
+}
+
+#[test]
+fn titles_have_letters(rt: HostRuntime) -> Result<(), Fail> {
+    for (title, wanted) in LETTERS {
+        let letters = head_letters(rt.alloc(), title)?;
+        assert!(rt; letters.as_slice() == wanted);
+    }
+    Ok(())
+}
+
+#[test]
+fn words_mean_heads(rt: HostRuntime) -> Result<(), Fail> {
+    for (word, wanted) in MEANT {
+        assert!(rt; common_word(word) == wanted);
+    }
     Ok(())
 }
 
@@ -73,7 +105,8 @@ fn heads_end_in_digits(rt: HostRuntime) -> Result<(), Fail> {
     for (letters, word, digits) in DIGITS {
         assert!(rt; word_and_digits(letters) == (word, digits));
     }
-    let letters = head_letters(rt.alloc(), b"Most_2 ")?;
-    assert!(rt; letters.as_slice() == b"most2".as_slice());
+    for (digits, wanted) in NUMBERS {
+        assert!(rt; head_number(digits) == wanted);
+    }
     Ok(())
 }

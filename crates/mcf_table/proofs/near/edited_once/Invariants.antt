@@ -1,5 +1,5 @@
 use Rattle.std.proofs.Common.{◌≡◌, length}
-use Rattle.mcf_table.specs.Private.Edits.{is_one_edit}
+use Rattle.mcf_table.specs.NearHeads.{is_one_edit}
 use Rattle.mcf_table.proofs.near.edited_once.Given as goal
 
 abbrev pub invariant-letters : goal.invariant-letters

@@ -1,6 +1,3 @@
-use Rattle.std.proofs.Common.{◌≡◌, map, ap, subst, Bor}
-use Rattle.std.specs.List.{IsFirstAndRest}
-use Rattle.std.specs.Option.{MatchOption}
 use Rattle.mcf_table.proofs.WrittenRows.{cells_put}
 use Rattle.mcf_table.proofs.written.put_cells.Goals as goal
 
