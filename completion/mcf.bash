@@ -10,7 +10,9 @@ _mcf_values()
         *:--form) echo full sparse 1 2 ;;
         mcfplan:--unused | mcfplan:--short) echo refuse allow ;;
         *:--unused | *:--short) echo allow refuse ;;
+        mcfplan:--each) echo auto who what both ;;
         *:--each) echo who what both ;;
+        mcfplan:--maximise) echo no yes ;;
         mcfplan:--decimal) echo auto . , ;;
         *:--decimal) echo , . ;;
     esac
@@ -25,6 +27,7 @@ _mcf_options()
         mcf:solve) echo -h --help "$solve" ;;
         mcf:*) echo -h --help -V --version ;;
         mcfplan:flow) echo -h --help --decimal --unused --short --penalty ;;
+        mcfplan:pairs) echo -h --help --decimal --each --maximise ;;
         mcfplan:*) echo -h --help -V --version ;;
         mcf_one:*) echo "$solve" ;;
         mcf_plan:flow) echo -h --help "$plan" --unused --short --most-flow --penalty --no-picture ;;
@@ -40,7 +43,7 @@ _mcf_subcommands()
 {
     case $1 in
         mcf) echo solve help ;;
-        mcfplan) echo flow help ;;
+        mcfplan) echo flow pairs help ;;
         mcf_plan) echo flow pairs diff ;;
     esac
 }

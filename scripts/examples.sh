@@ -149,12 +149,32 @@ plans_to() {
         report "mcfplan flow, $1: status $status, $(cat "$written" "$written.err")"
 }
 
+# `mcfplan` answers the table of persons and things of an example with this status, and these rows.
+pairs_to() {
+    example=$1
+    status_wanted=$2
+    shift 2
+    bin/mcfplan pairs "$plans/$example/costs.csv" > "$written" 2> "$written.err"
+    status=$?
+    [ "$status" -eq "$status_wanted" ] && [ ! -s "$written.err" ] ||
+        report "mcfplan pairs, $example: status $status, $(cat "$written" "$written.err")"
+    for row in "$@"; do
+        grep -q -x -F "$row" "$written" || report "mcfplan pairs, $example: no row $row: $(cat "$written")"
+    done
+}
+
 if [ -x bin/mcfplan ]; then
     plans_to transport 0 '"cost","980"'
     cmp -s "$written" crates/mcfplan/stdout || report "mcfplan flow, transport: another plan"
     plans_to blocked 1 '"answer","no plan"'
     plans_to bad-tables 2 '"answer","faults"'
     [ "$(bin/mcfplan --version | head -n 1)" = 'mcfplan 1.0.0' ] || report 'mcfplan --version: another version'
+    pairs_to roster 0 '"answer","plan"' '"cost","6"' '"pair","5","7","Maier, Hans","Früh Mi","1"'
+    pairs_to roster-blocked 1 '"answer","no plan"' '"side","send"' '"person","2","Anna Berger"'
+    pairs_to rota 0 '"answer","plan"' '"cost","13"'
+    tells 'mcfplan: name a table, COSTS' bin/mcfplan pairs
+    tells 'mcfplan: cannot read the table of costs' bin/mcfplan pairs none.csv
+    tells_with_little 'mcfplan: out of memory' bin/mcfplan pairs "$written.large"
     tells 'mcfplan: name two tables, PLACES and ROUTES' bin/mcfplan flow $plans/transport/places.csv
     tells 'mcfplan: cannot read the table of places' bin/mcfplan flow none.csv $plans/transport/routes.csv
     tells 'mcfplan: cannot read the table of routes' bin/mcfplan flow $plans/transport/places.csv none.csv
@@ -165,4 +185,4 @@ fi
 [ "$wrong" -eq 0 ] || { echo "examples: $wrong wrong of $pairs pairs"; exit 1; }
 [ ! -x bin/mcf ] || echo "examples: mcf writes the answers of all $pairs instances"
 [ ! -x bin/mcfcheck ] || echo "examples: mcfcheck accepts the answers of all $pairs instances"
-[ ! -x bin/mcfplan ] || echo "examples: mcfplan plans the tables of three examples"
+[ ! -x bin/mcfplan ] || echo "examples: mcfplan plans the tables of six examples"

@@ -30,6 +30,7 @@ programs() {
     step 0 "accepted flow 14" mcfcheck transport.min transport.ans
     step 0 "0 copy.min accepted flow 14" mcf_one copy.min
     step 0 '"cost","980"' mcfplan flow plans/transport/places.csv plans/transport/routes.csv
+    step 0 '"answer","plan"' mcfplan pairs plans/roster/costs.csv
 }
 
 tools() {

@@ -16,6 +16,7 @@ LINES = (
     ("mcf", "solve"),
     ("mcfplan",),
     ("mcfplan", "flow"),
+    ("mcfplan", "pairs"),
     ("mcf_plan",),
     ("mcf_plan", "flow"),
     ("mcf_plan", "pairs"),

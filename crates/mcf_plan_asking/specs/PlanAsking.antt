@@ -9,7 +9,12 @@ use Rattle.clap.specs.declared.error.kind.ErrorKind.TheVariants.{OutOfMemory}
 use Rattle.mcf_asking.specs.Asking.{choice_by, word_rule}
 use Rattle.mcf_decimal.specs.declared.mark.Mark.{Mark}
 use Rattle.mcf_decimal.specs.declared.mark.Mark.TheVariants.{Point, Comma}
+use Rattle.mcf_plan_asking.specs.declared.asking.AskedEach.{AskedEach}
+use Rattle.mcf_plan_asking.specs.declared.asking.AskedEach.TheVariants.{Who, What, Both}
+use Rattle.mcf_plan_asking.specs.declared.asking.AskedFlow.{AskedFlow}
+use Rattle.mcf_plan_asking.specs.declared.asking.AskedPairs.{AskedPairs}
 use Rattle.mcf_plan_asking.specs.declared.asking.AskedPlan.{AskedPlan}
+use Rattle.mcf_plan_asking.specs.declared.asking.AskedPlan.TheVariants.{Flow, Pairs}
 
 -- the words for the mark before decimals, and what each asks for
 abbrev pub mark_words : List (Text × Option Mark)
@@ -27,6 +32,22 @@ leave_words = (codes "refuse", false) ∷ (codes "allow", true) ∷ []
 abbrev pub leave_names : List Text
 leave_names = map (λ (row : Text × Bool). row.0) leave_words
 
+-- the words for who gets just one, and what each asks for
+abbrev pub each_words : List (Text × Option AskedEach)
+each_words = (codes "auto", None) ∷ (codes "who", Some Who) ∷ (codes "what", Some What) ∷ (codes "both", Some Both) ∷ []
+
+-- the words alone
+abbrev pub each_names : List Text
+each_names = map (λ (row : Text × Option AskedEach). row.0) each_words
+
+-- the words for whether costs are values, and what each asks for
+abbrev pub maximise_words : List (Text × Bool)
+maximise_words = (codes "no", false) ∷ (codes "yes", true) ∷ []
+
+-- the words alone
+abbrev pub maximise_names : List Text
+maximise_names = map (λ (row : Text × Bool). row.0) maximise_words
+
 -- `--decimal MARK`, one of these words, and `auto` where it is left out
 abbrev pub mark_rule : Bor (List (Bor Text)) → Rule
 mark_rule names = word_rule (codes "decimal") names (codes "auto")
@@ -34,6 +55,14 @@ mark_rule names = word_rule (codes "decimal") names (codes "auto")
 -- an option of this name, one of these words, and `refuse` where it is left out
 abbrev pub leave_rule : Text → Bor (List (Bor Text)) → Rule
 leave_rule name names = word_rule name names (codes "refuse")
+
+-- `--each WORD`, one of these words, and `auto` where it is left out
+abbrev pub each_rule : Bor (List (Bor Text)) → Rule
+each_rule names = word_rule (codes "each") names (codes "auto")
+
+-- `--maximise WORD`, one of these words, and `no` where it is left out
+abbrev pub maximise_rule : Bor (List (Bor Text)) → Rule
+maximise_rule names = word_rule (codes "maximise") names (codes "no")
 
 -- `--penalty N`, which may be left out
 abbrev pub penalty_rule : Rule
@@ -54,13 +83,23 @@ flow_rules marks unused short =
 abbrev pub flow_shape : Bor (List (Bor Text)) → Bor (List (Bor Text)) → Bor (List (Bor Text)) → Shape
 flow_shape marks unused short = record (new_app (codes "flow")).top { rules = flow_rules marks unused short }
 
+-- the arguments of `pairs`, with these words for marks, for who gets just one and for whether costs
+-- are values
+abbrev pub pairs_rules : Bor (List (Bor Text)) → Bor (List (Bor Text)) → Bor (List (Bor Text)) → List Rule
+pairs_rules marks each maximise =
+    mark_rule marks ∷ each_rule each ∷ maximise_rule maximise ∷ table_rule (codes "costs") ∷ []
+
+-- `pairs [--decimal MARK] [--each WORD] [--maximise WORD] [COSTS]`
+abbrev pub pairs_shape : Bor (List (Bor Text)) → Bor (List (Bor Text)) → Bor (List (Bor Text)) → Shape
+pairs_shape marks each maximise = record (new_app (codes "pairs")).top { rules = pairs_rules marks each maximise }
+
 -- `mcfplan`, which wants a subcommand, and has a version
 abbrev pub mcfplan_top : App
 mcfplan_top = record { top = record (new_app (codes "mcfplan")).top { has_version = true; subcommand_required = true }; subs = [] }
 
--- `mcfplan` with its one subcommand
-abbrev pub mcfplan_app : Bor (List (Bor Text)) → Bor (List (Bor Text)) → Bor (List (Bor Text)) → App
-mcfplan_app marks unused short = with_subcommand mcfplan_top (flow_shape marks unused short)
+-- `mcfplan` with two subcommands
+abbrev pub mcfplan_app : Shape → Shape → App
+mcfplan_app flow pairs = with_subcommand (with_subcommand mcfplan_top flow) pairs
 
 -- what a parse reads of the subcommand `flow`
 pub record IsFlow (shape : Shape) : Type 0 where
@@ -72,15 +111,23 @@ pub record IsFlow (shape : Shape) : Type 0 where
   pub short_spelled : texts short.now ≡ leave_names
   pub reads : shape ≡ flow_shape marks unused short
 
+-- what a parse reads of the subcommand `pairs`
+pub record IsPairs (shape : Shape) : Type 0 where
+  pub marks : Bor (List (Bor Text))
+  pub each : Bor (List (Bor Text))
+  pub maximise : Bor (List (Bor Text))
+  pub marks_spelled : texts marks.now ≡ mark_names
+  pub each_spelled : texts each.now ≡ each_names
+  pub maximise_spelled : texts maximise.now ≡ maximise_names
+  pub reads : shape ≡ pairs_shape marks each maximise
+
 -- what a parse reads of the command `mcfplan`
 pub record IsMcfplan (app : App) : Type 0 where
-  pub marks : Bor (List (Bor Text))
-  pub unused : Bor (List (Bor Text))
-  pub short : Bor (List (Bor Text))
-  pub marks_spelled : texts marks.now ≡ mark_names
-  pub unused_spelled : texts unused.now ≡ leave_names
-  pub short_spelled : texts short.now ≡ leave_names
-  pub reads : app ≡ mcfplan_app marks unused short
+  pub flow : Shape
+  pub pairs : Shape
+  pub is_flow : IsFlow flow
+  pub is_pairs : IsPairs pairs
+  pub reads : app ≡ mcfplan_app flow pairs
 
 -- the mark that a word asks for
 abbrev pub mark_by : Option Text → Option Mark
@@ -90,21 +137,45 @@ mark_by name = choice_by mark_words None name
 abbrev pub leave_by : Option Text → Bool
 leave_by name = choice_by leave_words false name
 
+-- who gets just one, as a word asks
+abbrev pub each_by : Option Text → Option AskedEach
+each_by name = choice_by each_words None name
+
+-- whether a word asks that costs are values
+abbrev pub maximise_by : Option Text → Bool
+maximise_by name = choice_by maximise_words false name
+
 -- the texts of words
 abbrev pub word_text : Option (Bor Text) → Option Text
 word_text word = option_map (λ (w : Bor Text). w.now) word
 
--- what is asked is what the matches of the subcommand hold that the words name
-pub record AsksPlan (app : App) (words : List Text) (asked : AskedPlan) : Type 0 where
-  pub name : Text
-  pub rows : List Row
-  pub subcommand : subcommand_of app words ≡ Some (name, rows)
+-- what is asked of two tables is what matches hold
+pub record IsAskedFlow (rows : List Row) (asked : AskedFlow) : Type 0 where
   pub mark : asked.mark ≡ mark_by (first_of (codes "decimal") rows)
   pub unused : asked.unused ≡ leave_by (first_of (codes "unused") rows)
   pub short : asked.short ≡ leave_by (first_of (codes "short") rows)
   pub penalty : word_text asked.penalty ≡ first_of (codes "penalty") rows
   pub places : word_text asked.places ≡ first_of (codes "places") rows
   pub routes : word_text asked.routes ≡ first_of (codes "routes") rows
+
+-- what is asked of a table of persons and things is what matches hold
+pub record IsAskedPairs (rows : List Row) (asked : AskedPairs) : Type 0 where
+  pub mark : asked.mark ≡ mark_by (first_of (codes "decimal") rows)
+  pub each : asked.each ≡ each_by (first_of (codes "each") rows)
+  pub maximise : asked.maximise ≡ maximise_by (first_of (codes "maximise") rows)
+  pub costs : word_text asked.costs ≡ first_of (codes "costs") rows
+
+-- what is asked is what the matches of the subcommand with this name hold
+abbrev pub IsAskedBy : Text → List Row → AskedPlan → Type 0
+IsAskedBy name rows (Flow asked) = ¬ (name ≡ codes "pairs") × IsAskedFlow rows asked
+IsAskedBy name rows (Pairs asked) = (name ≡ codes "pairs") × IsAskedPairs rows asked
+
+-- what is asked is what the matches of the subcommand hold that the words name
+pub record AsksPlan (app : App) (words : List Text) (asked : AskedPlan) : Type 0 where
+  pub name : Text
+  pub rows : List Row
+  pub subcommand : subcommand_of app words ≡ Some (name, rows)
+  pub is_asked : IsAskedBy name rows asked
 
 -- what is asked is what the matches hold; only memory may be wanting where the command takes the
 -- words; and else the words have a fault, the first of which is told, help that is asked for among

@@ -1,19 +1,19 @@
 //! What the words of a planner's command line ask.
 ghost use Rattle.std.specs.Prelude.{◌≡◌, IfOk, codes, false, map, option_map, true};
-ghost use Rattle.clap.specs.Words.{app_of, rule_of, shape_of};
+ghost use Rattle.clap.specs.Words.{app_of, found_of, rows_of, rule_of, shape_of};
 ghost use Rattle.clap.specs.declared.builder.command.Command.TheViews.{out-Command};
 ghost use Rattle.mcf_asking.specs.Asking.{Offers, word_rule};
-ghost use Rattle.mcf_plan_asking.specs.PlanAsking.{IsFlow, IsMcfplan, IsPlanReading, leave_by, leave_names, leave_rule, mark_by, mark_names, mark_rule, penalty_rule, table_rule};
+ghost use Rattle.mcf_plan_asking.specs.PlanAsking.{IsAskedBy, IsAskedFlow, IsAskedPairs, IsFlow, IsMcfplan, IsPairs, IsPlanReading, each_by, each_names, each_rule, leave_by, leave_names, leave_rule, mark_by, mark_names, mark_rule, maximise_by, maximise_names, maximise_rule, penalty_rule, table_rule};
 
-use clap::{Arg, Command, Error};
+use clap::{Arg, ArgMatches, Command, Error};
 use mcf_asking::word_option;
 use mcf_decimal::Mark;
 use std::alloc::{AllocError, Global};
 use std::convert::AsStr;
 
-/// What the words of a planner's command line ask.
+/// What a planner's command line asks of two tables, of places and of routes.
 #[derive(Clone, Copy, Debug)]
-pub struct AskedPlan<'a> {
+pub struct AskedFlow<'a> {
     /// The mark before decimals, or `None` for the one that cells show.
     pub mark: Option<Mark>,
     /// Whether supplies may stay.
@@ -28,15 +28,56 @@ pub struct AskedPlan<'a> {
     pub routes: Option<&'a str>,
 }
 
+/// Who gets just one, where no cell says how many.
+#[derive(Clone, Copy, Debug, PartialEq, Eq)]
+pub enum AskedEach {
+    /// Each person takes one thing.
+    Who,
+    /// Each thing has one person.
+    What,
+    /// Each person takes one thing, and each thing has one person.
+    Both,
+}
+
+/// What a planner's command line asks of a table of persons and things.
+#[derive(Clone, Copy, Debug)]
+pub struct AskedPairs<'a> {
+    /// The mark before decimals, or `None` for the one that costs show.
+    pub mark: Option<Mark>,
+    /// Who gets just one, or `None` for what the table says.
+    pub each: Option<AskedEach>,
+    /// Whether costs are values.
+    pub maximise: bool,
+    /// The file of the table, if it is named.
+    pub costs: Option<&'a str>,
+}
+
+/// What the words of a planner's command line ask.
+#[derive(Clone, Copy, Debug)]
+pub enum AskedPlan<'a> {
+    /// A plan for two tables, of places and of routes.
+    Flow(AskedFlow<'a>),
+    /// A choice for a table of persons and things.
+    Pairs(AskedPairs<'a>),
+}
+
 // The words for the mark before decimals.
 static MARKS: [&str; 3] = ["auto", ".", ","];
 
 // The words for what may be left.
 static LEAVES: [&str; 2] = ["refuse", "allow"];
 
+// The words for who gets just one.
+static EACHES: [&str; 4] = ["auto", "who", "what", "both"];
+
+// The words for whether costs are values.
+static ANSWERS: [&str; 2] = ["no", "yes"];
+
 /// Parses the words of a command line: `mcfplan flow [--decimal auto|.|,] [--unused refuse|allow]
-/// [--short refuse|allow] [--penalty N] PLACES ROUTES`. The defaults are `auto` and `refuse`.
-/// PLACES and ROUTES may be left out here; it is for the caller to want them, and to read N.
+/// [--short refuse|allow] [--penalty N] PLACES ROUTES`, or `mcfplan pairs [--decimal auto|.|,]
+/// [--each auto|who|what|both] [--maximise no|yes] COSTS`. The defaults are `auto`, `refuse` and
+/// `no`. PLACES, ROUTES and COSTS may be left out here; it is for the caller to want them, and to
+/// read N.
 ///
 /// The words begin with the name of the program, which isn't read.
 ///
@@ -47,30 +88,61 @@ pub fn plan_command<'a, W: AsStr>(alloc: Global, words: &'a [W]) -> Result<Asked
     ensures { IsPlanReading (map W.text words.entry.now) result }
 {
     let matches = mcfplan(alloc)?.try_get_matches_from(words)?;
-    let Some((_, flow)) = matches.subcommand() else {
+    let Some((name, found)) = matches.subcommand() else {
         unreachable!();
     };
-    Ok(AskedPlan {
-        mark: mark_of(flow.get_str("decimal")),
-        unused: leave_of(flow.get_str("unused")),
-        short: leave_of(flow.get_str("short")),
-        penalty: flow.get_str("penalty"),
-        places: flow.get_str("places"),
-        routes: flow.get_str("routes"),
-    })
+    Ok(asked_in(name, found))
 }
 
-// The command `mcfplan` with its one subcommand.
+// What the matches of the subcommand with this name ask.
+fn asked_in<'a>(name: &str, found: &ArgMatches<'a>) -> AskedPlan<'a>
+    ensures { IsAskedBy name.now (rows_of (found_of found.now)) result }
+{
+    match name {
+        "pairs" => AskedPlan::Pairs(pairs_in(found)),
+        _ => AskedPlan::Flow(flow_in(found)),
+    }
+}
+
+// What the matches of `flow` ask.
+fn flow_in<'a>(found: &ArgMatches<'a>) -> AskedFlow<'a>
+    ensures { IsAskedFlow (rows_of (found_of found.now)) result }
+{
+    AskedFlow {
+        mark: mark_of(found.get_str("decimal")),
+        unused: leave_of(found.get_str("unused")),
+        short: leave_of(found.get_str("short")),
+        penalty: found.get_str("penalty"),
+        places: found.get_str("places"),
+        routes: found.get_str("routes"),
+    }
+}
+
+// What the matches of `pairs` ask.
+fn pairs_in<'a>(found: &ArgMatches<'a>) -> AskedPairs<'a>
+    ensures { IsAskedPairs (rows_of (found_of found.now)) result }
+{
+    AskedPairs {
+        mark: mark_of(found.get_str("decimal")),
+        each: each_of(found.get_str("each")),
+        maximise: maximise_of(found.get_str("maximise")),
+        costs: found.get_str("costs"),
+    }
+}
+
+// The command `mcfplan` with its two subcommands.
 fn mcfplan<'a>(alloc: Global) -> Result<Command<'a>, AllocError>
     ensures app { IfOk result (λ c. IsMcfplan (app_of c)) }
     ensures local { IfOk result (λ c. (out-Command c).has_globals ≡ false) }
 {
     let flow = flow(alloc)?;
+    let pairs = pairs(alloc)?;
     Command::new(alloc, "mcfplan")
         .about("Plans from tables, with a proved least cost")
         .version("1.0.0")
         .subcommand_required(true)
-        .subcommand(flow)
+        .subcommand(flow)?
+        .subcommand(pairs)
 }
 
 // The subcommand `flow`.
@@ -90,6 +162,21 @@ fn flow<'a>(alloc: Global) -> Result<Command<'a>, AllocError>
         .arg(table_argument(alloc, "routes", "ROUTES"))
 }
 
+// The subcommand `pairs`.
+fn pairs<'a>(alloc: Global) -> Result<Command<'a>, AllocError>
+    ensures shape { IfOk result (λ c. IsPairs (shape_of c)) }
+    ensures local { IfOk result (λ c. (out-Command c).has_globals ≡ false) }
+{
+    Command::new(alloc, "pairs")
+        .about(
+            "Pairs persons and things: the table COSTS has the columns who, what and cost, or a row for each person and a column for each thing",
+        )
+        .arg(mark_option(alloc))?
+        .arg(each_option(alloc))?
+        .arg(maximise_option(alloc))?
+        .arg(table_argument(alloc, "costs", "COSTS"))
+}
+
 // The option `--decimal`.
 fn mark_option<'a>(alloc: Global) -> Arg<'a>
     ensures rule { Offers mark_rule mark_names (rule_of result) }
@@ -106,6 +193,26 @@ fn leave_option<'a>(alloc: Global, name: &'a str, help: &'a str) -> Arg<'a>
     ensures local { result.global ≡ false }
 {
     word_option(alloc, name, "WORD", LEAVES.as_slice(), "refuse").help(help)
+}
+
+// The option `--each`.
+fn each_option<'a>(alloc: Global) -> Arg<'a>
+    ensures rule { Offers each_rule each_names (rule_of result) }
+    ensures local { result.global ≡ false }
+{
+    word_option(alloc, "each", "WORD", EACHES.as_slice(), "auto").help(
+        "Who gets just one: each person (who), each thing (what), or both; auto is what the table says",
+    )
+}
+
+// The option `--maximise`.
+fn maximise_option<'a>(alloc: Global) -> Arg<'a>
+    ensures rule { Offers maximise_rule maximise_names (rule_of result) }
+    ensures local { result.global ≡ false }
+{
+    word_option(alloc, "maximise", "WORD", ANSWERS.as_slice(), "no").help(
+        "Whether costs are values, of which the pairs have as much as possible",
+    )
 }
 
 // The option `--penalty`.
@@ -144,6 +251,28 @@ fn leave_of(name: Option<&str>) -> bool
 {
     match name {
         Some("allow") => true,
+        _ => false,
+    }
+}
+
+// Who gets just one, by a word.
+fn each_of(name: Option<&str>) -> Option<AskedEach>
+    ensures { result ≡ each_by (option_map (λ n. n.now) name.entry) }
+{
+    match name {
+        Some("who") => Some(AskedEach::Who),
+        Some("what") => Some(AskedEach::What),
+        Some("both") => Some(AskedEach::Both),
+        _ => None,
+    }
+}
+
+// Whether costs are values, by a word.
+fn maximise_of(name: Option<&str>) -> bool
+    ensures { result ≡ maximise_by (option_map (λ n. n.now) name.entry) }
+{
+    match name {
+        Some("yes") => true,
         _ => false,
     }
 }

@@ -7,4 +7,4 @@
 
 mod asking;
 
-pub use asking::{AskedPlan, plan_command};
+pub use asking::{AskedEach, AskedFlow, AskedPairs, AskedPlan, plan_command};

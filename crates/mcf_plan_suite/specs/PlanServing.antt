@@ -1,6 +1,6 @@
 -- What the command `mcfplan` does.
 -- Source: own
-use Rattle.std.specs.Prelude.{◌≡◌, ◌⊎◌, ℕ, List, [], Option, Some, None, Result, Ok, codes}
+use Rattle.std.specs.Prelude.{◌≡◌, ◌⊎◌, ℕ, List, [], Option, Some, None, option_map, Result, Ok, codes}
 use Rattle.std.specs.Borrow.{Bor}
 use Rattle.std.specs.Fn.{CalledAt, Mut}
 use Rattle.std.specs.Io.KnownBytes.{Appends}
@@ -12,12 +12,21 @@ use Rattle.mcf_decimal.specs.declared.decimal.Decimal.{Decimal}
 use Rattle.mcf_decimal.specs.declared.fault.NumberFault.{NumberFault}
 use Rattle.mcf_decimal.specs.declared.mark.Mark.{Mark}
 use Rattle.mcf_flow_tables.specs.declared.options.Options.{Options}
+use Rattle.mcf_pair_tables.specs.declared.options.Each.{Each}
+use Rattle.mcf_pair_tables.specs.declared.options.Each.TheVariants as each
+use Rattle.mcf_pair_tables.specs.declared.options.Options.{Options as PairOptions}
+use Rattle.mcf_pair_text.specs.PairTexts.{IsPairText}
 use Rattle.mcf_plan_asking.specs.PlanAsking.{AsksPlan, IsMcfplan, word_text}
+use Rattle.mcf_plan_asking.specs.declared.asking.AskedEach.{AskedEach}
+use Rattle.mcf_plan_asking.specs.declared.asking.AskedEach.TheVariants as asked
+use Rattle.mcf_plan_asking.specs.declared.asking.AskedFlow.{AskedFlow}
+use Rattle.mcf_plan_asking.specs.declared.asking.AskedPairs.{AskedPairs}
 use Rattle.mcf_plan_asking.specs.declared.asking.AskedPlan.{AskedPlan}
+use Rattle.mcf_plan_asking.specs.declared.asking.AskedPlan.TheVariants.{Flow, Pairs}
 use Rattle.mcf_plan_text.specs.PlanTexts.{IsPlanText}
-use Rattle.mcf_plan_text.specs.declared.telling.PlanText.{PlanText}
-use Rattle.mcf_plan_text.specs.declared.telling.TextKind.{TextKind}
-use Rattle.mcf_plan_text.specs.declared.telling.TextKind.TheVariants.{Plan, NoPlan, Faults}
+use Rattle.mcf_answer_rows.specs.declared.texts.PlanText.{PlanText}
+use Rattle.mcf_answer_rows.specs.declared.texts.TextKind.{TextKind}
+use Rattle.mcf_answer_rows.specs.declared.texts.TextKind.TheVariants.{Plan, NoPlan, Faults}
 use Rattle.mcf_reading.specs.Cells.{as_limit}
 use Rattle.mcf_solver.specs.Running.{TakesBeginning}
 
@@ -33,12 +42,12 @@ penalty_in mark None = Ok None
 penalty_in mark (Some word) = as_limit (read_number mark word)
 
 -- how tables are read, and what plans may leave
-abbrev pub options_in : AskedPlan → Option Decimal → Options
+abbrev pub options_in : AskedFlow → Option Decimal → Options
 options_in asked penalty =
     record { mark = asked.mark; terms = record { unused = asked.unused; short = asked.short; penalty = penalty } }
 
 -- the files of both tables are named, and the reader gave their bytes, in this order
-pub record ReadsTables {F V E : Type 0} (calls : Mut F (Bor (List ℕ) × Unit {0}) (Result V E)) (read after : F) (asked : AskedPlan) (places routes : V) : Type 0 where
+pub record ReadsTables {F V E : Type 0} (calls : Mut F (Bor (List ℕ) × Unit {0}) (Result V E)) (read after : F) (asked : AskedFlow) (places routes : V) : Type 0 where
   pub place_file : Text
   pub route_file : Text
   pub between : F
@@ -47,8 +56,8 @@ pub record ReadsTables {F V E : Type 0} (calls : Mut F (Bor (List ℕ) × Unit {
   pub places_read : CalledAt calls read place_file (Ok places) between
   pub routes_read : CalledAt calls between route_file (Ok routes) after
 
--- the text is an answer to the tables that are named, under the options that are asked
-pub record IsAsked {F V E : Type 0} (calls : Mut F (Bor (List ℕ) × Unit {0}) (Result V E)) (bytes : V → List ℕ) (read after : F) (asked : AskedPlan)
+-- the text is an answer to the two tables that are named, under the options that are asked
+pub record TellsFlow {F V E : Type 0} (calls : Mut F (Bor (List ℕ) × Unit {0}) (Result V E)) (bytes : V → List ℕ) (read after : F) (asked : AskedFlow)
     (text : PlanText) : Type 0 where
   pub penalty : Option Decimal
   pub penalty_is : penalty_in asked.mark (word_text asked.penalty) ≡ Ok penalty
@@ -56,6 +65,31 @@ pub record IsAsked {F V E : Type 0} (calls : Mut F (Bor (List ℕ) × Unit {0}) 
   pub routes : V
   pub tables : ReadsTables calls read after asked places routes
   pub answers : IsPlanText (bytes places) (bytes routes) (options_in asked penalty) text
+
+-- who gets just one
+abbrev pub each_in : AskedEach → Each
+each_in asked.Who = each.Who
+each_in asked.What = each.What
+each_in asked.Both = each.Both
+
+-- how a table of persons and things is read, and which choice is the best
+abbrev pub pair_options_in : AskedPairs → PairOptions
+pair_options_in asked = record { mark = asked.mark; each = option_map each_in asked.each; maximise = asked.maximise }
+
+-- the text is an answer to the table that is named, whose bytes the reader gave, under the options
+-- that are asked
+pub record TellsPairs {F V E : Type 0} (calls : Mut F (Bor (List ℕ) × Unit {0}) (Result V E)) (bytes : V → List ℕ) (read after : F) (asked : AskedPairs)
+    (text : PlanText) : Type 0 where
+  pub file : Text
+  pub costs : V
+  pub names_costs : word_text asked.costs ≡ Some file
+  pub costs_read : CalledAt calls read file (Ok costs) after
+  pub answers : IsPairText (bytes costs) (pair_options_in asked) text
+
+-- the text is an answer to what is asked
+abbrev pub Tells : {F V E : Type 0} → Mut F (Bor (List ℕ) × Unit {0}) (Result V E) → (V → List ℕ) → F → F → AskedPlan → PlanText → Type 0
+Tells calls bytes read after (Flow asked) text = TellsFlow calls bytes read after asked text
+Tells calls bytes read after (Pairs asked) text = TellsPairs calls bytes read after asked text
 
 -- the words have no fault and ask to plan, and this holds of what they ask
 pub record AsksToPlan (words : List Text) (of_asked : AskedPlan → Type 0) : Type 0 where
@@ -76,7 +110,7 @@ pub record HavePlanFault (words : List Text) (kind : ErrorKind) : Type 0 where
 abbrev pub Plans : {F V E : Type 0} → Mut F (Bor (List ℕ) × Unit {0}) (Result V E) → (V → List ℕ) → F → F → List Text → ℕ
     → Option (List ℕ) → Option (List ℕ) → Type 0
 Plans calls bytes read after words status old new =
-    AsksToPlan words (λ asked. (text : PlanText) × IsAsked calls bytes read after asked text × (status ≡ status_of text.kind)
+    AsksToPlan words (λ asked. (text : PlanText) × Tells calls bytes read after asked text × (status ≡ status_of text.kind)
     × Appends old new text.text.items)
 
 -- the name and the version of the program, and the logic that it was proved with

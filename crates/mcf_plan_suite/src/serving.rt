@@ -2,7 +2,7 @@
 ghost use Rattle.std.specs.Prelude.{◌≡◌, ◌≢◌, ◌≤◌, ◌⊎◌, IfOk, Ok, OnOk, map, option_map};
 ghost use Rattle.std.specs.Fn.{CalledAt};
 ghost use Rattle.clap.specs.Words.{kind_of};
-ghost use Rattle.mcf_plan_suite.specs.PlanServing.{IsAsked, IsShownPlan, ServesPlan, penalty_in, status_of};
+ghost use Rattle.mcf_plan_suite.specs.PlanServing.{IsShownPlan, ServesPlan, Tells, TellsFlow, TellsPairs, each_in, penalty_in, status_of};
 
 use crate::version::VERSION;
 use clap::Error;
@@ -11,7 +11,9 @@ use mcf_checker::FileFault;
 use mcf_decimal::{Decimal, Mark, number};
 use mcf_flow_tables::{Options, Texts};
 use mcf_model::Solves;
-use mcf_plan_asking::{AskedPlan, plan_command};
+use mcf_pair_tables::{Each, Options as PairOptions};
+use mcf_pair_text::pair_text;
+use mcf_plan_asking::{AskedEach, AskedFlow, AskedPairs, AskedPlan, plan_command};
 use mcf_plan_text::{PlanText, TextKind, plan_text};
 use mcf_solver::{RunFault, Sink, send};
 use mcf_text::NoMemory;
@@ -29,11 +31,13 @@ enum Failure {
     Usage(String),
     // A table isn't named.
     Tables,
+    Table,
     // The penalty isn't a number.
     Penalty,
     // The file of a table can't be read.
     Places,
     Routes,
+    Costs,
     // Writing failed.
     Write,
     // Memory ran out.
@@ -46,9 +50,11 @@ impl Failure {
         match self {
             Failure::Usage(text) => text.as_str(),
             Failure::Tables => "mcfplan: name two tables, PLACES and ROUTES\n",
+            Failure::Table => "mcfplan: name a table, COSTS\n",
             Failure::Penalty => "mcfplan: the penalty isn't a number\n",
             Failure::Places => "mcfplan: cannot read the table of places\n",
             Failure::Routes => "mcfplan: cannot read the table of routes\n",
+            Failure::Costs => "mcfplan: cannot read the table of costs\n",
             Failure::Write => "mcfplan: write failed\n",
             Failure::NoMemory => "mcfplan: out of memory\n",
         }
@@ -114,15 +120,15 @@ fn read_file<R: FnMut(&str) -> Result<Vec<u8>, FileFault>>(
     }
 }
 
-// The answer to what is asked.
-fn text_of<S: Solves, R: FnMut(&str) -> Result<Vec<u8>, FileFault>>(
+// The answer to what is asked of two tables.
+fn flow_text<S: Solves, R: FnMut(&str) -> Result<Vec<u8>, FileFault>>(
     alloc: Global,
     solver: &mut S,
     read: &mut R,
-    asked: AskedPlan<'_>,
+    asked: AskedFlow<'_>,
 ) -> Result<PlanText, Failure>
     requires { R.IsAlwaysCallable read.old }
-    ensures { IfOk result (IsAsked R.FnMut (λ file. file.items) read.old read.new asked.entry) }
+    ensures { IfOk result (TellsFlow R.FnMut (λ file. file.items) read.old read.new asked.entry) }
 {
     let penalty = penalty_in(asked.mark, asked.penalty)?;
     let options = Options {
@@ -144,6 +150,66 @@ fn text_of<S: Solves, R: FnMut(&str) -> Result<Vec<u8>, FileFault>>(
     };
     let text = plan_text(alloc, solver, texts, options)?;
     Ok(text)
+}
+
+// Who gets just one.
+fn each_in(asked: AskedEach) -> Each
+    ensures { result ≡ each_in asked }
+{
+    match asked {
+        AskedEach::Who => Each::Who,
+        AskedEach::What => Each::What,
+        AskedEach::Both => Each::Both,
+    }
+}
+
+// Who gets just one, if that is asked.
+fn each_of(asked: Option<AskedEach>) -> Option<Each>
+    ensures { result ≡ option_map each_in asked }
+{
+    match asked {
+        Some(each) => Some(each_in(each)),
+        None => None,
+    }
+}
+
+// The answer to what is asked of a table of persons and things.
+fn pairs_text<S: Solves, R: FnMut(&str) -> Result<Vec<u8>, FileFault>>(
+    alloc: Global,
+    solver: &mut S,
+    read: &mut R,
+    asked: AskedPairs<'_>,
+) -> Result<PlanText, Failure>
+    requires { R.IsAlwaysCallable read.old }
+    ensures { IfOk result (TellsPairs R.FnMut (λ file. file.items) read.old read.new asked.entry) }
+{
+    let options = PairOptions {
+        mark: asked.mark,
+        each: each_of(asked.each),
+        maximise: asked.maximise,
+    };
+    let Some(file) = asked.costs else {
+        return Err(Failure::Table);
+    };
+    let costs = read_file(read, file, Failure::Costs)?;
+    let text = pair_text(alloc, solver, &costs, options)?;
+    Ok(text)
+}
+
+// The answer to what is asked.
+fn text_of<S: Solves, R: FnMut(&str) -> Result<Vec<u8>, FileFault>>(
+    alloc: Global,
+    solver: &mut S,
+    read: &mut R,
+    asked: AskedPlan<'_>,
+) -> Result<PlanText, Failure>
+    requires { R.IsAlwaysCallable read.old }
+    ensures { IfOk result (Tells R.FnMut (λ file. file.items) read.old read.new asked.entry) }
+{
+    match asked {
+        AskedPlan::Flow(asked) => flow_text(alloc, solver, read, asked),
+        AskedPlan::Pairs(asked) => pairs_text(alloc, solver, read, asked),
+    }
 }
 
 // Prints the help or the version, if the words ask for it, and returns the status.
@@ -196,12 +262,13 @@ fn answer<W: AsStr, S: Solves, R: FnMut(&str) -> Result<Vec<u8>, FileFault>, O: 
 /// Does what the words of a planner's command line ask, and returns the exit status.
 ///
 /// The words begin with the name of the program: `mcfplan flow [--decimal MARK] [--unused WORD]
-/// [--short WORD] [--penalty N] PLACES ROUTES`, as `plan_command` reads them, or `mcfplan
-/// --version`. `read` returns the bytes of a file; it is called for PLACES first. The answer goes
-/// to `out`, as the text of a table, which `plan_text` describes. Status 0 means a least plan, or
-/// the requested help or version on `out`; 1 that there is no plan; 2 faults. Status 3, with a line
-/// or the text of the usage fault on `err`, means that the words aren't a command of `mcfplan`, a
-/// file can't be read, writing fails, or memory runs out.
+/// [--short WORD] [--penalty N] PLACES ROUTES`, or `mcfplan pairs [--decimal MARK] [--each WORD]
+/// [--maximise WORD] COSTS`, as `plan_command` reads them, or `mcfplan --version`. `read` returns
+/// the bytes of a file; it is called for PLACES first. The answer goes to `out`, as the text of a
+/// table, which `plan_text` and `pair_text` describe. Status 0 means a least plan or choice, or the
+/// requested help or version on `out`; 1 that there is none; 2 faults. Status 3, with a line or the
+/// text of the usage fault on `err`, means that the words aren't a command of `mcfplan`, a file
+/// can't be read, writing fails, or memory runs out.
 pub fn serve_plan<
     W: AsStr,
     S: Solves,

@@ -1,14 +1,15 @@
 //! Figures of the routes of least plans.
 use crate::plans::{PLAIN, model_of};
 use mcf_choice::Choice;
-use mcf_figures::{RouteFigures, route_figures};
-use mcf_model::{Planned, RouteRow};
+use mcf_figures::{RouteFigures, groups_of, is_exact, route_figures};
+use mcf_model::{PlanModel, Planned, RouteRow};
 use mcf_planner::plan_with;
 use mcf_text::NoMemory;
 use std::alloc::Global;
 use std::test::Fail;
 
-// A model of three places and three routes, and the figures of each route in its least plan.
+// A model of three places and three routes, the figures of each route in its least plan, and the
+// group of each place.
 #[derive(Clone, Copy)]
 struct FigureRow {
     supplies: [i64; 3],
@@ -16,6 +17,7 @@ struct FigureRow {
     free: [Option<i128>; 3],
     saves: [i128; 3],
     loose: [bool; 3],
+    groups: [usize; 3],
 }
 
 const ROWS: [FigureRow; 4] = [
@@ -48,6 +50,7 @@ const ROWS: [FigureRow; 4] = [
         free: [Some(0), Some(5), Some(7)],
         saves: [5, 0, 0],
         loose: [false, true, true],
+        groups: [1, 1, 1],
     },
     // a step, and no limits
     FigureRow {
@@ -80,6 +83,7 @@ const ROWS: [FigureRow; 4] = [
         free: [None, None, None],
         saves: [0, 0, 0],
         loose: [false, true, true],
+        groups: [1, 1, 1],
     },
     // a route both ways that is full on the way back
     FigureRow {
@@ -111,6 +115,7 @@ const ROWS: [FigureRow; 4] = [
         free: [Some(16), Some(0), Some(14)],
         saves: [0, 7, 0],
         loose: [true, false, true],
+        groups: [1, 1, 1],
     },
     // a degenerate plan: the first route is full, and no unit is left for it
     FigureRow {
@@ -141,8 +146,19 @@ const ROWS: [FigureRow; 4] = [
         free: [Some(0), Some(20), Some(5)],
         saves: [0, 0, 0],
         loose: [false, false, false],
+        groups: [1, 2, 3],
     },
 ];
+
+// Returns whether the saving of each route of a model is exact, and there is no other route.
+fn are_exact(model: &PlanModel, groups: &[usize], saves: [i128; 3]) -> bool {
+    for place in 0..3usize {
+        if model.route_count() <= place || !is_exact(model, groups, place, saves[place]) {
+            return false;
+        }
+    }
+    model.route_count() == 3
+}
 
 // Returns whether the figures of each route of a row are the expected ones, and there are no more.
 fn are_as_said(alloc: Global, row: &FigureRow) -> Result<bool, NoMemory> {
@@ -163,7 +179,12 @@ fn are_as_said(alloc: Global, row: &FigureRow) -> Result<bool, NoMemory> {
             return Ok(false);
         }
     }
-    Ok(route_figures(&model, prices, carries, 3).is_none())
+    let Some(groups) = groups_of(alloc, &model, prices, carries)? else {
+        return Ok(false);
+    };
+    let exact = are_exact(&model, &groups, row.saves);
+    let grouped = groups.as_slice() == row.groups.as_slice();
+    Ok(exact && grouped && route_figures(&model, prices, carries, 3).is_none())
 }
 
 #[test]

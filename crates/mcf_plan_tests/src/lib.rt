@@ -6,6 +6,8 @@
 //! They are a crate of their own, since a crate with tests is proved twice.
 
 #[cfg(test)]
+mod answer_rows;
+#[cfg(test)]
 mod both_ways;
 #[cfg(test)]
 mod chosen;
@@ -17,6 +19,8 @@ mod figures;
 mod flow_tables;
 #[cfg(test)]
 mod pair_tables;
+#[cfg(test)]
+mod pair_texts;
 #[cfg(test)]
 mod places;
 #[cfg(test)]

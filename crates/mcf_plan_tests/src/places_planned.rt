@@ -4,7 +4,8 @@ use mcf_flows::{Code, Side};
 use mcf_instance::ArrayFault;
 use mcf_model::{RouteRow, Step};
 use mcf_places::{
-    Bounds, LeastPlannerPlan, Origin, Place, Planner, PlannerAnswer, Policy, least, origin_of,
+    Bounds, LeastPlannerPlan, Origin, Place, Planner, PlannerAnswer, Policy, ShownModel, least,
+    origin_of,
 };
 use mcf_planner::Planner as Engine;
 use mcf_text::{ArcId, NoMemory, NodeId};
@@ -156,6 +157,17 @@ fn answer_of(
     Ok(Some(least(alloc, &mut engine, &planner)?))
 }
 
+// Returns whether the model's routes of the four routes carry these amounts, and each place of the
+// model has a price.
+fn is_shown(shown: &ShownModel, carries: &[i128; 4]) -> bool {
+    for place in 0..4usize {
+        if shown.carries.get(place) != carries.get(place) {
+            return false;
+        }
+    }
+    shown.prices.len() == shown.model.place_count()
+}
+
 // Returns whether a plan is the expected one.
 fn is_plan(found: &LeastPlannerPlan, row: &PlannedRow) -> bool {
     let stays = [row.stays, 0, 0, 0];
@@ -171,7 +183,8 @@ fn is_as_said(alloc: Global, row: &PlannedRow, missing: i128) -> Result<bool, No
     match answer_of(alloc, &row.wants, 3, row.policy)? {
         Some(PlannerAnswer::Least(found)) => {
             let planned = is_plan(&found, row);
-            Ok(planned && found.missing == missing)
+            let shown = is_shown(&found.shown, &row.carries);
+            Ok(planned && shown && found.missing == missing)
         }
         _ => Ok(false),
     }

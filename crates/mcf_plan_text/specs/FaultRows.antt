@@ -1,16 +1,13 @@
--- Faults of tables as rows of a table: each in six cells, `fault`, the table, the line, the column,
--- what is wrong, and the cell.
+-- Faults of two tables as rows of a table.
 -- Source: own
-use Rattle.std.specs.Prelude.{ℕ, suc, List, [], ◌∷◌, codes, decimal, max, Option, Some, None, slice_index_or}
-use Rattle.mcf_decimal.specs.declared.fault.NumberFault.{NumberFault}
-use Rattle.mcf_decimal.specs.declared.fault.NumberFault.TheVariants.{Empty, Exponent, Either, OtherMark, NoNumber, TooLong}
+use Rattle.std.specs.Prelude.{ℕ, suc, List, [], ◌∷◌, ◌++◌, codes, decimal, Option, Some, None}
+use Rattle.mcf_answer_rows.specs.AnswerRows.{line_at}
+use Rattle.mcf_answer_rows.specs.FaultWords.{fault_row, field_word, name_word, number_word, too_great}
 use Rattle.mcf_flows.specs.declared.code.Code.TheVariants as code
 use Rattle.mcf_instance.specs.declared.arrays.ArrayFault.{ArrayFault}
 use Rattle.mcf_instance.specs.declared.arrays.ArrayFault.TheVariants as number
 use Rattle.mcf_model.specs.declared.faults.RouteFault.{RouteFault}
 use Rattle.mcf_model.specs.declared.faults.RouteFault.TheVariants as route
-use Rattle.mcf_names.specs.declared.faults.NameFault.{NameFault}
-use Rattle.mcf_names.specs.declared.faults.NameFault.TheVariants as name
 use Rattle.mcf_places.specs.declared.faults.PlannerFault.{PlannerFault}
 use Rattle.mcf_places.specs.declared.faults.PlannerFault.TheVariants as planner
 use Rattle.mcf_places.specs.declared.origins.Origin.{Origin}
@@ -22,24 +19,18 @@ use Rattle.mcf_reading.specs.declared.kinds.Fault.{Fault}
 use Rattle.mcf_reading.specs.declared.kinds.FaultKind.{FaultKind}
 use Rattle.mcf_reading.specs.declared.kinds.FaultKind.TheVariants as kind
 use Rattle.mcf_reading.specs.declared.locations.ColumnAt.{ColumnAt}
-use Rattle.mcf_reading.specs.declared.locations.ColumnAt.TheVariants.{Under, Past}
+use Rattle.mcf_reading.specs.declared.locations.ColumnAt.TheVariants.{Under, Placed}
 use Rattle.mcf_reading.specs.declared.locations.Location.{Location}
 use Rattle.mcf_reading.specs.declared.locations.Table.{Table}
 use Rattle.mcf_reading.specs.declared.locations.Table.TheVariants.{Places, Routes}
 use Rattle.mcf_table.specs.Heads.{cells_of, column_of}
-use Rattle.mcf_table.specs.Texts.{Record, no_record}
-use Rattle.mcf_table.specs.declared.fault.FieldFault.{FieldFault}
-use Rattle.mcf_table.specs.declared.fault.FieldFault.TheVariants.{Unclosed, AfterQuote}
+use Rattle.mcf_table.specs.Texts.{Record}
 use Rattle.mcf_table.specs.declared.fault.TextFault.{TextFault}
 use Rattle.mcf_units.specs.declared.great.GreatFault.{GreatFault}
 use Rattle.mcf_units.specs.declared.great.GreatFault.TheVariants as great
 use Rattle.mcf_plan_text.specs.declared.fault_rows.Two.{Two}
 
 -- ---- where rows stand
-
--- the line on which a row begins; the first, if the table has no such row
-abbrev pub line_at : List Record → ℕ → ℕ
-line_at records row = max (slice_index_or records row no_record).line 1
 
 -- the two tables
 pub record TwoTables : Type 0 where
@@ -60,16 +51,7 @@ abbrev pub table_word : Table → List ℕ
 table_word Places = codes "places"
 table_word Routes = codes "routes"
 
--- a fault of a table
-abbrev pub fault_row : List ℕ → List ℕ → List ℕ → List ℕ → List ℕ → List (List ℕ)
-fault_row table line column what cell = codes "fault" ∷ table ∷ line ∷ column ∷ what ∷ cell ∷ []
-
 -- ---- texts that are no tables
-
--- why a field isn't read
-abbrev pub field_word : FieldFault → List ℕ
-field_word Unclosed = codes "quote not closed"
-field_word AfterQuote = codes "text after a quote"
 
 -- why a text is no table, if it is none
 abbrev pub text_rows : Table → Option TextFault → List (List (List ℕ))
@@ -78,24 +60,12 @@ text_rows table (Some fault) = fault_row (table_word table) (decimal fault.line)
 
 -- ---- faults of heads and cells
 
--- why a cell isn't a name
-abbrev pub name_word : NameFault → List ℕ
-name_word name.Empty = codes "empty name"
-name_word name.Control = codes "control character"
-
--- why a cell isn't a number
-abbrev pub number_word : NumberFault → List ℕ
-number_word Empty = codes "empty"
-number_word Exponent = codes "exponent"
-number_word Either = codes "either of two numbers"
-number_word OtherMark = codes "other decimal mark"
-number_word NoNumber = codes "no number"
-number_word TooLong = codes "too many digits"
-
--- what is wrong with a cell
+-- what is wrong with a cell, in front of the head that is meant, if it is about one
 abbrev pub fault_word : FaultKind → List ℕ
 fault_word kind.NoColumn = codes "no such column"
 fault_word kind.TwoColumns = codes "two such columns"
+fault_word (kind.NearHead head) = codes "nearly "
+fault_word (kind.Without head) = codes "not read without "
 fault_word kind.BothMarks = codes "both decimal marks"
 fault_word kind.Beyond = codes "beyond the last head"
 fault_word (kind.Name fault) = name_word fault
@@ -105,15 +75,25 @@ fault_word (kind.Number fault) = number_word fault
 fault_word kind.AfterNoLimit = codes "after a step without a limit"
 fault_word kind.NotYesNo = codes "neither yes nor no"
 
+-- the head that is meant, if a fault is about one
+abbrev pub meant_text : FaultKind → List ℕ
+meant_text (kind.NearHead head) = head_text head
+meant_text (kind.Without head) = head_text head
+meant_text kind = []
+
+-- what is wrong with a cell
+abbrev pub fault_text : FaultKind → List ℕ
+fault_text kind = fault_word kind ++ meant_text kind
+
 -- a column: its head, or its place, from 1
 abbrev pub column_text : ColumnAt → List ℕ
 column_text (Under head) = head_text head
-column_text (Past place) = decimal (suc place)
+column_text (Placed place) = decimal (suc place)
 
 -- the place of a column; none, if its head doesn't stand in just one column
 abbrev pub column_place : List Record → ColumnAt → Option ℕ
 column_place records (Under head) = only_place (column_of (head_text head) records)
-column_place records (Past place) = Some place
+column_place records (Placed place) = Some place
 
 -- the cell at a location
 abbrev pub cell_in : List Record → Location → List ℕ
@@ -126,13 +106,9 @@ located_row records at what =
 
 -- a fault of a head or a cell
 abbrev pub cell_fault_row : TwoTables → Fault → List (List ℕ)
-cell_fault_row two fault = located_row (table_in two fault.at.table) fault.at (fault_word fault.kind)
+cell_fault_row two fault = located_row (table_in two fault.at.table) fault.at (fault_text fault.kind)
 
 -- ---- numbers that are too great
-
--- what is wrong with such a number
-unfoldable pub too_great : List ℕ
-too_great = codes "too great"
 
 -- the option of the penalty
 unfoldable pub penalty_word : List ℕ

@@ -1,6 +1,9 @@
+pub use Rattle.mcf_answer_rows.specs.AnswerRows
+pub use Rattle.mcf_answer_rows.specs.FaultWords
+pub use Rattle.mcf_answer_rows.specs.Lines
 pub use Rattle.mcf_flow_tables.specs.TableAnswers
 pub use Rattle.mcf_table.specs.Written
+pub mod BottleneckRows
 pub mod FaultRows
-pub mod Lines
 pub mod PlanRows
 pub mod PlanTexts

@@ -1,31 +1,14 @@
--- Plans and bottlenecks as rows of a table.
+-- Plans as rows of a table.
 -- Source: own
-use Rattle.std.specs.Prelude.{ℕ, suc, ◌+◌, ◌-◌, ◌^◌, min, Bool, false, if◌then◌else◌, ◌||◌, List, [], ◌∷◌, ◌++◌, codes, decimal, drop, length, map, ℤ, pos, slice_index_or}
-use Rattle.std.specs.List.{flat_map, range_with_len}
+use Rattle.std.specs.Prelude.{ℕ, suc, ◌+◌, ◌-◌, ◌^◌, min, List, [], ◌∷◌, ◌++◌, codes, decimal, drop, length, map, ℤ, pos, slice_index_or}
+use Rattle.std.specs.List.{range_with_len}
+use Rattle.mcf_answer_rows.specs.AnswerRows.{answer_row, cell_under, line_at, number_row}
 use Rattle.mcf_decimal.specs.Written.{decimal_text}
-use Rattle.mcf_flows.specs.declared.problem.Side.{Side}
-use Rattle.mcf_flows.specs.declared.problem.Side.TheVariants.{Send, Take}
 use Rattle.mcf_places.specs.declared.answering.LeastPlannerPlan.{LeastPlannerPlan}
-use Rattle.mcf_places.specs.declared.told.PlannerBottleneck.{PlannerBottleneck}
-use Rattle.mcf_places.specs.Planners.{Planner, row_count}
-use Rattle.mcf_reading.specs.Cells.{cell_at}
-use Rattle.mcf_reading.specs.Columns.{only_place}
-use Rattle.mcf_table.specs.Heads.{cells_of, column_of}
+use Rattle.mcf_places.specs.Planners.{Planner, all_given, all_wanted, row_count}
 use Rattle.mcf_table.specs.Texts.{Record}
 use Rattle.mcf_units.specs.declared.scales.Scales.{Scales}
-use Rattle.mcf_plan_text.specs.FaultRows.{TwoTables, line_at}
-
--- what kind of answer it is
-abbrev pub answer_row : List ℕ → List (List ℕ)
-answer_row kind = codes "answer" ∷ kind ∷ []
-
--- a number of the answer, under its name
-abbrev pub number_row : List ℕ → List ℕ → List (List ℕ)
-number_row name number = name ∷ number ∷ []
-
--- the cell of a row in the column with this head
-abbrev pub cell_under : List ℕ → List Record → ℕ → List ℕ
-cell_under head records row = cell_at (cells_of records row) (only_place (column_of head records))
+use Rattle.mcf_plan_text.specs.FaultRows.{TwoTables}
 
 -- an amount in the units of the tables
 abbrev pub amount_text : Scales → ℤ → List ℕ
@@ -75,34 +58,14 @@ total_rows scales p =
     answer_row (codes "plan") ∷ number_row (codes "cost") (cost_text scales p.cost)
     ∷ number_row (codes "missing") (amount_text scales p.missing) ∷ []
 
--- a least plan: its totals, all routes, what goes back, and all places
+-- all supplies, and all demands
+abbrev pub balance_rows : Planner → Scales → List (List (List ℕ))
+balance_rows P scales =
+    number_row (codes "supply") (amount_text scales (all_given P.places)) ∷ number_row (codes "demand") (amount_text scales (all_wanted P.places)) ∷ []
+
+-- a least plan: its totals, all supplies and demands, all routes, what goes back, and all places
 abbrev pub plan_rows : TwoTables → Planner → Scales → LeastPlannerPlan → List (List (List ℕ))
 plan_rows two P scales p =
-    total_rows scales p
+    (total_rows scales p ++ balance_rows P scales)
     ++ (route_rows P scales two.routes p.plan.carries.items
     ++ (back_rows P scales two.routes p.plan.carries.items ++ place_rows scales two.places p.plan.stays.items p.plan.missing.items))
-
--- the word of a side
-abbrev pub side_word : Side → List ℕ
-side_word Send = codes "send"
-side_word Take = codes "take"
-
--- yes or no
-abbrev pub yes_or_no : Bool → List ℕ
-yes_or_no given = if given then codes "yes" else codes "no"
-
--- the place of a row, if its entry or its exit is one of the bottleneck's: `place`, its line, its
--- name, whether its entry is one, and whether its exit is
-abbrev pub set_rows : List Record → List Bool → List Bool → ℕ → List (List (List ℕ))
-set_rows places entries exits place =
-    let entry = slice_index_or entries place false in
-    let exit = slice_index_or exits place false in
-    if entry || exit then
-    (codes "place" ∷ decimal (line_at places (suc place)) ∷ cell_under (codes "name") places (suc place) ∷ yes_or_no entry ∷ yes_or_no exit ∷ []) ∷ []
-    else []
-
--- a bottleneck: whether its places must send, or take, more than they can, and the places
-abbrev pub bottleneck_rows : TwoTables → PlannerBottleneck → List (List (List ℕ))
-bottleneck_rows two b =
-    answer_row (codes "no plan") ∷ number_row (codes "side") (side_word b.side)
-    ∷ flat_map (set_rows two.places b.entries.items b.exits.items) (range_with_len 0 (length b.entries.items))

@@ -2,6 +2,11 @@
 -- what it is.
 -- Source: own
 use Rattle.std.specs.Prelude.{◌≡◌, ℕ, List, [], ◌∷◌, ◌++◌, codes, map, Option}
+use Rattle.mcf_answer_rows.specs.AnswerRows.{answer_row}
+use Rattle.mcf_answer_rows.specs.Lines.{comma}
+use Rattle.mcf_answer_rows.specs.declared.texts.PlanText.{PlanText}
+use Rattle.mcf_answer_rows.specs.declared.texts.TextKind.{TextKind}
+use Rattle.mcf_answer_rows.specs.declared.texts.TextKind.TheVariants as told
 use Rattle.mcf_flow_tables.specs.TableAnswers.{IsFlowAnswer}
 use Rattle.mcf_flow_tables.specs.declared.answering.ProblemAnswer.{ProblemAnswer}
 use Rattle.mcf_flow_tables.specs.declared.answering.ProblemAnswer.TheVariants.{TooGreat, Improper, Solved}
@@ -17,12 +22,9 @@ use Rattle.mcf_places.specs.Planners.{Planner}
 use Rattle.mcf_reading.specs.declared.locations.Table.TheVariants.{Places, Routes}
 use Rattle.mcf_table.specs.Written.{table_text}
 use Rattle.mcf_units.specs.declared.scales.Scales.{Scales}
+use Rattle.mcf_plan_text.specs.BottleneckRows.{bottleneck_rows}
 use Rattle.mcf_plan_text.specs.FaultRows.{TwoTables, beyond_row, cell_fault_row, great_row, planner_row, text_rows}
-use Rattle.mcf_plan_text.specs.Lines.{comma}
-use Rattle.mcf_plan_text.specs.PlanRows.{answer_row, bottleneck_rows, plan_rows}
-use Rattle.mcf_plan_text.specs.declared.telling.PlanText.{PlanText}
-use Rattle.mcf_plan_text.specs.declared.telling.TextKind.{TextKind}
-use Rattle.mcf_plan_text.specs.declared.telling.TextKind.TheVariants as told
+use Rattle.mcf_plan_text.specs.PlanRows.{plan_rows}
 
 -- the row that says that there are faults
 abbrev pub faults_row : List (List ℕ)
@@ -33,7 +35,7 @@ faults_row = answer_row (codes "faults")
 -- a least plan, a bottleneck, or the first number beyond the limits
 abbrev pub solved_rows : TwoTables → Planner → Scales → Option Origin → PlannerAnswer → List (List (List ℕ))
 solved_rows two P scales origin (Least plan) = plan_rows two P scales plan
-solved_rows two P scales origin (NoPlan bottleneck) = bottleneck_rows two bottleneck
+solved_rows two P scales origin (NoPlan bottleneck) = bottleneck_rows two P scales bottleneck
 solved_rows two P scales origin (Beyond fault) = faults_row ∷ beyond_row two origin fault ∷ []
 
 -- the answer to what tables say

@@ -1,16 +1,18 @@
 //! Faults of tables as rows of a table.
 ghost use Rattle.std.specs.Prelude.{◌≡◌, ◌++◌, IfOk, OnOk, map};
-ghost use Rattle.mcf_plan_text.specs.FaultRows.{beyond_row, cell_fault_row, column_place, column_text, fault_row, great_row, located_row, option_row, origin_line, planner_line, planner_row, tables_in, text_rows};
-ghost use Rattle.mcf_plan_text.specs.Lines.{row_line, rows_text};
+ghost use Rattle.mcf_answer_rows.specs.Lines.{row_line, rows_text};
+ghost use Rattle.mcf_plan_text.specs.FaultRows.{beyond_row, cell_fault_row, column_place, column_text, fault_text, great_row, located_row, meant_text, option_row, origin_line, planner_line, planner_row, tables_in, text_rows};
 
-use crate::cells::{cell_at, line_cell, next_cell, number_cell, place_of, put_line};
 use crate::words::{
-    beyond_column, beyond_word, fault_word, field_word, origin_table, penalty_word, planner_column,
-    planner_table, planner_word, table_word, too_great,
+    beyond_column, beyond_word, fault_word, origin_table, penalty_word, planner_column,
+    planner_table, planner_word, table_word,
+};
+use mcf_answer_rows::{
+    Wrong, cell_at, field_word, line_cell, next_cell, number_cell, place_of, put_fault, too_great,
 };
 use mcf_instance::ArrayFault;
 use mcf_places::{Origin, PlannerFault};
-use mcf_reading::{ColumnAt, Fault, Location, Table, head_text};
+use mcf_reading::{ColumnAt, Fault, FaultKind, Location, Table, head_text};
 use mcf_table::{Records, TextFault};
 use mcf_text::NoMemory;
 use mcf_units::GreatFault;
@@ -36,29 +38,6 @@ impl<'t> Two<'t> {
             Table::Routes => self.routes,
         }
     }
-}
-
-// What is wrong, in a column.
-#[derive(Clone, Copy)]
-struct Wrong<'t> {
-    column: &'t [u8],
-    what: &'t [u8],
-}
-
-// Appends a fault of a table.
-fn put_fault(
-    out: &mut Vec<u8>,
-    table: &[u8],
-    line: &[u8],
-    wrong: Wrong<'_>,
-    cell: &[u8],
-) -> Result<(), NoMemory>
-    ensures { OnOk result (out.new.items ≡ out.old.items ++ row_line (fault_row table.now line.now wrong.entry.column.now wrong.entry.what.now cell.now)) }
-{
-    put_line(
-        out,
-        &[b"fault", table, line, wrong.column, wrong.what, cell],
-    )
 }
 
 // Appends why a text is no table, if it is none.
@@ -87,7 +66,7 @@ fn column_text(alloc: Global, column: ColumnAt) -> Result<Vec<u8>, NoMemory>
 {
     match column {
         ColumnAt::Under(head) => head_text(alloc, head),
-        ColumnAt::Past(place) => next_cell(alloc, place),
+        ColumnAt::Placed(place) => next_cell(alloc, place),
     }
 }
 
@@ -98,7 +77,7 @@ fn column_place(records: &Records, column: ColumnAt, text: &[u8]) -> Option<usiz
 {
     match column {
         ColumnAt::Under(_) => place_of(records, text),
-        ColumnAt::Past(place) => Some(place),
+        ColumnAt::Placed(place) => Some(place),
     }
 }
 
@@ -123,6 +102,28 @@ fn put_located(
     put_fault(out, table_word(at.table), &line, wrong, cell)
 }
 
+// The head that is meant, if a fault is about one.
+fn meant_text(alloc: Global, kind: FaultKind) -> Result<Vec<u8>, NoMemory>
+    ensures { IfOk result (λ made. made.items ≡ meant_text kind) }
+{
+    match kind {
+        FaultKind::NearHead(head) => head_text(alloc, head),
+        FaultKind::Without(head) => head_text(alloc, head),
+        _ => Ok(Vec::new(alloc)),
+    }
+}
+
+// What is wrong with a cell.
+fn fault_text(alloc: Global, kind: FaultKind) -> Result<Vec<u8>, NoMemory>
+    ensures { IfOk result (λ made. made.items ≡ fault_text kind) }
+{
+    let meant = meant_text(alloc, kind)?;
+    let mut made = Vec::new(alloc);
+    made.extend_from_slice(fault_word(kind))?;
+    made.extend_from_slice(&meant)?;
+    Ok(made)
+}
+
 // Appends a fault of a head or a cell.
 fn put_cell_fault(
     alloc: Global,
@@ -134,7 +135,8 @@ fn put_cell_fault(
         ++ row_line (cell_fault_row (tables_in two.entry) fault)) }
 {
     let records = two.table(fault.at.table);
-    put_located(alloc, out, records, fault.at, fault_word(fault.kind))
+    let what = fault_text(alloc, fault.kind)?;
+    put_located(alloc, out, records, fault.at, &what)
 }
 
 // Appends faults of heads and cells.

@@ -1,46 +1,25 @@
-//! Plans and bottlenecks as rows of a table.
+//! Plans as rows of a table.
 ghost use Rattle.std.specs.Prelude.{◌≡◌, ◌++◌, ◌∷◌, [], ◌<◌, IfOk, OnOk, codes, decimal, drop, map, suc};
-ghost use Rattle.mcf_plan_text.specs.FaultRows.{line_at, tables_in};
-ghost use Rattle.mcf_plan_text.specs.Lines.{row_line, rows_text};
-ghost use Rattle.mcf_plan_text.specs.PlanRows.{amount_text, answer_row, back_rows, bottleneck_rows, cell_under, number_row, place_rows, plan_rows, route_rows, set_rows, side_word, total_rows, yes_or_no};
-ghost use Rattle.std.specs.Prelude.{false, length, pos, slice_index_or};
-ghost use Rattle.std.specs.List.{flat_map, range_with_len};
+ghost use Rattle.mcf_answer_rows.specs.AnswerRows.{cell_under, line_at};
+ghost use Rattle.mcf_answer_rows.specs.Lines.{row_line, rows_text};
+ghost use Rattle.mcf_plan_text.specs.FaultRows.{tables_in};
+ghost use Rattle.mcf_plan_text.specs.PlanRows.{amount_text, back_rows, balance_rows, place_rows, plan_rows, route_rows, total_rows};
+ghost use Rattle.std.specs.Prelude.{length, pos, slice_index_or};
+ghost use Rattle.std.specs.List.{range_with_len};
 
-use crate::cells::{cell_at, decimal_cell, line_cell, place_of, put_line};
 use crate::fault_rows::Two;
-use mcf_flows::Side;
-use mcf_places::{LeastPlannerPlan, Planner, PlannerBottleneck, PlannerPlan};
+use mcf_answer_rows::{cell_under, decimal_cell, line_cell, put_answer, put_line, put_number_row};
+use mcf_places::{LeastPlannerPlan, Planner, PlannerPlan};
 use mcf_table::Records;
 use mcf_text::NoMemory;
 use mcf_units::Scales;
 use std::alloc::Global;
 
-// Appends the row that says what kind of answer it is.
-pub(crate) fn put_answer(out: &mut Vec<u8>, kind: &[u8]) -> Result<(), NoMemory>
-    ensures { OnOk result (out.new.items ≡ out.old.items ++ row_line (answer_row kind.now)) }
-{
-    put_line(out, &[b"answer", kind])
-}
-
-// Appends a number of the answer, under its name.
-fn put_number_row(out: &mut Vec<u8>, name: &[u8], number: &[u8]) -> Result<(), NoMemory>
-    ensures { OnOk result (out.new.items ≡ out.old.items ++ row_line (number_row name.now number.now)) }
-{
-    put_line(out, &[name, number])
-}
-
 // An amount in the units of the tables.
-fn amount_cell(alloc: Global, scales: Scales, amount: i128) -> Result<Vec<u8>, NoMemory>
+pub(crate) fn amount_cell(alloc: Global, scales: Scales, amount: i128) -> Result<Vec<u8>, NoMemory>
     ensures { IfOk result (λ made. made.items ≡ amount_text scales amount) }
 {
     decimal_cell(alloc, amount, scales.amounts)
-}
-
-// The cell of a row in the column with a head.
-fn cell_under<'t>(records: &'t Records, head: &[u8], row: usize) -> &'t [u8]
-    ensures { result.now ≡ cell_under head.now records.now row }
-{
-    cell_at(records, row, place_of(records, head))
 }
 
 // Appends what the route of a row carries.
@@ -236,6 +215,36 @@ fn put_totals(
     put_number_row(out, b"missing", &missing)
 }
 
+// Appends all supplies, and all demands.
+pub(crate) fn put_balance(
+    alloc: Global,
+    out: &mut Vec<u8>,
+    planner: &Planner,
+    scales: Scales,
+) -> Result<(), NoMemory>
+    ensures { OnOk result (out.new.items ≡ out.old.items ++ rows_text (balance_rows planner.now scales)) }
+{
+    let totals = planner.totals();
+    let supply = amount_cell(alloc, scales, totals.given)?;
+    let demand = amount_cell(alloc, scales, totals.wanted)?;
+    put_number_row(out, b"supply", &supply)?;
+    put_number_row(out, b"demand", &demand)
+}
+
+// Appends the totals of a plan, and all supplies and demands.
+fn put_heading(
+    alloc: Global,
+    out: &mut Vec<u8>,
+    planner: &Planner,
+    scales: Scales,
+    least: &LeastPlannerPlan,
+) -> Result<(), NoMemory>
+    ensures { OnOk result (out.new.items ≡ out.old.items ++ rows_text (total_rows scales least.now ++ balance_rows planner.now scales)) }
+{
+    put_totals(alloc, out, scales, least)?;
+    put_balance(alloc, out, planner, scales)
+}
+
 // Appends what routes carry, and what goes back.
 fn put_ways(
     alloc: Global,
@@ -263,87 +272,7 @@ pub(crate) fn put_plan(
 ) -> Result<(), NoMemory>
     ensures { OnOk result (out.new.items ≡ out.old.items ++ rows_text (plan_rows (tables_in two.entry) planner.now scales least.now)) }
 {
-    put_totals(alloc, out, scales, least)?;
+    put_heading(alloc, out, planner, scales, least)?;
     put_ways(alloc, out, two.routes, planner, scales, &least.plan.carries)?;
     put_places(alloc, out, two.places, scales, &least.plan)
-}
-
-// The word of a side.
-fn side_word(side: Side) -> &'static [u8]
-    ensures { result.now ≡ side_word side }
-{
-    match side {
-        Side::Send => b"send",
-        Side::Take => b"take",
-    }
-}
-
-// Yes or no.
-fn yes_or_no(given: bool) -> &'static [u8]
-    ensures { result.now ≡ yes_or_no given }
-{
-    if given { b"yes" } else { b"no" }
-}
-
-// A test of a list; no beyond its end.
-fn test_at(tests: &[bool], place: usize) -> bool
-    ensures { result ≡ slice_index_or tests.now place false }
-{
-    match tests.get(place) {
-        Some(test) => *test,
-        None => false,
-    }
-}
-
-// Appends the place of a row, if its entry or its exit is one of the bottleneck's.
-fn put_member(
-    alloc: Global,
-    out: &mut Vec<u8>,
-    places: &Records,
-    bottleneck: &PlannerBottleneck,
-    place: usize,
-) -> Result<(), NoMemory>
-    requires { place < length bottleneck.now.entries.items }
-    ensures { OnOk result (out.new.items ≡ out.old.items
-        ++ rows_text (set_rows places.now bottleneck.now.entries.items bottleneck.now.exits.items place)) }
-{
-    let entry = test_at(&bottleneck.entries, place);
-    let exit = test_at(&bottleneck.exits, place);
-    if !(entry || exit) {
-        return Ok(());
-    }
-    let entry_word = yes_or_no(entry);
-    let exit_word = yes_or_no(exit);
-    put_place_cells(alloc, out, places, place + 1, entry_word, exit_word)
-}
-
-// Appends the places of a bottleneck.
-fn put_members(
-    alloc: Global,
-    out: &mut Vec<u8>,
-    places: &Records,
-    bottleneck: &PlannerBottleneck,
-) -> Result<(), NoMemory>
-    ensures { OnOk result (out.new.items ≡ out.old.items
-        ++ rows_text (flat_map (set_rows places.now bottleneck.now.entries.items bottleneck.now.exits.items)
-        (range_with_len 0 (length bottleneck.now.entries.items)))) }
-{
-    for place in 0..bottleneck.entries.len() {
-        put_member(alloc, out, places, bottleneck, place)?;
-    }
-    Ok(())
-}
-
-// Appends a bottleneck.
-pub(crate) fn put_bottleneck(
-    alloc: Global,
-    out: &mut Vec<u8>,
-    two: Two<'_>,
-    bottleneck: &PlannerBottleneck,
-) -> Result<(), NoMemory>
-    ensures { OnOk result (out.new.items ≡ out.old.items ++ rows_text (bottleneck_rows (tables_in two.entry) bottleneck.now)) }
-{
-    put_answer(out, b"no plan")?;
-    put_number_row(out, b"side", side_word(bottleneck.side))?;
-    put_members(alloc, out, two.places, bottleneck)
 }

@@ -1,13 +1,15 @@
 //! The answer to two tables as text.
 ghost use Rattle.std.specs.Prelude.{◌≡◌, ◌++◌, ◌∷◌, [], IfOk, OnOk};
+ghost use Rattle.mcf_answer_rows.specs.Lines.{rows_text};
 ghost use Rattle.mcf_plan_text.specs.FaultRows.{tables_in};
-ghost use Rattle.mcf_plan_text.specs.Lines.{rows_text};
 ghost use Rattle.mcf_plan_text.specs.PlanTexts.{IsPlanText, answer_kind, answer_rows, problem_kind, problem_rows, solved_kind, solved_rows, table_kind, table_rows};
 
+use crate::bottleneck_rows::{Blocked, put_bottleneck};
 use crate::fault_rows::{
     Two, put_beyond, put_cell_faults, put_greats, put_planner_faults, put_text_fault,
 };
-use crate::plan_rows::{put_answer, put_bottleneck, put_plan};
+use crate::plan_rows::put_plan;
+use mcf_answer_rows::{PlanText, TextKind, put_answer};
 use mcf_flow_tables::{
     FlowAnswer, Options, ProblemAnswer, SolvedProblem, TableAnswer, Texts, plan_tables,
 };
@@ -16,26 +18,6 @@ use mcf_places::PlannerAnswer;
 use mcf_reading::Table;
 use mcf_text::NoMemory;
 use std::alloc::Global;
-
-/// What kind of answer a text says.
-#[derive(Clone, Copy, Debug, PartialEq, Eq)]
-pub enum TextKind {
-    /// A least plan.
-    Plan,
-    /// A bottleneck: there is no plan.
-    NoPlan,
-    /// Faults of the tables, or a number beyond the limits.
-    Faults,
-}
-
-/// The text of an answer, and its kind.
-#[derive(Drop)]
-pub struct PlanText {
-    /// The rows, each with a line feed; each cell stands between quotes, with commas between them.
-    pub text: Vec<u8>,
-    /// The kind.
-    pub kind: TextKind,
-}
 
 // The kind of the answer to a problem.
 fn solved_kind(answer: &PlannerAnswer) -> TextKind
@@ -62,7 +44,14 @@ fn put_solved(
         PlannerAnswer::Least(least) => {
             put_plan(alloc, out, two, &solved.planner, solved.scales, least)
         }
-        PlannerAnswer::NoPlan(bottleneck) => put_bottleneck(alloc, out, two, bottleneck),
+        PlannerAnswer::NoPlan(bottleneck) => {
+            let blocked = Blocked {
+                planner: &solved.planner,
+                scales: solved.scales,
+                bottleneck,
+            };
+            put_bottleneck(alloc, out, two, blocked)
+        }
         PlannerAnswer::Beyond(fault) => {
             put_answer(out, b"faults")?;
             put_beyond(alloc, out, two, solved.origin, fault)

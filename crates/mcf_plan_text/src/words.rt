@@ -1,15 +1,13 @@
 //! The words by which faults are told.
 ghost use Rattle.std.specs.Prelude.{◌≡◌};
-ghost use Rattle.mcf_plan_text.specs.FaultRows.{beyond_column, beyond_word, field_word, fault_word, name_word, number_word, origin_table, penalty_word, planner_column, planner_table, planner_word, route_column, route_word, table_word, too_great};
+ghost use Rattle.mcf_plan_text.specs.FaultRows.{beyond_column, beyond_word, fault_word, origin_table, penalty_word, planner_column, planner_table, planner_word, route_column, route_word, table_word};
 
-use mcf_decimal::NumberFault;
+use mcf_answer_rows::{name_word, number_word};
 use mcf_flows::Code;
 use mcf_instance::ArrayFault;
 use mcf_model::RouteFault;
-use mcf_names::NameFault;
 use mcf_places::{Origin, PlannerFault};
 use mcf_reading::{FaultKind, Table};
-use mcf_table::FieldFault;
 
 // The word of a table.
 pub(crate) fn table_word(table: Table) -> &'static [u8]
@@ -21,47 +19,15 @@ pub(crate) fn table_word(table: Table) -> &'static [u8]
     }
 }
 
-// Why a field isn't read.
-pub(crate) fn field_word(fault: FieldFault) -> &'static [u8]
-    ensures { result.now ≡ field_word fault }
-{
-    match fault {
-        FieldFault::Unclosed => b"quote not closed",
-        FieldFault::AfterQuote => b"text after a quote",
-    }
-}
-
-// Why a cell isn't a name.
-fn name_word(fault: NameFault) -> &'static [u8]
-    ensures { result.now ≡ name_word fault }
-{
-    match fault {
-        NameFault::Empty => b"empty name",
-        NameFault::Control => b"control character",
-    }
-}
-
-// Why a cell isn't a number.
-fn number_word(fault: NumberFault) -> &'static [u8]
-    ensures { result.now ≡ number_word fault }
-{
-    match fault {
-        NumberFault::Empty => b"empty",
-        NumberFault::Exponent => b"exponent",
-        NumberFault::Either => b"either of two numbers",
-        NumberFault::OtherMark => b"other decimal mark",
-        NumberFault::NoNumber => b"no number",
-        NumberFault::TooLong => b"too many digits",
-    }
-}
-
-// What is wrong with a cell.
+// What is wrong with a cell, in front of the head that is meant, if it is about one.
 pub(crate) fn fault_word(kind: FaultKind) -> &'static [u8]
     ensures { result.now ≡ fault_word kind }
 {
     match kind {
         FaultKind::NoColumn => b"no such column",
         FaultKind::TwoColumns => b"two such columns",
+        FaultKind::NearHead(_) => b"nearly ",
+        FaultKind::Without(_) => b"not read without ",
         FaultKind::BothMarks => b"both decimal marks",
         FaultKind::Beyond => b"beyond the last head",
         FaultKind::Name(fault) => name_word(fault),
@@ -123,14 +89,6 @@ pub(crate) fn beyond_word(fault: &ArrayFault) -> &'static [u8]
         ArrayFault::Arc(_, Code::Order) => b"least above most",
         _ => b"beyond the limits",
     }
-}
-
-// What is wrong with a number that is too great.
-#[tactic(auto, unfolding(crate::specs::FaultRows::too_great))]
-pub(crate) fn too_great() -> &'static [u8]
-    ensures { result.now ≡ too_great }
-{
-    b"too great"
 }
 
 // The option of the penalty.

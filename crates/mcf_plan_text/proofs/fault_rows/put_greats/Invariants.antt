@@ -1,6 +1,6 @@
 use Rattle.std.proofs.Common.{◌≡◌, ◌++◌, drop, map}
 use Rattle.mcf_plan_text.specs.FaultRows.{great_row, tables_in}
-use Rattle.mcf_plan_text.specs.Lines.{rows_text}
+use Rattle.mcf_answer_rows.specs.Lines.{rows_text}
 use Rattle.mcf_plan_text.proofs.fault_rows.put_greats.Given as goal
 
 abbrev pub invariant-loop-place : goal.invariant-loop-place

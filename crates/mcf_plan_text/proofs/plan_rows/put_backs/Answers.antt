@@ -1,8 +1,8 @@
 use Rattle.std.proofs.Common.{rules, ◌≡◌, ◌++◌, ◌<◌, drop, length}
 use Rattle.mcf_places.specs.Planners.{row_count}
-use Rattle.mcf_plan_text.specs.Lines.{row_line}
+use Rattle.mcf_answer_rows.specs.Lines.{row_line}
 use Rattle.mcf_plan_text.specs.PlanRows.{back_row}
-use Rattle.mcf_plan_text.proofs.TableTexts.{rows_step}
+use Rattle.mcf_answer_rows.proofs.RowTexts.{rows_step}
 use Rattle.mcf_plan_text.proofs.plan_rows.put_backs.Goals as goal
 
 pub loop-place-preserved : goal.loop-place-preserved

@@ -2,7 +2,7 @@ use Rattle.std.proofs.Common.{◌≡◌, ◌++◌, map, drop, length, ◌-◌}
 use Rattle.std.specs.List.{range_with_len}
 use Rattle.mcf_places.specs.Planners.{row_count}
 use Rattle.mcf_plan_text.specs.PlanRows.{back_row, back_rows}
-use Rattle.mcf_plan_text.specs.Lines.{rows_text}
+use Rattle.mcf_answer_rows.specs.Lines.{rows_text}
 use Rattle.mcf_plan_text.proofs.plan_rows.put_backs.Given as goal
 
 abbrev pub invariant-loop-place : goal.invariant-loop-place

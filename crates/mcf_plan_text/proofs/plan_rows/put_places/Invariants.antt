@@ -1,7 +1,7 @@
 use Rattle.std.proofs.Common.{◌≡◌, ◌++◌, map, length, ◌-◌}
 use Rattle.std.specs.List.{range_with_len}
 use Rattle.mcf_plan_text.specs.PlanRows.{place_row}
-use Rattle.mcf_plan_text.specs.Lines.{rows_text}
+use Rattle.mcf_answer_rows.specs.Lines.{rows_text}
 use Rattle.mcf_plan_text.proofs.plan_rows.put_places.Given as goal
 
 abbrev pub invariant-loop-place : goal.invariant-loop-place

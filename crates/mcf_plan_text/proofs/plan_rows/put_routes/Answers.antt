@@ -1,7 +1,7 @@
 use Rattle.std.proofs.Common.{rules, ◌≡◌, ◌++◌, ◌<◌}
-use Rattle.mcf_plan_text.specs.Lines.{row_line}
+use Rattle.mcf_answer_rows.specs.Lines.{row_line}
 use Rattle.mcf_plan_text.specs.PlanRows.{route_row}
-use Rattle.mcf_plan_text.proofs.TableTexts.{rows_step}
+use Rattle.mcf_answer_rows.proofs.RowTexts.{rows_step}
 use Rattle.mcf_plan_text.proofs.plan_rows.put_routes.Goals as goal
 
 pub loop-place-preserved : goal.loop-place-preserved

@@ -1,7 +1,8 @@
 use Rattle.std.proofs.Common.{rules, ◌≡◌, ◌++◌, codes, OnOk}
-use Rattle.mcf_plan_text.specs.Lines.{row_line}
-use Rattle.mcf_plan_text.specs.PlanRows.{amount_text, answer_row, cost_text, number_row}
-use Rattle.mcf_plan_text.proofs.TableTexts.{three_put}
+use Rattle.mcf_answer_rows.specs.Lines.{row_line}
+use Rattle.mcf_answer_rows.specs.AnswerRows.{answer_row, number_row}
+use Rattle.mcf_plan_text.specs.PlanRows.{amount_text, cost_text}
+use Rattle.mcf_answer_rows.proofs.RowTexts.{three_put}
 use Rattle.mcf_plan_text.proofs.plan_rows.put_totals.Goals as goal
 
 pub returns : goal.returns

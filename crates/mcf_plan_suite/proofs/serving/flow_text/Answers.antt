@@ -1,6 +1,6 @@
 use Rattle.std.proofs.Common.{ap}
 use Rattle.mcf_plan_asking.specs.PlanAsking.{word_text}
-use Rattle.mcf_plan_suite.proofs.serving.text_of.Goals as goal
+use Rattle.mcf_plan_suite.proofs.serving.flow_text.Goals as goal
 
 pub returns : goal.returns
 returns g c = record {

@@ -1,0 +1,23 @@
+#![tactic(auto)]
+
+//! What the texts of answers share: cells, rows of faults, and the words of what is wrong with a
+//! cell.
+//!
+//! It builds on `mcf_table`, which writes rows, and on `mcf_reading`, which says what a cell is.
+//! The definitions are in `specs/`: `Lines` says what the text of rows is, `AnswerRows` which rows
+//! and cells answers have, and `FaultWords` how faults are told.
+
+mod answers;
+mod cells;
+mod faults;
+mod texts;
+mod words;
+
+pub use answers::{put_answer, put_number_row};
+pub use cells::{
+    cell_at, cell_under, decimal_cell, line_at, line_cell, next_cell, number_cell, place_of,
+    put_line,
+};
+pub use faults::{Wrong, put_fault};
+pub use texts::{PlanText, TextKind};
+pub use words::{field_word, name_word, number_word, too_great};

@@ -1,0 +1,2 @@
+pub mod ChoiceTexts
+pub mod MemberTexts

@@ -1,0 +1,9 @@
+pub use Rattle.mcf_answer_rows.specs.AnswerRows
+pub use Rattle.mcf_answer_rows.specs.FaultWords
+pub use Rattle.mcf_answer_rows.specs.Lines
+pub use Rattle.mcf_pair_tables.specs.PairAnswers
+pub use Rattle.mcf_table.specs.Written
+pub mod PairFaultRows
+pub mod PairPlaces
+pub mod PairRows
+pub mod PairTexts

@@ -1,0 +1,18 @@
+#![tactic(auto)]
+
+//! The answer to a table of persons and things as the text of a table, which programs write and
+//! other programs read.
+//!
+//! It builds on `mcf_pair_tables`, which has the answer, and on `mcf_answer_rows`, which writes
+//! rows. The definitions are in `specs/`: `PairPlaces` says where the parts of a table stand,
+//! `PairFaultRows` how faults are told, `PairRows` how choices and competitions are, and
+//! `PairTexts` the whole text.
+
+mod fault_rows;
+mod pages;
+mod rows;
+mod telling;
+mod words;
+
+pub use mcf_answer_rows::{PlanText, TextKind};
+pub use telling::pair_text;

@@ -1,0 +1,187 @@
+//! The answer to a table of persons and things as text.
+ghost use Rattle.std.specs.Prelude.{◌≡◌, ◌++◌, IfOk, OnOk};
+ghost use Rattle.mcf_answer_rows.specs.Lines.{rows_text};
+ghost use Rattle.mcf_roster_reading.specs.Reading.{read_roster};
+ghost use Rattle.mcf_pair_text.specs.PairPlaces.{sheet_in};
+ghost use Rattle.mcf_pair_text.specs.PairTexts.{IsPairText, answer_kind, answer_rows, choice_kind, read_rows, roster_kind, roster_rows, said_rows, table_kind, table_rows};
+
+use crate::fault_rows::{put_beyond, put_cell_faults, put_greats, put_improper, put_text_fault};
+use crate::pages::{Page, page_of};
+use crate::rows::{Unit, put_choice, put_competition};
+use mcf_answer_rows::{PlanText, TextKind, put_answer};
+use mcf_model::Solves;
+use mcf_pair_tables::{ChoiceAnswer, Options, PairAnswer, SolvedPairs, TableAnswer, plan_pairs};
+use mcf_roster::RosterAnswer;
+use mcf_roster_reading::{RosterTable, read};
+use mcf_table::Records;
+use mcf_text::NoMemory;
+use std::alloc::Global;
+
+// The kind of the answer for a roster.
+fn roster_kind(answer: &RosterAnswer) -> TextKind
+    ensures { result ≡ roster_kind answer.now }
+{
+    match answer {
+        RosterAnswer::Least(_) => TextKind::Plan,
+        RosterAnswer::NoChoice(_) => TextKind::NoPlan,
+        RosterAnswer::Beyond(_) => TextKind::Faults,
+    }
+}
+
+// Appends the answer for a roster.
+fn put_roster(
+    alloc: Global,
+    out: &mut Vec<u8>,
+    page: Page<'_>,
+    table: &RosterTable<'_>,
+    maximise: bool,
+    solved: &SolvedPairs,
+) -> Result<(), NoMemory>
+    ensures { OnOk result (out.new.items ≡ out.old.items
+        ++ rows_text (roster_rows maximise (sheet_in page.entry) table.now solved.now solved.now.answer)) }
+{
+    match &solved.answer {
+        RosterAnswer::Least(choice) => {
+            let unit = Unit {
+                maximise,
+                scale: solved.scale,
+            };
+            put_choice(alloc, out, page, table, unit, choice)
+        }
+        RosterAnswer::NoChoice(found) => put_competition(alloc, out, page, table, found),
+        RosterAnswer::Beyond(fault) => {
+            put_answer(out, b"faults")?;
+            put_beyond(alloc, out, page, table, solved.origin, fault)
+        }
+    }
+}
+
+// The kind of the answer to what a table says.
+fn choice_kind(answer: &ChoiceAnswer) -> TextKind
+    ensures { result ≡ choice_kind answer.now }
+{
+    match answer {
+        ChoiceAnswer::Solved(solved) => roster_kind(&solved.answer),
+        _ => TextKind::Faults,
+    }
+}
+
+// Appends the answer to what a table says.
+fn put_said(
+    alloc: Global,
+    out: &mut Vec<u8>,
+    page: Page<'_>,
+    table: &RosterTable<'_>,
+    maximise: bool,
+    answer: &ChoiceAnswer,
+) -> Result<(), NoMemory>
+    ensures { OnOk result (out.new.items ≡ out.old.items
+        ++ rows_text (said_rows maximise (sheet_in page.entry) table.now answer.now)) }
+{
+    match answer {
+        ChoiceAnswer::TooGreat(cells) => {
+            put_answer(out, b"faults")?;
+            put_greats(alloc, out, page, cells)
+        }
+        ChoiceAnswer::Improper(fault) => {
+            put_answer(out, b"faults")?;
+            put_improper(alloc, out, page, table, *fault)
+        }
+        ChoiceAnswer::Solved(solved) => put_roster(alloc, out, page, table, maximise, solved),
+    }
+}
+
+// Appends the answer to what a table says, which is read once more for its names and pairs.
+fn put_read(
+    alloc: Global,
+    out: &mut Vec<u8>,
+    page: Page<'_>,
+    options: Options,
+    answer: &ChoiceAnswer,
+) -> Result<(), NoMemory>
+    ensures { OnOk result (out.new.items ≡ out.old.items
+        ++ rows_text (read_rows options.maximise (sheet_in page.entry) (read_roster options.mark page.entry.records.now) answer.now)) }
+{
+    match read(alloc, page.records, options.mark)? {
+        Ok(table) => put_said(alloc, out, page, &table, options.maximise, answer),
+        Err(_) => Ok(()),
+    }
+}
+
+// The kind of the answer to the rows of a table.
+fn table_kind(answer: &TableAnswer) -> TextKind
+    ensures { result ≡ table_kind answer.now }
+{
+    match answer {
+        TableAnswer::Faults(_) => TextKind::Faults,
+        TableAnswer::Choice(answer) => choice_kind(answer),
+    }
+}
+
+// Appends the answer to the rows of a table.
+fn put_table_answer(
+    alloc: Global,
+    out: &mut Vec<u8>,
+    records: &Records,
+    options: Options,
+    answer: &TableAnswer,
+) -> Result<(), NoMemory>
+    ensures { OnOk result (out.new.items ≡ out.old.items ++ rows_text (table_rows options records.now answer.now)) }
+{
+    let page = page_of(records);
+    match answer {
+        TableAnswer::Faults(faults) => {
+            put_answer(out, b"faults")?;
+            put_cell_faults(alloc, out, page, faults.list())
+        }
+        TableAnswer::Choice(answer) => put_read(alloc, out, page, options, answer),
+    }
+}
+
+// The text of an answer.
+fn text_of(alloc: Global, options: Options, answer: &PairAnswer) -> Result<PlanText, NoMemory>
+    ensures text { IfOk result (λ told. told.text.items ≡ rows_text (answer_rows options answer.now)) }
+    ensures kind { IfOk result (λ told. told.kind ≡ answer_kind answer.now) }
+{
+    let mut text = Vec::new(alloc);
+    match answer {
+        PairAnswer::NoTable(fault) => {
+            put_answer(&mut text, b"faults")?;
+            put_text_fault(alloc, &mut text, *fault)?;
+            Ok(PlanText {
+                text,
+                kind: TextKind::Faults,
+            })
+        }
+        PairAnswer::Table(said) => {
+            put_table_answer(alloc, &mut text, &said.rows, options, &said.answer)?;
+            Ok(PlanText {
+                text,
+                kind: table_kind(&said.answer),
+            })
+        }
+    }
+}
+
+/// Chooses pairs of persons and things by a table, as `plan_pairs` does, and returns the answer as
+/// the text of a table, whose rows begin with a word that says what they are: `answer` and its
+/// kind, which is `plan`, `no plan` or `faults`. Of a choice, `cost` with what it costs, or what it
+/// is worth, and for each chosen pair `pair`, its line, the number of its column in a matrix, the
+/// person, the thing and what it costs. Of persons and things that compete, `side`, for each person
+/// `person`, the line and the name, and for each thing `thing`, the line and the name. For each
+/// fault `fault`, `costs`, the line, the column, what is wrong, and the cell.
+///
+/// # Errors
+///
+/// `NoMemory` if an allocation is refused.
+pub fn pair_text<S: Solves>(
+    alloc: Global,
+    solver: &mut S,
+    text: &[u8],
+    options: Options,
+) -> Result<PlanText, NoMemory>
+    ensures { IfOk result (IsPairText text.now options) }
+{
+    let answer = plan_pairs(alloc, solver, text, options)?;
+    text_of(alloc, options, &answer)
+}

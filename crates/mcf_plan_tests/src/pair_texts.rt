@@ -1,0 +1,107 @@
+//! Tests of answers to tables of persons and things as texts.
+use mcf_choice::Choice;
+use mcf_pair_tables::{Each, Options};
+use mcf_pair_text::{PlanText, TextKind, pair_text};
+use mcf_planner::Planner as Engine;
+use mcf_text::NoMemory;
+use std::alloc::Global;
+use std::test::Fail;
+
+// Nothing is named.
+const PLAIN: Options = Options {
+    mark: None,
+    each: None,
+    maximise: false,
+};
+
+// Costs are values, of which each person gets one.
+const VALUES: Options = Options {
+    mark: None,
+    each: Some(Each::Who),
+    maximise: true,
+};
+
+// A table, what is asked, the kind of the answer, and its text.
+type TextRow = (&'static [u8], Options, TextKind, &'static [u8]);
+
+static ROWS: [TextRow; 8] = [
+    (
+        b",X,Y\nA,1,5\n\nB,1,\n",
+        PLAIN,
+        TextKind::Plan,
+        b"\"answer\",\"plan\"\n\"cost\",\"6\"\n\
+\"pair\",\"2\",\"3\",\"A\",\"Y\",\"5\"\n\"pair\",\"4\",\"2\",\"B\",\"X\",\"1\"\n",
+    ),
+    (
+        b"who;what;cost\nA;\"X \"\"1\"\"\";0,50\nB;Y;2\n",
+        PLAIN,
+        TextKind::Plan,
+        b"\"answer\",\"plan\"\n\"cost\",\"2.5\"\n\
+\"pair\",\"2\",\"\",\"A\",\"X \"\"1\"\"\",\"0.5\"\n\"pair\",\"3\",\"\",\"B\",\"Y\",\"2\"\n",
+    ),
+    (
+        b",X,Y\nA,1,2.5\nB,3,3.5\n",
+        VALUES,
+        TextKind::Plan,
+        b"\"answer\",\"plan\"\n\"cost\",\"5.5\"\n\
+\"pair\",\"2\",\"3\",\"A\",\"Y\",\"2.5\"\n\"pair\",\"3\",\"2\",\"B\",\"X\",\"3\"\n",
+    ),
+    (
+        b"who,what,cost\nA,X,1\nB,X,1\n",
+        PLAIN,
+        TextKind::NoPlan,
+        b"\"answer\",\"no plan\"\n\"side\",\"send\"\n\
+\"person\",\"2\",\"A\"\n\"person\",\"3\",\"B\"\n\"thing\",\"2\",\"X\"\n",
+    ),
+    (
+        b",X\nA,1\nB,1\n",
+        PLAIN,
+        TextKind::NoPlan,
+        b"\"answer\",\"no plan\"\n\"side\",\"send\"\n\
+\"person\",\"2\",\"A\"\n\"person\",\"3\",\"B\"\n\"thing\",\"1\",\"X\"\n",
+    ),
+    (
+        b"Who,what,cost\nA,,y\nB,X,1,7\n",
+        PLAIN,
+        TextKind::Faults,
+        b"\"answer\",\"faults\"\n\"fault\",\"costs\",\"3\",\"4\",\"beyond the last head\",\"7\"\n\
+\"fault\",\"costs\",\"2\",\"what\",\"empty name\",\"\"\n\"fault\",\"costs\",\"2\",\"cost\",\"no number\",\"y\"\n",
+    ),
+    (
+        b",X,Y\nA,1,1000000000000001\n",
+        PLAIN,
+        TextKind::Faults,
+        b"\"answer\",\"faults\"\n\"fault\",\"costs\",\"2\",\"3\",\"beyond the limits\",\"1000000000000001\"\n",
+    ),
+    (
+        b"who,what\nA,X\n",
+        PLAIN,
+        TextKind::Faults,
+        b"\"answer\",\"faults\"\n\"fault\",\"costs\",\"1\",\"cost\",\"no such column\",\"\"\n",
+    ),
+];
+
+// The text of the answer to a text.
+fn text_for(alloc: Global, text: &[u8], options: Options) -> Result<PlanText, NoMemory> {
+    let mut engine = Engine {
+        choice: Choice::default(),
+    };
+    pair_text(alloc, &mut engine, text, options)
+}
+
+#[test]
+fn answers_to_pairs_are_told(rt: HostRuntime) -> Result<(), Fail> {
+    for (text, options, kind, want) in ROWS {
+        let told = text_for(rt.alloc(), text, options)?;
+        assert!(rt; told.kind == kind && told.text.as_slice() == want);
+    }
+    Ok(())
+}
+
+#[test]
+fn texts_that_are_no_table_are_told(rt: HostRuntime) -> Result<(), Fail> {
+    let told = text_for(rt.alloc(), b",X\nA,\"1", PLAIN)?;
+    let want = b"\"answer\",\"faults\"\n\"fault\",\"costs\",\"2\",\"\",\"quote not closed\",\"\"\n";
+    assert!(rt; told.text.as_slice() == want.as_slice());
+    Ok(())
+}
