@@ -26,7 +26,7 @@ enum mcf_status {
     MCF_NO_MEMORY = 3,
     MCF_BUFFER_TOO_SMALL = 4, /* for a text, the buffer is too short, and `used` says how long it
                         must be; for arrays, a buffer has a wrong length */
-    MCF_INVALID_CHOICE = 5,   /* a number of the choice has no meaning */
+    MCF_INVALID_CHOICE = 5,   /* a number of the choice or an option has no meaning */
     MCF_PRICE_OVERFLOW = 6,   /* for arrays, a price of the flow doesn't fit 64 bits */
     MCF_NOT_SHOWN = 7 /* for a cost matrix, the search found no answer that the judge accepts */
 };
@@ -114,6 +114,31 @@ uint32_t mcf_solve(const uint8_t *input, size_t input_length, const struct mcf_c
 uint32_t mcf_check(const uint8_t *input, size_t input_length, const uint8_t *answer,
                    size_t answer_length, struct mcf_verdict *verdict);
 
+/* How tables are read, and what plans may leave. All zeros, with an empty penalty, are the
+   defaults. */
+struct mcf_plan_options {
+    uint32_t decimal;       /* the mark before decimals: MCF_SHOWN_MARK to MCF_COMMA */
+    uint32_t allow_unused;  /* 1: supplies may stay where they are; 0: all is sent */
+    uint32_t allow_short;   /* 1: demands may be missing; 0: all is met */
+    const uint8_t *penalty; /* the cost of each missing unit, with a point before decimals unless
+                               `decimal` is MCF_COMMA; if it is empty, as little as possible is
+                               missing */
+    size_t penalty_length;
+};
+
+/* The mark that the tables show, a point, or a comma. */
+enum mcf_decimal { MCF_SHOWN_MARK = 0, MCF_POINT = 1, MCF_COMMA = 2 };
+
+/* Plans the flow of a table of places and a table of routes, which `man mcfplan` describes, and
+   writes the answer as a third table to the beginning of the buffer. Both tables are in UTF-8.
+   Returns MCF_FLOW: a least-cost plan, which no plan in any units undercuts; MCF_BLOCKED: there is
+   no plan, and the answer says why; MCF_INVALID_INPUT: all faults of the tables; or MCF_NO_MEMORY
+   to MCF_INVALID_CHOICE. `used` becomes the length of the answer, also for MCF_BUFFER_TOO_SMALL, or
+   0 if there is no answer. From status 3 on, the buffer is unchanged. */
+uint32_t mcf_plan_flow(const uint8_t *places, size_t places_length, const uint8_t *routes,
+                       size_t routes_length, const struct mcf_plan_options *options,
+                       uint8_t *buffer, size_t buffer_length, size_t *used);
+
 /* An arc: its tail and head, from 1, its lower bound, its capacity, and the cost of a unit. */
 struct mcf_arc {
     uint32_t src, dst;
@@ -180,6 +205,40 @@ uint32_t mcf_check_arcs(const struct mcf_flow_problem *problem, const int64_t *f
 uint32_t mcf_check_pairs(const struct mcf_assignment *problem, const int64_t *flow,
                          size_t flow_length, const int64_t *prices, size_t prices_length,
                          struct mcf_verdict *verdict);
+
+/* A whole number in two words: low + 2^64 high. */
+struct mcf_wide {
+    uint64_t low;
+    int64_t high;
+};
+
+/* A flow by arc, and prices by node. */
+struct mcf_shown_flow {
+    const int64_t *flow;
+    size_t arcs;
+    const int64_t *prices;
+    size_t nodes;
+};
+
+/* How far the cost of an arc may change in one direction; without a limit `is_limited` is 0. */
+struct mcf_range_end {
+    uint32_t is_limited;
+    struct mcf_wide change;
+};
+
+/* How far the cost of an arc may fall, and how far it may rise, while a flow stays least. */
+struct mcf_cost_range {
+    struct mcf_range_end down, up;
+};
+
+/* Judges a flow with prices as mcf_check_arcs does, and writes for each of some arcs, numbered from
+   1, how far its cost may fall and rise while the flow stays least, if all other costs stay. Beyond
+   these ends the flow isn't least. Returns 0, 1 to MCF_NO_MEMORY as mcf_check_arcs,
+   MCF_BUFFER_TOO_SMALL if an array or the buffer has a wrong length, or MCF_INVALID_CHOICE if a
+   number is none of an arc. The buffer is unchanged unless it returns 0. */
+uint32_t mcf_cost_ranges(const struct mcf_flow_problem *problem, const struct mcf_shown_flow *shown,
+                         struct mcf_verdict *verdict, const uint32_t *arcs, size_t arc_count,
+                         struct mcf_cost_range *ranges, size_t range_count);
 
 /* A cost matrix: costs[i * stride + j] is the cost of row i and column j, both from 0, or INT64_MAX
    if the pair is forbidden. */
@@ -270,12 +329,6 @@ struct mcf_doubles {
     const double *costs;
     size_t length;
     size_t rows, columns, stride;
-};
-
-/* A whole number in two words: low + 2^64 high. */
-struct mcf_wide {
-    uint64_t low;
-    int64_t high;
 };
 
 /* The unit of prices, 2^(unit - 1074), and whether they are prices of the costs rounded down to

@@ -13,6 +13,8 @@ const CODES = [
   '', 'kind', 'fields', 'problem', 'number', 'second-p', 'before-p', 'size', 'node', 'late-n',
   'twice', 'supply', 'bound', 'order', 'cost', 'extra', 'side', 'total', 'no-p', 'missing',
 ];
+// The mark before decimals: the one that the tables show, a point, or a comma.
+const MARKS = ['', '.', ','];
 const ENGINES = ['auto', 'cancel', 'simplex', 'scaling', 'sap', 'fast'];
 
 // This function chooses the engine if the caller doesn't: `fast` for a flow problem whose problem
@@ -60,22 +62,59 @@ export class Instance {
    * @returns {{ status: Status } & Lent}
    */
   solve(text, engine = 'auto', form = 2, size = 0) {
-    const choice = this.room(20), room = size || text.size + 1024;
-    [ENGINES.indexOf(engine), 0, 0, form, 0].forEach((number, k) =>
-      this.view().setUint32(Number(choice) + 4 * k, number, true)
+    const choice = this.numbers([ENGINES.indexOf(engine), 0, 0, form, 0]);
+    return this.written(size, text.size + 1024, (at, room) =>
+      this.exports.mcf_solve(text.at, BigInt(text.size), choice, at, BigInt(room), this.used)
     );
-    const at = this.room(room);
-    const status =
-      STATUS[this.exports.mcf_solve(
-        text.at,
-        BigInt(text.size),
-        choice,
+  }
+
+  // This method plans the flow of two tables that were lent, and returns the status and the
+  // location of the answer, which is the text of a table.
+  /**
+   * @param {Lent} places
+   * @param {Lent} routes
+   * @param {PlanOptions} options
+   * @returns {{ status: Status } & Lent}
+   */
+  plan(places, routes, { decimal = '', unused = false, short = false, penalty = '' } = {}) {
+    const named = this.lend(new TextEncoder().encode(penalty));
+    const asked = this.numbers([MARKS.indexOf(decimal), Number(unused), Number(short), 0], 32);
+    this.view().setBigUint64(Number(asked) + 16, named.at, true);
+    this.view().setBigUint64(Number(asked) + 24, BigInt(named.size), true);
+    return this.written(0, 4096 + 6 * (places.size + routes.size), (at, room) =>
+      this.exports.mcf_plan_flow(
+        places.at,
+        BigInt(places.size),
+        routes.at,
+        BigInt(routes.size),
+        asked,
         at,
         BigInt(room),
         this.used
-      )];
+      )
+    );
+  }
+
+  // This method returns the address of numbers of 32 bits.
+  /** @type {(numbers: number[], size?: number) => bigint} */
+  numbers(numbers, size = 4 * numbers.length) {
+    const at = this.room(size);
+    numbers.forEach((number, k) => this.view().setUint32(Number(at) + 4 * k, number, true));
+    return at;
+  }
+
+  // This method makes a call that writes a text to a room. If no size is given for the room, and
+  // the usual one is too short, it calls again with enough room.
+  /**
+   * @param {number} size
+   * @param {number} usual
+   * @param {(at: bigint, room: number) => number} call
+   * @returns {{ status: Status } & Lent}
+   */
+  written(size, usual, call) {
+    const room = size || usual, at = this.room(room), status = STATUS[call(at, room)];
     const used = Number(this.view().getBigUint64(Number(this.used), true));
-    if (status === 'room' && !size) return this.solve(text, engine, form, used);
+    if (status === 'room' && !size) return this.written(used, used, call);
     return { status, at, size: used };
   }
 

@@ -70,6 +70,7 @@ export default function test(expect) {
       expect(instance.check(text, found).accepted, `${name}: ${engine}`);
     }
   }
+  plans(expect, module);
   spoilt(expect, module, fs.readFileSync(path.join(examples, 'transport.min')));
   engines(expect, module);
   let refused = false;
@@ -79,6 +80,30 @@ export default function test(expect) {
   expect(refused, 'a room that no memory has');
   fs.rmSync(scratch, { recursive: true });
   return checks ? '' : `not compared with mcfcheck, which isn't built in ${programs}`;
+}
+
+// This test compares the module's answers to tables with those of mcfplan, byte for byte.
+function plans(expect, module) {
+  const mcfplan = path.join(programs, 'mcfplan'), folder = path.join(examples, 'plans');
+  for (const name of fs.readdirSync(folder)) {
+    const files = ['places.csv', 'routes.csv'].map((file) => path.join(folder, name, file));
+    if (!files.every((file) => fs.existsSync(file))) continue;
+    for (const short of [false, true]) {
+      const instance = new Instance(module);
+      const [places, routes] = files.map((file) => instance.lend(fs.readFileSync(file)));
+      const found = instance.plan(places, routes, { short, penalty: short ? '1000' : '' });
+      const words = short ? ['--short', 'allow', '--penalty', '1000'] : [];
+      const wanted = spawnSync(mcfplan, ['flow', ...words, ...files]);
+      expect(
+        Buffer.from(instance.bytes(found.at, found.size)).equals(wanted.stdout),
+        `${name}: mcfplan answers otherwise`
+      );
+      expect(
+        ['flow', 'blocked', 'refused'][wanted.status] === found.status,
+        `${name}: status ${found.status}`
+      );
+    }
+  }
 }
 
 // This function changes each byte of an answer, one at a time, and judges the result.

@@ -227,6 +227,18 @@ interface Exports {
   mcf_check(
     text: bigint, size: bigint, answer: bigint, answerSize: bigint, told: bigint
   ): number;
+  mcf_plan_flow(
+    places: bigint, placesSize: bigint, routes: bigint, routesSize: bigint, options: bigint,
+    at: bigint, room: bigint, used: bigint
+  ): number;
+}
+
+/** How tables are read, and what plans may leave. */
+interface PlanOptions {
+  decimal?: string;
+  unused?: boolean;
+  short?: boolean;
+  penalty?: string;
 }
 
 /** Bytes in the module's memory. */

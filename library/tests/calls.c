@@ -313,6 +313,65 @@ static int check_pairs(void) {
     return 0;
 }
 
+/* The way over node 2 is full, and costs 3 less than the direct arc. */
+static int check_ranges(void) {
+    static const struct mcf_arc arcs[3] = {{1, 2, 0, 3, 1}, {2, 3, 0, 3, 1}, {1, 3, 0, 9, 5}};
+    static const int64_t supplies[3] = {4, 0, -4};
+    static const struct mcf_flow_problem problem = {supplies, 3, arcs, 3};
+    static const uint32_t all[3] = {1, 2, 3}, none[1] = {4};
+    static int64_t flow[3], prices[3];
+    static const struct mcf_shown_flow shown = {flow, 3, prices, 3};
+    struct mcf_cost_range ranges[3];
+    struct mcf_verdict verdict;
+    CHECK(61, mcf_solve_arcs(&problem, &standard, flow, 3, prices, 3, &verdict) == MCF_FLOW);
+    CHECK(62, mcf_cost_ranges(&problem, &shown, &verdict, all, 3, ranges, 3) == 0);
+    CHECK(63, !ranges[0].down.is_limited && ranges[0].up.is_limited &&
+                  ranges[0].up.change.low == 3 && ranges[0].up.change.high == 0);
+    CHECK(64,
+          ranges[2].down.is_limited && ranges[2].down.change.low == 3 && !ranges[2].up.is_limited);
+    CHECK(65,
+          mcf_cost_ranges(&problem, &shown, &verdict, all, 3, ranges, 2) == MCF_BUFFER_TOO_SMALL);
+    CHECK(66,
+          mcf_cost_ranges(&problem, &shown, &verdict, none, 1, ranges, 1) == MCF_INVALID_CHOICE);
+    verdict.low++;
+    CHECK(67, mcf_cost_ranges(&problem, &shown, &verdict, all, 3, ranges, 3) == 1);
+    return 0;
+}
+
+/* Plans the flow of two tables: a plan, a bottleneck, faults, and options without a meaning. */
+static int check_tables(void) {
+    static const uint8_t places[] = "name,supply\nMill,3\nTown,-3\n";
+    static const uint8_t routes[] = "from,to,most,cost\nMill,Town,5,1.5\n";
+    static const uint8_t narrow[] = "from,to,most,cost\nMill,Town,2,1.5\n";
+    static const char plan[] = "\"answer\",\"plan\"\n\"cost\",\"4.5\"\n";
+    struct mcf_plan_options options = {MCF_SHOWN_MARK, 0, 0, (const uint8_t *)"", 0};
+    uint8_t room[512];
+    size_t used = 77, length = sizeof places - 1;
+    CHECK(51, mcf_plan_flow(places, length, routes, sizeof routes - 1, &options, room, sizeof room,
+                            &used) == MCF_FLOW);
+    CHECK(52, used > sizeof plan && memcmp(room, plan, sizeof plan - 1) == 0);
+    CHECK(53, mcf_plan_flow(places, length, routes, sizeof routes - 1, &options, room, used - 1,
+                            &used) == MCF_BUFFER_TOO_SMALL);
+    CHECK(54, mcf_plan_flow(places, length, narrow, sizeof narrow - 1, &options, room, sizeof room,
+                            &used) == MCF_BLOCKED);
+    options.allow_unused = options.allow_short = 1;
+    options.penalty = (const uint8_t *)"0.5";
+    options.penalty_length = 3;
+    CHECK(55, mcf_plan_flow(places, length, narrow, sizeof narrow - 1, &options, room, sizeof room,
+                            &used) == MCF_FLOW);
+    CHECK(56, mcf_plan_flow(places, length, places, length, &options, room, sizeof room, &used) ==
+                  MCF_INVALID_INPUT);
+    options.decimal = MCF_COMMA;
+    CHECK(57, mcf_plan_flow(places, length, narrow, sizeof narrow - 1, &options, room, sizeof room,
+                            &used) == MCF_INVALID_CHOICE &&
+                  used == 0);
+    options.decimal = 3;
+    options.penalty_length = 0;
+    CHECK(58, mcf_plan_flow(places, length, narrow, sizeof narrow - 1, &options, room, sizeof room,
+                            &used) == MCF_INVALID_CHOICE);
+    return 0;
+}
+
 int main(int count, char **words) {
     int place, status = check_arcs();
     if (status == 0) status = check_wide();
@@ -321,6 +380,8 @@ int main(int count, char **words) {
     if (status == 0) status = check_transport();
     if (status == 0) status = check_doubles();
     if (status == 0) status = check_double_transport();
+    if (status == 0) status = check_tables();
+    if (status == 0) status = check_ranges();
     for (place = 1; status == 0 && place + 1 < count; place += 2)
         status = check_text(words[place + 1], (uint32_t)atoi(words[place]));
     return status;

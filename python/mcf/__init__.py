@@ -5,21 +5,23 @@
 histograms, as POT's functions of these names do. `SimpleMinCostFlow`, `SimpleMaxFlow` and
 `SimpleLinearSumAssignment` have the methods of OR-tools' classes, and `mcf.nx` takes networkx
 graphs. The checker judges each answer before the package returns it, unless `check=False`; by
-`check_arrays` it judges a flow that anybody made. `solve_text` and `check_text` take texts in the
-DIMACS formats.
+`check_arrays` it judges a flow that anybody made, and `cost_ranges` tells how far its costs may
+change. `solve_text` and `check_text` take texts in the DIMACS formats, and `plan_flow` tables of
+places and routes.
 """
 from typing import Optional, Tuple, Union
 
 from . import _library
 from ._arrays import ArrayFlow, solve_arrays
 from ._errors import Infeasible, MCFError, NotAccepted, Refused, Unbounded
-from ._judging import check_arrays
+from ._judging import check_arrays, cost_ranges
 from ._library import Verdict
 from ._solving import Flow, solve
 from .assigning import Assignment, assign
 from .assignment import linear_sum_assignment
 from .earth_mover import emd, emd2
 from .simple import SimpleLinearSumAssignment, SimpleMaxFlow, SimpleMinCostFlow
+from .tables import PlanAnswer, plan_flow
 from .transportation import Plan, transport
 
 __all__ = [
@@ -30,6 +32,7 @@ __all__ = [
     "MCFError",
     "NotAccepted",
     "Plan",
+    "PlanAnswer",
     "Refused",
     "SimpleLinearSumAssignment",
     "SimpleMaxFlow",
@@ -39,9 +42,11 @@ __all__ = [
     "assign",
     "check_arrays",
     "check_text",
+    "cost_ranges",
     "emd",
     "emd2",
     "linear_sum_assignment",
+    "plan_flow",
     "solve",
     "solve_arrays",
     "solve_text",

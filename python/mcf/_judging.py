@@ -1,12 +1,13 @@
-"""The checker for flows and prices that anybody made."""
+"""Flows and prices that anybody made: the checker judges them, and says how far costs may go."""
 from array import array
 from copy import copy
 from itertools import repeat
 from operator import mul
-from typing import Any, Dict, List, Optional, Sequence, Tuple, Union
+from typing import Any, Dict, List, NamedTuple, Optional, Sequence, Tuple, Union
 
 from ._arrays import Kind, columns_of, values_of
-from ._library import INVALID_INPUT, VERDICTS, ArcArrays, Verdict, failed
+from ._errors import NotAccepted
+from ._library import INVALID_INPUT, VERDICTS, ArcArrays, RangeEnd, Verdict, failed
 from ._limits import Arc, Limits
 from ._numbers import exact, scale_of, unscaled
 from ._solving import INFINITE, as_node, packed, refused_by, restored, scaled_rows, supplied
@@ -14,6 +15,8 @@ from ._types import Column, Numbers
 
 # The flow of each arc, and the price of each node, as exact numbers.
 Claim = Tuple[List[Any], List[Any]]
+# The least and the greatest cost; None is no limit.
+Range = Tuple[Optional[Union[int, float]], Optional[Union[int, float]]]
 
 
 def check_arrays(
@@ -65,8 +68,109 @@ def check_arrays(
     >>> check_arrays(*problem, flow=[0, 4, 0], prices=[0, -4, -5]).kind
     'rejected price'
     """
+    claimed = _claimed(supplies, (src, dst, cap, cost, flow), prices, low)
+    status, told = claimed.problem.judged()
+    claimed.refuse(status, told)
+    number = claimed.total(told.number) if status == 0 else told.number
+    return Verdict(status == 0, VERDICTS[told.kind], number, "")
+
+
+def cost_ranges(
+    supplies: Union[Numbers, Column],
+    src: Union[Numbers, Column],
+    dst: Union[Numbers, Column],
+    cap: Union[Numbers, Column],
+    cost: Union[Numbers, Column],
+    flow: Union[Numbers, Column],
+    prices: Union[Numbers, Column],
+    low: Union[None, Numbers, Column] = None,
+    *,
+    arcs: Optional[Sequence[int]] = None,
+) -> List[Range]:
+    """Tells from what to what the cost of an arc may change while a flow stays least.
+
+    The flow may be anybody's. The checker judges it first, as `check_arrays` does. All costs but
+    that of the arc stay as they are. The ends are exact: beyond them the flow isn't least. (Ahuja,
+    Magnanti and Orlin, Network Flows, section 9.11.)
+
+    Parameters
+    ----------
+    supplies, src, dst, cap, cost, flow, prices, low
+        The problem, a flow and its prices, as for `check_arrays`.
+    arcs : sequence of ints, optional
+        The arcs, from 0; by default all. Each takes at most two searches of the network.
+
+    Returns
+    -------
+    list of pairs
+        The least and the greatest cost of each arc; None for an end without a limit.
+
+    Raises
+    ------
+    NotAccepted
+        The checker rejects the flow.
+    IndexError
+        An arc isn't from 0 to m - 1.
+    Refused, OverflowError, TypeError, ValueError
+        As by `check_arrays`.
+
+    Examples
+    --------
+    >>> problem = [4, 0, -4], [0, 0, 1], [1, 2, 2], [2, 9, 3], [1, 5, 1]
+    >>> cost_ranges(*problem, flow=[2, 2, 2], prices=[0, -4, -5])
+    [(None, 4), (2, None), (None, 4)]
+    """
+    claimed = _claimed(supplies, (src, dst, cap, cost, flow), prices, low)
+    count = len(claimed.problem.flow)
+    numbers = range(count) if arcs is None else [as_node(arc) for arc in arcs]
+    if not all(0 <= number < count for number in numbers):
+        raise IndexError("arcs are 0 to %d" % (count - 1))
+    status, told, found = claimed.problem.ranges(array("I", [number + 1 for number in numbers]))
+    claimed.refuse(status, told)
+    if status == 1:
+        raise NotAccepted(VERDICTS[told.kind])
+    scale = claimed.scales.get("cost", 1)
+    own = list(claimed.arcs)
+    return [
+        (_moved(own[k][4], scale, -1, ends.down), _moved(own[k][4], scale, 1, ends.up))
+        for k, ends in zip(numbers, found)
+    ]
+
+
+def _moved(cost: int, scale: int, sign: int, end: RangeEnd) -> Optional[Union[int, float]]:
+    """The end of a range, from how far the cost may change."""
+    change = end.change()
+    return None if change is None else unscaled(cost + sign * change, scale)
+
+
+class Claimed(NamedTuple):
+    """A problem in whole numbers with a claimed flow, its supplies, its arcs, and how many times
+    the numbers of the arguments these are."""
+
+    problem: ArcArrays
+    supplies: List[int]
+    arcs: Any
+    scales: Dict[str, int]
+
+    def refuse(self, status: int, told: Any) -> None:
+        """Raises the exception for a status that is no verdict."""
+        if status == INVALID_INPUT:
+            self.problem.told = told
+            listed: List[Arc] = list(self.arcs)
+            limits = Limits(listed, [], set())  # type: ignore[arg-type]
+            raise restored(refused_by(self.problem, self.supplies, limits), None, self.scales)
+        if status > 1:
+            raise failed(status)
+
+    def total(self, number: int) -> Union[int, float]:
+        """A total cost in the numbers of the arguments."""
+        return unscaled(number, self.scales.get("total", 1))
+
+
+def _claimed(supplies: Any, columns: Sequence[Any], prices: Any, low: Any) -> Claimed:
+    """The problem with the claimed flow, which is the last of the columns."""
     supplies, prices = columns_of(supplies)[0], columns_of(prices)[0]
-    columns = columns_of(src, dst, cap, cost, flow, low=low)
+    columns = columns_of(*columns, low=low)
     if len(prices) != len(supplies):
         raise ValueError("%d nodes have %d prices" % (len(supplies), len(prices)))
     kind = Kind([supplies, prices, *columns])
@@ -82,9 +186,8 @@ def check_arrays(
         return _of_any([exact(b) for b in values_of(supplies)], rows, claim)
 
 
-def _of_whole(kind: Kind, supplies: Any, prices: Any, columns: Sequence[Any]) -> Verdict:
-    """The verdict on whole numbers. OverflowError or TypeError if one isn't whole or doesn't
-    fit."""
+def _of_whole(kind: Kind, supplies: Any, prices: Any, columns: Sequence[Any]) -> Claimed:
+    """A problem of whole numbers. OverflowError or TypeError if one isn't whole or doesn't fit."""
     # A copy, so that no other thread writes to it during the call.
     amounts = copy(kind.whole(supplies))
     src, dst, cap, cost, flow = map(kind.whole, columns[:5])
@@ -96,11 +199,11 @@ def _of_whole(kind: Kind, supplies: Any, prices: Any, columns: Sequence[Any]) ->
     problem.claim(flow, kind.whole(prices), total)
     lows = repeat(0) if low is None else values_of(low)
     arcs = zip(values_of(src), values_of(dst), lows, values_of(cap), values_of(cost))
-    return _verdict(problem, values_of(amounts), arcs)
+    return Claimed(problem, values_of(amounts), arcs, {})
 
 
-def _of_any(supplies: List[Any], rows: Sequence[Tuple[Any, ...]], claim: Claim) -> Verdict:
-    """The verdict on exact numbers. An arc without capacity gets one that its flow doesn't reach:
+def _of_any(supplies: List[Any], rows: Sequence[Tuple[Any, ...]], claim: Claim) -> Claimed:
+    """A problem of exact numbers. An arc without capacity gets one that its flow doesn't reach:
     then it passes exactly if it would without."""
     rows = [
         (u, v, l, max(exact(l), f) + 1 if cap is None or cap == INFINITE else cap, c)
@@ -120,20 +223,4 @@ def _of_any(supplies: List[Any], rows: Sequence[Tuple[Any, ...]], claim: Claim) 
     problem.claim(array("q", flow), array("q", prices), total)
     scales = {"cost": costs, "total": units * costs}
     scales.update(dict.fromkeys(("supply", "bound", "order"), units))
-    return _verdict(problem, amounts, arcs, scales)
-
-
-def _verdict(
-    problem: ArcArrays, supplies: List[int], arcs: Any, scales: Optional[Dict[str, int]] = None
-) -> Verdict:
-    status, told = problem.judged()
-    scales = scales or {}
-    if status == INVALID_INPUT:
-        problem.told = told
-        listed: List[Arc] = list(arcs)
-        limits = Limits(listed, [], set())  # type: ignore[arg-type]
-        raise restored(refused_by(problem, supplies, limits), None, scales)
-    if status > 1:
-        raise failed(status)
-    number = unscaled(told.number, scales.get("total", 1)) if status == 0 else told.number
-    return Verdict(status == 0, VERDICTS[told.kind], number, "")
+    return Claimed(problem, amounts, arcs, scales)

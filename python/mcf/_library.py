@@ -138,6 +138,45 @@ class TransportProblem(ctypes.Structure):
     ]
 
 
+class PlanOptions(ctypes.Structure):
+    """How tables are read, and what plans may leave."""
+
+    _fields_ = [
+        ("decimal", ctypes.c_uint32),
+        ("allow_unused", ctypes.c_uint32),
+        ("allow_short", ctypes.c_uint32),
+        ("penalty", ctypes.c_char_p),
+        ("penalty_length", ctypes.c_size_t),
+    ]
+
+
+class ShownFlow(ctypes.Structure):
+    _fields_ = [
+        ("flow", ctypes.c_void_p),
+        ("arcs", ctypes.c_size_t),
+        ("prices", ctypes.c_void_p),
+        ("nodes", ctypes.c_size_t),
+    ]
+
+
+class RangeEnd(ctypes.Structure):
+    """How far a cost may change in one direction."""
+
+    _fields_ = [
+        ("is_limited", ctypes.c_uint32),
+        ("low", ctypes.c_uint64),
+        ("high", ctypes.c_int64),
+    ]
+
+    def change(self) -> Optional[int]:
+        """The number, or None without a limit."""
+        return int(self.low + (self.high << 64)) if self.is_limited else None
+
+
+class CostRange(ctypes.Structure):
+    _fields_ = [("down", RangeEnd), ("up", RangeEnd)]
+
+
 class Planned(ctypes.Structure):
     _fields_ = [("used", ctypes.c_size_t), ("side", ctypes.c_uint32)]
 
@@ -210,36 +249,30 @@ def _path() -> str:
 
 def _load() -> ctypes.CDLL:
     library = ctypes.CDLL(_path())
-    size, word, at = ctypes.c_size_t, ctypes.c_uint32, ctypes.c_void_p
-    told = ctypes.POINTER(Told)
-    choice = ctypes.POINTER(Choice)
+    size, word, at, by = ctypes.c_size_t, ctypes.c_uint32, ctypes.c_void_p, ctypes.POINTER
     rooms: List[Any] = [at, size, at, size]
-    flow_problem, assignment = ctypes.POINTER(FlowProblem), ctypes.POINTER(Assignment)
-    library.mcf_solve.argtypes = [ctypes.c_char_p, size, choice, at, size, ctypes.POINTER(size)]
-    library.mcf_check.argtypes = [ctypes.c_char_p, size, ctypes.c_char_p, size, told]
-    library.mcf_solve_arcs.argtypes = [flow_problem, choice] + rooms + [told]
-    library.mcf_check_arcs.argtypes = [flow_problem] + rooms + [told]
-    library.mcf_solve_pairs.argtypes = [assignment, choice] + rooms + [told]
-    library.mcf_check_pairs.argtypes = [assignment] + rooms + [told]
-    lines: List[Any] = [ctypes.POINTER(CostMatrix), at, size, *rooms]
-    library.mcf_assign_matrix.argtypes = lines
-    plans: List[Any] = [ctypes.POINTER(TransportProblem), at, size, *rooms]
-    library.mcf_transport_matrix.argtypes = plans + [ctypes.POINTER(Planned)]
-    library.mcf_transport_doubles.argtypes = plans + [ctypes.POINTER(PlannedDoubles)]
-    library.mcf_assign_doubles.argtypes = [*lines, ctypes.POINTER(Scale)]
-    for function in (
-        library.mcf_solve,
-        library.mcf_check,
-        library.mcf_solve_arcs,
-        library.mcf_check_arcs,
-        library.mcf_solve_pairs,
-        library.mcf_check_pairs,
-        library.mcf_assign_matrix,
-        library.mcf_transport_matrix,
-        library.mcf_transport_doubles,
-        library.mcf_assign_doubles,
-    ):
-        function.restype = word
+    flow_problem, assignment = by(FlowProblem), by(Assignment)
+    text: List[Any] = [ctypes.c_char_p, size]
+    written: List[Any] = [at, size, by(size)]
+    lines: List[Any] = [by(CostMatrix), at, size, *rooms]
+    plans: List[Any] = [by(TransportProblem), at, size, *rooms]
+    calls: Dict[str, List[Any]] = {
+        "mcf_solve": [*text, by(Choice), *written],
+        "mcf_check": [*text, *text, by(Told)],
+        "mcf_plan_flow": [*text, *text, by(PlanOptions), *written],
+        "mcf_solve_arcs": [flow_problem, by(Choice), *rooms, by(Told)],
+        "mcf_check_arcs": [flow_problem, *rooms, by(Told)],
+        "mcf_solve_pairs": [assignment, by(Choice), *rooms, by(Told)],
+        "mcf_check_pairs": [assignment, *rooms, by(Told)],
+        "mcf_cost_ranges": [flow_problem, by(ShownFlow), by(Told), *rooms],
+        "mcf_assign_matrix": lines,
+        "mcf_transport_matrix": [*plans, by(Planned)],
+        "mcf_transport_doubles": [*plans, by(PlannedDoubles)],
+        "mcf_assign_doubles": [*lines, by(Scale)],
+    }
+    for name, arguments in calls.items():
+        function = getattr(library, name)
+        function.argtypes, function.restype = arguments, word
     return library
 
 
@@ -326,35 +359,43 @@ def _called(function: Any, words: Any, kept: Any) -> Any:
     return answer
 
 
-def _bytes(text: Any) -> bytes:
+def bytes_of(text: Any) -> bytes:
     """The bytes of any object that holds bytes."""
     return text if isinstance(text, bytes) else memoryview(text).tobytes()
 
 
-def solve_text(text: bytes, choice: Choice) -> Tuple[int, bytes]:
-    """Solves an instance text, and returns the status and the answer text."""
-    text = _bytes(text)
+def _written(function: Any, texts: Sequence[bytes], options: Any) -> Tuple[int, bytes]:
+    """The status of a call that writes a text, and this text. The call takes texts, each with its
+    length, and options."""
+    lent = [word for text in texts for word in (text, len(text))]
+    size = sum(map(len, texts))
     used = ctypes.c_size_t()
-    room = 4096 + 6 * len(text)
+    room = 4096 + 6 * size
     while True:
         buffer = ctypes.create_string_buffer(room)
-        words = (text, len(text), choice, buffer, room, used)
-        status = (
-            _called(_lib.mcf_solve, words, None)
-            if len(text) > LASTING_BYTES
-            else _lib.mcf_solve(*words)
-        )
+        words = (*lent, options, buffer, room, used)
+        status = _called(function, words, None) if size > LASTING_BYTES else function(*words)
         if status != BUFFER_TOO_SMALL:
-            break
+            return status, ctypes.string_at(buffer, used.value)
         room = used.value
+
+
+def solve_text(text: bytes, choice: Choice) -> Tuple[int, bytes]:
+    """Solves an instance text, and returns the status and the answer text."""
+    status, answer = _written(_lib.mcf_solve, [bytes_of(text)], choice)
     if status > INVALID_INPUT:
         raise failed(status)
-    return status, ctypes.string_at(buffer, used.value)
+    return status, answer
+
+
+def plan_flow(places: bytes, routes: bytes, options: PlanOptions) -> Tuple[int, bytes]:
+    """Plans the flow of two tables, and returns the status and the answer."""
+    return _written(_lib.mcf_plan_flow, [places, routes], options)
 
 
 def check_text(text: bytes, answer: bytes) -> Verdict:
     """The checker's verdict on an answer text."""
-    text, answer = _bytes(text), _bytes(answer)
+    text, answer = bytes_of(text), bytes_of(answer)
     told = Told()
     status = _lib.mcf_check(text, len(text), answer, len(answer), told)
     if status == NO_MEMORY:
@@ -439,6 +480,15 @@ class ArcArrays(Arrays):
         self.problem = FlowProblem(at(supplies), nodes, at(arcs), arc_count)
         self._solve, self._check = _lib.mcf_solve_arcs, _lib.mcf_check_arcs
         self._room(arc_count, nodes)
+
+    def ranges(self, arcs: "array[int]") -> Tuple[int, Told, Any]:
+        """The status of the call for the ranges of the costs of some arcs, numbered from 1, what it
+        tells, and these ranges."""
+        told = Told(0, 0, self.told.negative, self.told.low, self.told.high)
+        found = (CostRange * len(arcs))()
+        shown = ShownFlow(*self._rooms)
+        words = (self.problem, shown, told, at(arcs), len(arcs), found, len(arcs))
+        return int(self._call(_lib.mcf_cost_ranges, words, LASTING_ARCS + 1)), told, found
 
 
 class PairArrays(Arrays):

@@ -3,6 +3,7 @@ they are installed. MCF_LIBRARY names the library."""
 import copy
 import doctest
 import itertools
+import math
 import multiprocessing
 import os
 import pathlib
@@ -131,6 +132,83 @@ def _taken(C, maximize):
 def solve_by_place(supply):
     """A call for a pool of processes: no flow is feasible if the supply exceeds 3."""
     return mcf.solve([supply, -supply], [(0, 1, 3, 1)]).cost
+
+
+class CostRanges(unittest.TestCase):
+    """From what to what the cost of an arc may change while a flow stays least."""
+
+    def least(self, problem, costs):
+        supplies, src, dst, cap, _ = problem
+        return mcf.solve_arrays(supplies, src, dst, cap, costs).cost
+
+    def test_ends(self):
+        """At each end the flow is least, and beyond it another flow costs less."""
+        chance = random.Random(5)
+        for _ in range(60):
+            nodes, arcs = chance.randint(2, 5), chance.randint(1, 9)
+            src, dst = ([chance.randrange(nodes) for _ in range(arcs)] for _ in range(2))
+            cap = [chance.randint(0, 4) for _ in range(arcs)]
+            cost = [chance.randint(-3, 6) for _ in range(arcs)]
+            flow = [chance.randint(0, most) for most in cap]
+            supplies = [0] * nodes
+            for u, v, amount in zip(src, dst, flow):
+                supplies[u] += amount
+                supplies[v] -= amount
+            problem = supplies, src, dst, cap, cost
+            found = mcf.solve_arrays(*problem)
+            ranges = mcf.cost_ranges(*problem, found.flow, found.prices)
+            for k, (low, high) in enumerate(ranges):
+                for end, outward in ((low, -1), (high, 1)):
+                    for step, stays in ((0, True), (outward, False)):
+                        if end is None:
+                            continue
+                        costs = cost[:k] + [end + step] + cost[k + 1 :]
+                        total = sum(c * f for c, f in zip(costs, found.flow))
+                        self.assertEqual(self.least(problem, costs) == total, stays)
+
+    def test_numbers(self):
+        problem = [0.5, -0.5], [0, 0], [1, 1], [math.inf, math.inf], [0.25, 1.5]
+        found = mcf.cost_ranges(*problem, [0.5, 0], [0, -0.25], arcs=[1, 0])
+        self.assertEqual(found, [(0.25, None), (None, 1.5)])
+        with self.assertRaises(mcf.NotAccepted):
+            mcf.cost_ranges(*problem, [0, 0.5], [0, -1.5])
+        with self.assertRaises(IndexError):
+            mcf.cost_ranges(*problem, [0.5, 0], [0, -0.25], arcs=[2])
+
+
+class Tables(unittest.TestCase):
+    """Plans from tables."""
+
+    PLACES = "name;supply\nMühle;3\nStadt;-3\n"
+    ROUTES = "from;to;most;cost\nMühle;Stadt;2;1,5\n"
+
+    def test_plans(self):
+        routes = self.ROUTES.replace(";2;", ";;")
+        answer = mcf.plan_flow(self.PLACES.encode(), memoryview(routes.encode()))
+        self.assertEqual(answer.kind, "plan")
+        self.assertEqual(answer.rows()[:2], [["answer", "plan"], ["cost", "4.5"]])
+        self.assertIn(["route", "2", "Mühle", "Stadt", "3"], [row[:5] for row in answer.rows()])
+
+    def test_leaves(self):
+        self.assertEqual(mcf.plan_flow(self.PLACES, self.ROUTES).kind, "no plan")
+        options = {"unused": True, "short": True, "penalty": "0,5", "decimal": ","}
+        answer = mcf.plan_flow(self.PLACES, self.ROUTES, **options)
+        self.assertEqual(answer.rows()[1:3], [["cost", "1.5"], ["missing", "3"]])
+        answer = mcf.plan_flow(self.PLACES, self.ROUTES, unused=True, short=True)
+        self.assertEqual(answer.rows()[1:3], [["cost", "3"], ["missing", "1"]])
+
+    def test_faults(self):
+        answer = mcf.plan_flow(self.PLACES, self.ROUTES.replace("Stadt", "Dorf"))
+        self.assertEqual(answer.kind, "faults")
+        self.assertEqual(answer.rows()[1][:4], ["fault", "routes", "2", "to"])
+        for wrong in ({"decimal": ";"}, {"penalty": "much"}, {"penalty": ""}):
+            with self.assertRaises(ValueError):
+                mcf.plan_flow(self.PLACES, self.ROUTES, short=True, **wrong)
+
+    def test_long(self):
+        rows = "".join(f"A;B;{k};{k}\n" for k in range(30_000))
+        answer = mcf.plan_flow("name;supply\nA;9\nB;-9\n", "from;to;most;cost\n" + rows)
+        self.assertEqual(answer.rows()[1], ["cost", "26"])
 
 
 class Raised(unittest.TestCase):

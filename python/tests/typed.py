@@ -38,6 +38,13 @@ def places() -> None:
     assert mcf.solve(3, []).flow == []
 
 
+def tables() -> None:
+    """Plans from the texts of tables."""
+    answer: mcf.PlanAnswer = mcf.plan_flow("name,supply\nA,1\nB,-1", b"from,to,most,cost\nA,B,,2")
+    rows: List[List[str]] = answer.rows()
+    assert (answer.kind, rows[1]) == ("plan", ["cost", "2"])
+
+
 def decimals() -> None:
     """Other types of numbers, and arcs as lists."""
     r = mcf.solve([0.5, Decimal("-0.5")], [[0, 1, float("inf"), Fraction(3, 2)]])
@@ -54,8 +61,12 @@ def arrays() -> None:
     r = mcf.solve(np.array([4, 0, -4]), np.array([[0, 1, 3, 1], [1, 2, 3, -1], [0, 2, 9, 5]]))
     cost: float = r.cost
     assert (cost, r.flow) == (5, [3, 3, 1])
+    shown = (r.flow, r.prices)
     rows, columns = mcf.linear_sum_assignment(np.array([[4, 1, 3], [2, 0, 5], [3, 2, 2]]))
     assert (rows.tolist(), columns.tolist()) == ([0, 1, 2], [1, 0, 2])
+    ends = mcf.cost_ranges([4, 0, -4], [0, 1, 0], [1, 2, 2], [3, 3, 9], [1, -1, 5], *shown)
+    highest: Optional[Union[int, float]] = ends[2][1]
+    assert highest is None
     plan: mcf.Plan = mcf.transport(np.array([[1, 2], [3, 1]]), np.array([3, 4]), [5, 2])
     shipments: List[Tuple[int, int, int]] = plan.shipments
     total: int = plan.cost
@@ -112,5 +123,15 @@ def texts() -> None:
 
 
 if __name__ == "__main__":
-    for example in (labels, places, decimals, arrays, columns, assignments, exceptions, texts):
+    for example in (
+        labels,
+        places,
+        tables,
+        decimals,
+        arrays,
+        columns,
+        assignments,
+        exceptions,
+        texts,
+    ):
         example()

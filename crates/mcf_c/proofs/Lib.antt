@@ -3,3 +3,4 @@ pub mod Judges
 pub mod Marks
 pub mod MadeOfArrays
 pub mod Stored
+mod RangeLists

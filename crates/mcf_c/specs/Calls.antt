@@ -18,16 +18,16 @@ pub record HandsText (choice : Choice) (input : List ℕ) (status : ℕ) (text :
   pub is_status : status ≡ kind_status kind
   pub answer : IsAnswerTo choice input kind text
 
--- the room begins with an answer of this status and length, and is as it was after it
-pub record HandsAnswer (choice : Choice) (input : List ℕ) (status : ℕ) (old new : List ℕ) (used : ℕ) : Type 0 where
+-- the room begins with a text of this status and length, and is as it was after it
+pub record HandsInto (IsText : ℕ → List ℕ → Type 0) (status : ℕ) (old new : List ℕ) (used : ℕ) : Type 0 where
   pub fits : used ≤ length new
-  pub handed : HandsText choice input status (take used new)
+  pub handed : IsText status (take used new)
   pub rest : drop used new ≡ drop used old
 
--- an answer of this length doesn't fit the room
-pub record LacksRoom (choice : Choice) (input : List ℕ) (room : List ℕ) (used : ℕ) : Type 0 where
+-- a text of this length doesn't fit the room
+pub record LacksRoomFor (IsText : ℕ → List ℕ → Type 0) (room : List ℕ) (used : ℕ) : Type 0 where
   pub status : ℕ
   pub text : List ℕ
-  pub handed : HandsText choice input status text
+  pub handed : IsText status text
   pub is_length : used ≡ length text
   pub short : length room < used

@@ -15,14 +15,17 @@ pub use Rattle.mcf_matrix_doubles.specs.DoublePrices
 pub use Rattle.mcf_matrix_doubles.specs.DoubleTables
 pub use Rattle.mcf_matrix_doubles.specs.Rounding
 pub use Rattle.mcf_matrix_doubles.specs.Spans
+pub use Rattle.mcf_ranges.specs.Ranges
 pub use Rattle.mcf_solver.specs.Answering
 pub use Rattle.mcf_solver.specs.Making
 pub mod Calls
 pub mod Choices
+pub mod CostRanges
 pub mod DoubleMatrices
 pub mod Handing
 pub mod Judged
 pub mod Matrices
 pub mod Problems
+pub mod TablePlans
 pub mod Transports
 pub mod Verdicts

@@ -12,7 +12,8 @@ ghost use Rattle.mcf_checker.specs.Judging.{accepts, solution_verdict};
 ghost use Rattle.mcf_flows.specs.Flow.{IsLeast};
 ghost use Rattle.mcf_flows.specs.Limits.{limits, node_limit};
 ghost use Rattle.mcf_flows.specs.Network.{node_count};
-ghost use Rattle.mcf_flows.specs.WellFormed.{HasEnds, IsWellFormed};
+ghost use Rattle.mcf_engine.specs.SmallPrices.{price_limit};
+ghost use Rattle.mcf_flows.specs.WellFormed.{HasEnds, IsUpTo, IsWellFormed};
 
 use crate::arrays::are_rooms;
 use crate::problems::{McfAssignment, McfFlowProblem, node_count};
@@ -68,19 +69,21 @@ fn sent_along(alloc: Global, instance: &Instance, flow: &[i64]) -> Result<Vec<Se
 fn widened(n: i64) -> i128
     ensures value { result ≡ n }
     ensures fits { IsAmount result }
+    ensures small { IsUpTo price_limit result }
 {
     i128::from(n)
 }
 
-// Prices of an answer.
-fn wide_prices(alloc: Global, prices: &[i64]) -> Result<Vec<i128>, NoMemory>
-    ensures value { IfOk result (λ wide. wide.items ≡ prices.now) }
+/// Numbers in 128 bits.
+pub(crate) fn wide_numbers(alloc: Global, numbers: &[i64]) -> Result<Vec<i128>, NoMemory>
+    ensures value { IfOk result (λ wide. wide.items ≡ numbers.now) }
     ensures fits { IfOk result (λ wide. All IsAmount wide.items) }
-    ensures wants { OnErr result (1 ≤ length prices.now) }
+    ensures small { IfOk result (λ wide. All (IsUpTo price_limit) wide.items) }
+    ensures wants { OnErr result (1 ≤ length numbers.now) }
 {
     let mut wide = Vec::new(alloc);
-    for place in 0..prices.len() {
-        wide.push(widened(prices[place]))?;
+    for place in 0..numbers.len() {
+        wide.push(widened(numbers[place]))?;
     }
     Ok(wide)
 }
@@ -126,7 +129,7 @@ fn answer_along(
 {
     prove!(instance.node_count() <= NODE_LIMIT);
     let sent = sent_along(alloc, instance, flow)?;
-    let wide = wide_prices(alloc, prices)?;
+    let wide = wide_numbers(alloc, prices)?;
     Ok(FlowAnswer {
         cost,
         sent: SentList::new(sent),
@@ -134,8 +137,8 @@ fn answer_along(
     })
 }
 
-// Judges a flow by arc and prices by node for an instance.
-fn judge_instance(
+/// Judges a flow by arc and prices by node for an instance.
+pub(crate) fn judge_instance(
     alloc: Global,
     instance: &Instance,
     flow: &[i64],

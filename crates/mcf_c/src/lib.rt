@@ -8,10 +8,12 @@
 //! call for a text returns, `Problems` which networks arrays stand for, `Verdicts` which numbers a
 //! verdict has, `Handing` what a call for arrays returns, `Judged` what is judged of arrays,
 //! `Matrices` what a call for a cost matrix returns, `DoubleMatrices` the same for doubles,
-//! `Transports` what a call for a transport problem returns.
+//! `Transports` what a call for a transport problem returns, `TablePlans` what a call for tables
+//! returns, `CostRanges` what a call for ranges of costs returns.
 
 mod arrays;
 mod choosing;
+mod cost_ranges;
 mod double_matrices;
 mod double_transports;
 mod handing;
@@ -19,6 +21,7 @@ mod judging;
 mod matrices;
 mod problems;
 mod statuses;
+mod table_plans;
 mod texts;
 mod transports;
 mod verdicts;

@@ -1,7 +1,7 @@
 //! Texts solved and judged.
 ghost use Rattle.std.specs.Prelude.{◌≡◌, ◌↔◌, ◌≤◌, ◌⊎◌, IfOk, IfSome, IsTrue, None};
 ghost use Rattle.mcf_answer.specs.Parsing.{has_item_line};
-ghost use Rattle.mcf_c.specs.Calls.{HandsAnswer, HandsText, LacksRoom, kind_status};
+ghost use Rattle.mcf_c.specs.Calls.{HandsInto, HandsText, LacksRoomFor, kind_status};
 ghost use Rattle.mcf_c.specs.Choices.{choice_of};
 ghost use Rattle.mcf_c.specs.Verdicts.{Tells, number};
 ghost use Rattle.mcf_checker.specs.Correct.{GivesLeastFlow, HasNoFlow, IsCorrect};
@@ -62,10 +62,10 @@ pub extern "C" fn mcf_solve(
     used: &mut usize,
 ) -> u32
     ensures statuses { result ≤ 5 }
-    ensures answer { result ≤ 2 → IfSome (choice_of choice.now) (λ c. HandsAnswer c input.now result room.old room.new used.new) }
+    ensures answer { result ≤ 2 → IfSome (choice_of choice.now) (λ c. HandsInto (HandsText c input.now) result room.old room.new used.new) }
     ensures refused { result ≤ 2 → (result ≡ 2) ↔ HasFault input.now }
     ensures none { result ≡ 1 → HasNoFlow input.now }
-    ensures room { result ≡ 4 → IfSome (choice_of choice.now) (λ c. LacksRoom c input.now room.old used.new) }
+    ensures room { result ≡ 4 → IfSome (choice_of choice.now) (λ c. LacksRoomFor (HandsText c input.now) room.old used.new) }
     ensures choice { (result ≡ 5) ↔ (choice_of choice.now ≡ None) }
     ensures untouched { 3 ≤ result → room.new ≡ room.old }
     ensures unused { (result ≡ 3) ⊎ (result ≡ 5) → used.new ≡ 0 }

@@ -15,8 +15,8 @@ pub struct McfWide {
     pub high: i64,
 }
 
-// Returns the words of a number.
-fn wide_of(n: i128) -> McfWide
+/// Returns the words of a number.
+pub(crate) fn wide_of(n: i128) -> McfWide
     ensures { wide_value result ≡ n }
 {
     if n < 0 {

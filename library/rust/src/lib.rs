@@ -3,7 +3,7 @@
 
 mod raw;
 
-pub use raw::{Arc, Choice, Pair, Shipment};
+pub use raw::{Arc, Choice, Decimal, Pair, PlanOptions, Shipment};
 
 /// The kind of an answer.
 #[derive(Clone, Copy, Debug, PartialEq, Eq)]
@@ -17,7 +17,7 @@ pub enum Kind {
 #[derive(Clone, Copy, Debug, PartialEq, Eq)]
 pub enum Error {
     NoMemory,
-    /// A number of the choice has no meaning.
+    /// A number of the choice has no meaning, or a penalty is no number.
     InvalidChoice,
     /// A price of the flow doesn't fit 64 bits.
     PriceOverflow,
@@ -106,11 +106,11 @@ pub struct Verdict {
     pub size: u128,
 }
 
-/// The kind and the text of the answer to an instance text.
-pub fn solve(input: &[u8], choice: Choice) -> Result<(Kind, Vec<u8>), Error> {
-    let mut room = vec![0; 4096 + 6 * input.len()];
+// The kind and the text of an answer that a call writes to a buffer, whose first length is given.
+fn written(length: usize, call: impl Fn(&mut [u8]) -> (u32, usize)) -> Result<(Kind, Vec<u8>), Error> {
+    let mut room = vec![0; length];
     loop {
-        let (status, used) = raw::solve(input, &choice, &mut room);
+        let (status, used) = call(&mut room);
         if status == raw::BUFFER_TOO_SMALL {
             room.resize(used, 0);
             continue;
@@ -118,6 +118,19 @@ pub fn solve(input: &[u8], choice: Choice) -> Result<(Kind, Vec<u8>), Error> {
         room.truncate(used);
         return Ok((kind_of(status)?, room));
     }
+}
+
+/// The kind and the text of the answer to an instance text.
+pub fn solve(input: &[u8], choice: Choice) -> Result<(Kind, Vec<u8>), Error> {
+    written(4096 + 6 * input.len(), |room| raw::solve(input, &choice, room))
+}
+
+/// Plans the flow of a table of places and a table of routes, both in UTF-8, and returns the answer
+/// as the text of a third table, which the manual page of `mcfplan` describes. Its kind is `Flow`
+/// for a least-cost plan, `Blocked` if there is no plan, and `Refused` for faults of the tables.
+pub fn plan_flow(places: &[u8], routes: &[u8], options: PlanOptions) -> Result<(Kind, Vec<u8>), Error> {
+    let length = 4096 + 6 * (places.len() + routes.len());
+    written(length, |room| raw::plan_flow(places, routes, &options, room))
 }
 
 /// The verdict on an answer text for an instance text.

@@ -18,6 +18,38 @@ pub struct Choice {
     pub check: u32,
 }
 
+/// The mark before decimals: the one that the tables show, a point, or a comma.
+#[derive(Clone, Copy, Debug, Default, PartialEq, Eq)]
+pub enum Decimal {
+    #[default]
+    Shown = 0,
+    Point = 1,
+    Comma = 2,
+}
+
+/// How tables are read, and what plans may leave.
+#[derive(Clone, Copy, Debug, Default)]
+pub struct PlanOptions<'a> {
+    pub decimal: Decimal,
+    /// Supplies may stay where they are.
+    pub unused: bool,
+    /// Demands may be missing.
+    pub short: bool,
+    /// The cost of each missing unit, with a point before decimals unless `decimal` is a comma. If
+    /// it is empty, as little as possible is missing.
+    pub penalty: &'a str,
+}
+
+/// The same in numbers, as `mcf.h` has it.
+#[repr(C)]
+pub struct PlanNumbers {
+    decimal: u32,
+    allow_unused: u32,
+    allow_short: u32,
+    penalty: *const u8,
+    penalty_length: usize,
+}
+
 /// An arc, with nodes from 1.
 #[repr(C)]
 #[derive(Clone, Copy, Debug)]
@@ -176,12 +208,14 @@ impl Wide {
 
 mod exports {
     use super::{
-        Assignment, Choice, Doubles, FlowProblem, Matrix, Planned, PlannedDoubles, Scale, Shipment, Told, Transport, TransportDoubles, Wide,
+        Assignment, Choice, Doubles, FlowProblem, Matrix, PlanNumbers, Planned, PlannedDoubles, Scale, Shipment, Told, Transport, TransportDoubles, Wide,
     };
 
     #[rustfmt::skip]
     unsafe extern "C" {
         pub fn mcf_solve(input: *const u8, input_length: usize, choice: *const Choice, room: *mut u8, room_length: usize, used: *mut usize) -> u32;
+        pub fn mcf_plan_flow(places: *const u8, places_length: usize, routes: *const u8, routes_length: usize,
+            options: *const PlanNumbers, room: *mut u8, room_length: usize, used: *mut usize) -> u32;
         pub fn mcf_check(input: *const u8, input_length: usize, answer: *const u8, answer_length: usize, told: *mut Told) -> u32;
         pub fn mcf_solve_arcs(problem: *const FlowProblem, choice: *const Choice,
             flow: *mut i64, flow_length: usize, prices: *mut i64, prices_length: usize, told: *mut Told) -> u32;
@@ -207,6 +241,22 @@ mod exports {
 pub fn solve(input: &[u8], choice: &Choice, room: &mut [u8]) -> (u32, usize) {
     let mut used = 0;
     let status = unsafe { exports::mcf_solve(input.as_ptr(), input.len(), choice, room.as_mut_ptr(), room.len(), &mut used) };
+    (status, used)
+}
+
+pub fn plan_flow(places: &[u8], routes: &[u8], options: &PlanOptions, room: &mut [u8]) -> (u32, usize) {
+    let numbers = PlanNumbers {
+        decimal: options.decimal as u32,
+        allow_unused: options.unused.into(),
+        allow_short: options.short.into(),
+        penalty: options.penalty.as_ptr(),
+        penalty_length: options.penalty.len(),
+    };
+    let mut used = 0;
+    let (room_at, room_length) = (room.as_mut_ptr(), room.len());
+    let status = unsafe {
+        exports::mcf_plan_flow(places.as_ptr(), places.len(), routes.as_ptr(), routes.len(), &numbers, room_at, room_length, &mut used)
+    };
     (status, used)
 }
 

@@ -1,5 +1,5 @@
-use mcf::{assign_doubles, assign_matrix, check, check_arcs, solve, solve_arcs, solve_pairs, transport};
-use mcf::{Answer, Arc, Assigned, AssignedDoubles, Choice, Error, Kind, Pair, Planned, Shipment, Side};
+use mcf::{assign_doubles, assign_matrix, check, check_arcs, plan_flow, solve, solve_arcs, solve_pairs, transport};
+use mcf::{Answer, Arc, Assigned, AssignedDoubles, Choice, Decimal, Error, Kind, Pair, PlanOptions, Planned, Shipment, Side};
 
 const TEXT: &[u8] = b"p min 3 3\nn 1 4\nn 3 -4\na 1 2 0 3 1\na 2 3 0 3 -1\na 1 3 0 9 5\n";
 
@@ -25,6 +25,19 @@ fn texts() {
     assert_eq!(solve(b"p min 2 0\nn 1 1\nn 2 -1\n", Choice::default()).unwrap().0, Kind::Blocked);
     assert_eq!(solve(TEXT, engine(6)), Err(Error::InvalidChoice));
     assert_eq!(solve(b"", Choice::default()).unwrap().0, Kind::Refused);
+}
+
+#[test]
+fn tables() {
+    let (places, routes) = (b"name,supply\nMill,3\nTown,-3\n", b"from,to,most,cost\nMill,Town,2,1.5\n");
+    assert_eq!(plan_flow(places, routes, PlanOptions::default()).unwrap().0, Kind::Blocked);
+    let options = PlanOptions { unused: true, short: true, penalty: "0.5", ..PlanOptions::default() };
+    let (kind, answer) = plan_flow(places, routes, options).unwrap();
+    assert_eq!(kind, Kind::Flow);
+    assert!(answer.starts_with(b"\"answer\",\"plan\"\n\"cost\",\"1.5\"\n"));
+    assert_eq!(plan_flow(places, places, options).unwrap().0, Kind::Refused);
+    let comma = PlanOptions { decimal: Decimal::Comma, ..options };
+    assert_eq!(plan_flow(places, routes, comma), Err(Error::InvalidChoice));
 }
 
 #[test]

@@ -1,0 +1,64 @@
+-- What a call for tables hands out, and what its numbers ask.
+-- Source: own
+use Rattle.std.specs.Prelude.{◌≡◌, ℕ, ◌==◌, Bool, true, false, if◌then◌else◌, List, [], ◌∷◌, Option, Some, None, option_and_then, option_map, Result, Ok, Err}
+use Rattle.mcf_answer_rows.specs.declared.texts.PlanText.{PlanText}
+use Rattle.mcf_answer_rows.specs.declared.texts.TextKind.{TextKind}
+use Rattle.mcf_answer_rows.specs.declared.texts.TextKind.TheVariants.{Plan, NoPlan, Faults}
+use Rattle.mcf_c.specs.declared.table_plans.McfPlanOptions.{McfPlanOptions}
+use Rattle.mcf_decimal.specs.Numbers.{read_number}
+use Rattle.mcf_decimal.specs.declared.decimal.Decimal.{Decimal}
+use Rattle.mcf_decimal.specs.declared.fault.NumberFault.{NumberFault}
+use Rattle.mcf_decimal.specs.declared.mark.Mark.{Mark}
+use Rattle.mcf_decimal.specs.declared.mark.Mark.TheVariants.{Point, Comma}
+use Rattle.mcf_flow_tables.specs.declared.options.Options.{Options}
+use Rattle.mcf_plan_text.specs.PlanTexts.{IsPlanText}
+use Rattle.mcf_units.specs.declared.terms.Terms.{Terms}
+
+-- the status of an answer of a kind
+abbrev pub plan_status : TextKind → ℕ
+plan_status Plan = 0
+plan_status NoPlan = 1
+plan_status Faults = 2
+
+-- a text of this status is an answer to two tables
+pub record HandsPlanText (places routes : List ℕ) (options : Options) (status : ℕ) (text : List ℕ) : Type 0 where
+  pub told : PlanText
+  pub is_status : status ≡ plan_status told.kind
+  pub is_text : text ≡ told.text.items
+  pub answers : IsPlanText places routes options told
+
+-- ---- what the numbers ask
+
+-- the mark before decimals: that which cells show, a point, or a comma
+abbrev pub asked_mark : ℕ → Option (Option Mark)
+asked_mark n = if n == 0 then Some None else (if n == 1 then Some (Some Point) else (if n == 2 then Some (Some Comma) else None))
+
+-- no or yes
+abbrev pub asked_leave : ℕ → Option Bool
+asked_leave n = if n == 0 then Some false else (if n == 1 then Some true else None)
+
+-- the number that is read, if one is
+abbrev pub number_in : Result Decimal NumberFault → Option (Option Decimal)
+number_in (Ok number) = Some (Some number)
+number_in (Err fault) = None
+
+-- the penalty that a text names, under a mark or none; an empty text names none
+abbrev pub asked_penalty : Option Mark → List ℕ → Option (Option Decimal)
+asked_penalty mark [] = Some None
+asked_penalty mark (byte ∷ text) = number_in (read_number mark (byte ∷ text))
+
+-- what may be left, if each part is there
+abbrev pub terms_from : Option Bool → Option Bool → Option (Option Decimal) → Option Terms
+terms_from (Some unused) (Some short) (Some penalty) = Some (record { unused = unused; short = short; penalty = penalty })
+terms_from None short penalty = None
+terms_from (Some unused) None penalty = None
+terms_from (Some unused) (Some short) None = None
+
+-- how tables are read under a mark, and what plans may leave
+abbrev pub options_under : McfPlanOptions → Option Mark → Option Options
+options_under o mark =
+    option_map (λ terms. record { mark = mark; terms = terms }) (terms_from (asked_leave o.allow_unused) (asked_leave o.allow_short) (asked_penalty mark o.penalty.now))
+
+-- what the numbers ask, if they have a meaning
+abbrev pub plan_options : McfPlanOptions → Option Options
+plan_options o = option_and_then (options_under o) (asked_mark o.decimal)

@@ -1,0 +1,153 @@
+//! Tables planned.
+ghost use Rattle.std.specs.Prelude.{◌≡◌, ◌↔◌, ◌≤◌, ◌⊎◌, IfOk, IfSome, None};
+ghost use Rattle.mcf_c.specs.Calls.{HandsInto, LacksRoomFor};
+ghost use Rattle.mcf_c.specs.TablePlans.{HandsPlanText, asked_leave, asked_mark, asked_penalty, options_under, plan_options, plan_status};
+
+use crate::statuses::{BLOCKED, BUFFER_TOO_SMALL, FLOW, INVALID_CHOICE, INVALID_INPUT, NO_MEMORY};
+use mcf_answer_rows::TextKind;
+use mcf_choice::{Choice, EngineChoice};
+use mcf_decimal::{Decimal, Mark, number};
+use mcf_flow_tables::{Options, Texts};
+use mcf_plan_text::plan_text;
+use mcf_planner::Planner;
+use mcf_text::NoMemory;
+use mcf_units::Terms;
+use std::alloc::Global;
+
+/// How tables are read, and what plans may leave. All zeros, with an empty penalty, are the
+/// defaults.
+#[repr(C)]
+#[derive(Clone, Copy)]
+pub struct McfPlanOptions<'a> {
+    pub decimal: u32,
+    pub allow_unused: u32,
+    pub allow_short: u32,
+    pub penalty: &'a [u8],
+}
+
+// The status of an answer of a kind.
+fn plan_status(kind: TextKind) -> u32
+    ensures value { result ≡ plan_status kind }
+    ensures few { result ≤ 2 }
+{
+    match kind {
+        TextKind::Plan => FLOW,
+        TextKind::NoPlan => BLOCKED,
+        TextKind::Faults => INVALID_INPUT,
+    }
+}
+
+// The mark before decimals with a number.
+fn asked_mark(number: u32) -> Option<Option<Mark>>
+    ensures { result ≡ asked_mark number }
+{
+    match number {
+        0 => Some(None),
+        1 => Some(Some(Mark::Point)),
+        2 => Some(Some(Mark::Comma)),
+        _ => None,
+    }
+}
+
+// No or yes.
+fn asked_leave(number: u32) -> Option<bool>
+    ensures { result ≡ asked_leave number }
+{
+    match number {
+        0 => Some(false),
+        1 => Some(true),
+        _ => None,
+    }
+}
+
+// The penalty that a text names, under a mark or none.
+fn asked_penalty(mark: Option<Mark>, text: &[u8]) -> Option<Option<Decimal>>
+    ensures { result ≡ asked_penalty mark text.now }
+{
+    if text.is_empty() {
+        return Some(None);
+    }
+    match number(text, mark) {
+        Ok(found) => Some(Some(found)),
+        Err(_) => None,
+    }
+}
+
+// How tables are read under a mark, and what plans may leave.
+fn options_under(numbers: &McfPlanOptions<'_>, mark: Option<Mark>) -> Option<Options>
+    ensures { result ≡ options_under numbers.now mark }
+{
+    let unused = asked_leave(numbers.allow_unused)?;
+    let short = asked_leave(numbers.allow_short)?;
+    let penalty = asked_penalty(mark, numbers.penalty)?;
+    Some(Options {
+        mark,
+        terms: Terms {
+            unused,
+            short,
+            penalty,
+        },
+    })
+}
+
+// What numbers ask, if they have a meaning.
+fn plan_options(numbers: &McfPlanOptions<'_>) -> Option<Options>
+    ensures { result ≡ plan_options numbers.now }
+{
+    let mark = asked_mark(numbers.decimal)?;
+    options_under(numbers, mark)
+}
+
+// The answer to two tables, with its status.
+fn answer_to(alloc: Global, texts: Texts<'_>, options: Options) -> Result<(u32, Vec<u8>), NoMemory>
+    ensures text { IfOk result (λ r. HandsPlanText texts.entry.places.now texts.entry.routes.now options r.0 r.1.items) }
+    ensures few { IfOk result (λ r. r.0 ≤ 2) }
+{
+    let mut engine = Planner {
+        choice: Choice {
+            engine: EngineChoice::Fast,
+            ..Choice::default()
+        },
+    };
+    let told = plan_text(alloc, &mut engine, texts, options)?;
+    Ok((plan_status(told.kind), told.text))
+}
+
+/// Plans the flow of two tables in UTF-8, and writes the answer, as the text of a table, to the
+/// beginning of a buffer of the caller's, as `plan_text` writes it.
+///
+/// The status is 0 for a least plan, 1 if there is none, 2 for faults, 3 if memory runs out, also
+/// for the answer before it is copied to the buffer, 4 if the buffer is too short, and 5 if the
+/// options have no meaning. `used` becomes the length of the answer, also at status 4, and 0 at 3
+/// and 5.
+#[unsafe(no_mangle)]
+pub extern "C" fn mcf_plan_flow(
+    alloc: Global,
+    places: &[u8],
+    routes: &[u8],
+    options: &McfPlanOptions<'_>,
+    room: &mut [u8],
+    used: &mut usize,
+) -> u32
+    ensures statuses { result ≤ 5 }
+    ensures answer { result ≤ 2 → IfSome (plan_options options.now) (λ o. HandsInto (HandsPlanText places.now routes.now o) result room.old room.new used.new) }
+    ensures room { result ≡ 4 → IfSome (plan_options options.now) (λ o. LacksRoomFor (HandsPlanText places.now routes.now o) room.old used.new) }
+    ensures options { (result ≡ 5) ↔ (plan_options options.now ≡ None) }
+    ensures untouched { 3 ≤ result → room.new ≡ room.old }
+    ensures unused { (result ≡ 3) ⊎ (result ≡ 5) → used.new ≡ 0 }
+{
+    *used = 0;
+    let Some(options) = plan_options(options) else {
+        return INVALID_CHOICE;
+    };
+    let texts = Texts { places, routes };
+    let Ok((status, answer)) = answer_to(alloc, texts, options) else {
+        return NO_MEMORY;
+    };
+    *used = answer.len();
+    if room.len() < answer.len() {
+        return BUFFER_TOO_SMALL;
+    }
+    room[..answer.len()].copy_from_slice(&answer);
+    status
+}

@@ -1,0 +1,95 @@
+"""Plans from tables, as `mcfplan` makes them, from bytes to bytes."""
+import csv
+import io
+from typing import List, NamedTuple, Optional, Union
+
+from . import _library
+
+KINDS = ("plan", "no plan", "faults")
+MARKS = (None, ".", ",")
+
+
+class PlanAnswer(NamedTuple):
+    """The answer to tables.
+
+    Attributes
+    ----------
+    kind : {'plan', 'no plan', 'faults'}
+    text : bytes
+        The answer as the text of a table in UTF-8, byte for byte that of `mcfplan`, whose manual
+        page describes the rows.
+    """
+
+    kind: str
+    text: bytes
+
+    def rows(self) -> List[List[str]]:
+        """The rows of the answer. The first cell of each says what it is."""
+        return list(csv.reader(io.StringIO(self.text.decode(), newline=""), strict=True))
+
+
+def plan_flow(
+    places: Union[bytes, str],
+    routes: Union[bytes, str],
+    *,
+    decimal: Optional[str] = None,
+    unused: bool = False,
+    short: bool = False,
+    penalty: Optional[Union[int, str]] = None,
+) -> PlanAnswer:
+    """Plans the flow between places at the least cost, from the texts of two tables.
+
+    Parameters
+    ----------
+    places : bytes or str
+        The text of a table with the columns name and supply, below 0 for a demand, and optionally
+        least, most and cost of what passes through a place. Bytes are in UTF-8.
+    routes : bytes or str
+        The text of a table with the columns from, to, most and cost, and optionally least, both,
+        most 2, cost 2 and so on. An empty most is no limit.
+    decimal : {None, '.', ','}
+        The mark before decimals; None for the one that the tables show.
+    unused : bool
+        Supplies may stay where they are.
+    short : bool
+        Demands may be missing.
+    penalty : int or str, optional
+        The cost of each missing unit, with a point before decimals unless `decimal` is ','. Without
+        it, as little as possible is missing.
+
+    Returns
+    -------
+    PlanAnswer
+        A plan that no plan in any units undercuts, or places that show why there is none, or all
+        faults of the tables.
+
+    Raises
+    ------
+    ValueError
+        `decimal` is no mark, or `penalty` is no number.
+    MemoryError
+        Memory runs out.
+
+    Examples
+    --------
+    >>> places, routes = "name,supply\\nMill,3\\nTown,-3", "from,to,most,cost\\nMill,Town,5,1.5"
+    >>> plan_flow(places, routes).rows()[:2]
+    [['answer', 'plan'], ['cost', '4.5']]
+    """
+    if decimal not in MARKS:
+        raise ValueError("the decimal mark is '.' or ',', or None")
+    named = b"" if penalty is None else str(penalty).encode()
+    if penalty is not None and not named:
+        raise ValueError("the penalty is empty")
+    options = _library.PlanOptions(MARKS.index(decimal), unused, short, named, len(named))
+    status, text = _library.plan_flow(_text_of(places), _text_of(routes), options)
+    if status == _library.INVALID_CHOICE:
+        raise ValueError("the penalty is no number: %r" % penalty)
+    if status > _library.INVALID_INPUT:
+        raise _library.failed(status)
+    return PlanAnswer(KINDS[status], text)
+
+
+def _text_of(table: Union[bytes, str]) -> bytes:
+    """The bytes of a table."""
+    return table.encode() if isinstance(table, str) else _library.bytes_of(table)
