@@ -1,0 +1,182 @@
+"""Random problems, and their tables in random notations."""
+from fractions import Fraction
+
+from plain_plans import Place, Policy, Problem, Route
+
+NAMES = ("Mühle", "Ost, Tor 2", 'Werk "A"', "Graz", "x", "0", "Ham\u00adburg", "St. Pölten", "Öd;")
+
+
+class Notation:
+    """How tables are written: separator, mark before decimals, quotes, blanks, ends of lines."""
+
+    def __init__(self, rng):
+        self.rng = rng
+        self.separator, self.mark = rng.choice([(",", "."), (";", ","), (";", "."), ("\t", ",")])
+        self.end = rng.choice(["\n", "\r\n", "\r"])
+        self.scale = rng.choice([1, 1, 10, 100])
+        self.quotes, self.blanks = rng.random() * 0.5, rng.random() < 0.3
+        self.says_mark = rng.random() < 0.5
+
+    def number(self, value):
+        """A number as a cell: with decimals, a sign, or blanks between thousands, as it comes."""
+        rng, size = self.rng, abs(value)
+        whole, part = divmod(size, 1)
+        text = str(int(whole))
+        if len(text) > 3 and rng.random() < 0.5:
+            text = f"{int(whole):,}".replace(",", rng.choice(" '\u00a0\u202f"))
+        if part:
+            text += self.mark + str(int(part * self.scale)).zfill(len(str(self.scale)) - 1)
+        if value < 0:
+            return rng.choice("--−") + text
+        return rng.choice(["", "", "", "+"]) + text
+
+    def plain(self, value):
+        """A number without blanks, for the command line."""
+        whole, part = divmod(value, 1)
+        decimals = str(int(part * self.scale)).zfill(len(str(self.scale)) - 1)
+        return f"{int(whole)}{self.mark}{decimals}" if part else str(int(whole))
+
+    def cell(self, text):
+        """A cell, between quotes where it has to be, and sometimes otherwise."""
+        special = any(c in text for c in (self.separator, '"', "\n", "\r"))
+        if special or self.rng.random() < self.quotes:
+            text = '"' + text.replace('"', '""') + '"'
+        if self.blanks and self.separator != "\t":
+            # No blank may follow a closing quote.
+            text = f" {text}" if text.endswith('"') else f" {text} "
+        return text
+
+    def text(self, heads, rows):
+        """A table: its columns in any order, columns of the planner's own, rows without cells, and
+        a line above the heads."""
+        rng = self.rng
+        order = (
+            rng.sample(range(len(heads)), len(heads))
+            if rng.random() < 0.5
+            else [*range(len(heads))]
+        )
+        titled = [head.upper() if rng.random() < 0.2 else head for head in heads]
+        lines = [[titled[k] for k in order], *([row[k] for k in order] for row in rows)]
+        if rng.random() < 0.2:
+            lines = [line + ["note" if line is lines[0] else "n/a"] for line in lines]
+        if rng.random() < 0.15:
+            lines.insert(0, ["My tables", *[""] * (len(lines[0]) - 1)])
+        shown = [self.separator.join(map(self.cell, line)) for line in lines]
+        if rng.random() < 0.2:
+            shown.insert(rng.randint(1, len(shown)), self.separator * rng.randint(0, 2))
+        mark = "\ufeff" if rng.random() < 0.2 else ""
+        return mark + self.end.join(shown) + (self.end if rng.random() < 0.8 else "")
+
+
+def amount(rng, notation, low, high):
+    """An amount, with as many decimals as the notation has."""
+    scale = notation.scale if rng.random() < 0.5 else 1
+    return Fraction(rng.randint(low * scale, high * scale), scale)
+
+
+def random_places(rng, notation, count):
+    """Places whose supplies balance in most cases."""
+    supplies = [amount(rng, notation, -9, 9) for _ in range(count)]
+    if rng.random() < 0.7:
+        supplies[-1] -= sum(supplies)
+    bounded = rng.random() < 0.4
+    for name, supply in zip(rng.sample(NAMES, count), supplies):
+        bounds = None
+        if bounded and rng.random() < 0.6:
+            least = amount(rng, notation, 0, 2)
+            most = None if rng.random() < 0.4 else least + amount(rng, notation, 0, 30)
+            bounds = least, most, amount(rng, notation, -2, 3)
+        yield Place(name, supply, bounds)
+
+
+def random_steps(rng, notation, first):
+    """Steps of rising cost; the last has no limit in some cases."""
+    steps, cost = [], first
+    for _ in range(rng.choice([1, 1, 1, 2, 3])):
+        steps.append((amount(rng, notation, 0, 12), cost))
+        cost += amount(rng, notation, 0, 4)
+    if rng.random() < 0.15:
+        steps[-1] = None, steps[-1][1]
+    return tuple(steps)
+
+
+def random_routes(rng, notation, count):
+    """Routes, some with least amounts, steps or both ways."""
+    for _ in range(rng.randint(1, 3 * count)):
+        tail, head = rng.randrange(count), rng.randrange(count)
+        both = rng.random() < 0.25
+        first = amount(rng, notation, 0 if both else -3, 9) if rng.random() < 0.4 else Fraction(3)
+        steps = random_steps(rng, notation, first)
+        room = sum(most for most, _ in steps if most is not None)
+        least = Fraction(0)
+        if not both and rng.random() < 0.2:
+            least = min(amount(rng, notation, 0, 3), room if steps[-1][0] is not None else 3)
+        yield Route(tail, head, least, steps, both)
+
+
+def random_policy(rng, notation):
+    unused, short = rng.random() < 0.4, rng.random() < 0.4
+    penalty = amount(rng, notation, 0, 12) if short and rng.random() < 0.5 else None
+    return Policy(unused, short, penalty)
+
+
+def random_problem(rng, notation):
+    count = rng.randint(1, 5)
+    places = [*random_places(rng, notation, count)]
+    return Problem(places, [*random_routes(rng, notation, count)], random_policy(rng, notation))
+
+
+def limit(rng, notation, most):
+    return notation.number(most) if most is not None else rng.choice(["", "inf", "∞", "INF"])
+
+
+def place_table(rng, notation, places):
+    """The text of the table of places."""
+    heads, rows = ["name", "supply"], []
+    if any(place.bounds for place in places):
+        heads += ["least", "most", "cost"]
+    for place in places:
+        row = [
+            place.name,
+            notation.number(place.supply) if place.supply or rng.random() < 0.5 else "",
+        ]
+        if len(heads) > 2 and place.bounds:
+            least, most, cost = place.bounds
+            # Three empty cells would be no bounds.
+            row += [notation.number(least), limit(rng, notation, most), notation.number(cost)]
+        elif len(heads) > 2:
+            row += ["", "", ""]
+        rows.append(row)
+    return notation.text(heads, rows)
+
+
+def route_table(rng, notation, places, routes):
+    """The text of the table of routes."""
+    depth = max(len(route.steps) for route in routes)
+    heads = ["from", "to", "most", "cost"]
+    for number in range(2, depth + 1):
+        heads += [f"most {number}", f"cost {number}"]
+    has_least, has_both = (any(values) for values in zip(*((r.least, r.both) for r in routes)))
+    heads += ["least"] * has_least + ["both"] * has_both
+    rows = []
+    for route in routes:
+        row = [places[route.tail].name, places[route.head].name]
+        for most, cost in route.steps:
+            row += [limit(rng, notation, most), notation.number(cost)]
+        row += ["", ""] * (depth - len(route.steps))
+        if has_least:
+            row.append(notation.number(route.least) if route.least or rng.random() < 0.5 else "")
+        if has_both:
+            row.append(
+                rng.choice(["yes", "Y", "x", "ja"] if route.both else ["", "no", "0", "Nein"])
+            )
+        rows.append(row)
+    return notation.text(heads, rows)
+
+
+def texts_of(rng, notation, problem):
+    """Both tables as texts."""
+    return (
+        place_table(rng, notation, problem.places),
+        route_table(rng, notation, problem.places, problem.routes),
+    )
