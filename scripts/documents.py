@@ -403,7 +403,7 @@ is_filled cell_at read_number read_amount is_no_limit read_limit is_yes way_kind
 mcf_reading.name_kind no_place_kind mcf_reading.cell_faults
 great_faults planner_faults IsProperPlanner steps_in rows_in
 numbers_of is_bounded
-IsBeyond limited shortage_of mcf_places.origin_of
+IsBeyond limited shortage_of IsShownIn mcf_places.origin_of
 """
 
 # The content of a part: the definitions that these clauses cite, these definitions, and all that
