@@ -70,3 +70,10 @@ parts_put (Ok done) old one two all a b c d first second third =
     ∙ ap (λ (xs : List ℕ). old ++ (rows_text a ++ (rows_text b ++ xs))) (sym (rows_text_append c d))
     ∙ ap (λ (xs : List ℕ). old ++ (rows_text a ++ xs)) (sym (rows_text_append b (c ++ d)))
     ∙ ap (λ (xs : List ℕ). old ++ xs) (sym (rows_text_append a (b ++ (c ++ d))))
+
+-- a row, and then further rows
+pub headed_put : {E : Type 0} (r : Result (Unit {0}) E) (old one all : List ℕ) (row : List (List ℕ)) (rows : List (List (List ℕ)))
+    → one ≡ old ++ row_line row → OnOk r (all ≡ one ++ rows_text rows) → OnOk r (all ≡ old ++ rows_text (row ∷ rows))
+headed_put (Err fault) old one all row rows first second = tt
+headed_put (Ok done) old one all row rows first second =
+    second ∙ ap (λ (xs : List ℕ). xs ++ rows_text rows) first ∙ append_assoc old (row_line row) (rows_text rows)

@@ -1,3 +1,4 @@
+pub use Rattle.mcf_decimal.specs.Marks
 pub use Rattle.mcf_decimal.specs.Written as DecimalTexts
 pub use Rattle.mcf_reading.specs.Cells
 pub use Rattle.mcf_reading.specs.Columns
@@ -7,3 +8,4 @@ pub use Rattle.mcf_table.specs.Written
 pub mod AnswerRows
 pub mod FaultWords
 pub mod Lines
+pub mod TableRows

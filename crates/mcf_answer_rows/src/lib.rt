@@ -1,15 +1,17 @@
 #![tactic(auto)]
 
-//! What the texts of answers share: cells, rows of faults, and the words of what is wrong with a
-//! cell.
+//! What the texts of answers share: cells, rows of faults, the rows of the tables themselves, and
+//! the words of what is wrong with a cell.
 //!
 //! It builds on `mcf_table`, which writes rows, and on `mcf_reading`, which says what a cell is.
 //! The definitions are in `specs/`: `Lines` says what the text of rows is, `AnswerRows` which rows
-//! and cells answers have, and `FaultWords` how faults are told.
+//! and cells answers have, `TableRows` how an answer repeats a table, and `FaultWords` how faults
+//! are told.
 
 mod answers;
 mod cells;
 mod faults;
+mod table_rows;
 mod texts;
 mod words;
 
@@ -19,5 +21,6 @@ pub use cells::{
     put_line,
 };
 pub use faults::{Wrong, put_fault};
+pub use table_rows::{put_mark, put_table};
 pub use texts::{PlanText, TextKind};
 pub use words::{field_word, name_word, number_word, too_great};

@@ -1,9 +1,10 @@
 //! Tests of what the texts of answers share.
 use mcf_answer_rows::{
     Wrong, cell_at, cell_under, decimal_cell, field_word, line_at, line_cell, name_word, next_cell,
-    number_cell, number_word, place_of, put_answer, put_fault, put_line, put_number_row, too_great,
+    number_cell, number_word, place_of, put_answer, put_fault, put_line, put_mark, put_number_row,
+    put_table, too_great,
 };
-use mcf_decimal::NumberFault;
+use mcf_decimal::{Mark, NumberFault};
 use mcf_names::NameFault;
 use mcf_table::{FieldFault, Records, records_of};
 use std::test::Fail;
@@ -50,6 +51,19 @@ fn answers_are_rows(rt: HostRuntime) -> Result<(), Fail> {
     put_number_row(&mut out, b"cost", b"7")?;
     put_line(&mut out, &[b"pair", b"a \"b\""])?;
     let want = b"\"answer\",\"plan\"\n\"cost\",\"7\"\n\"pair\",\"a \"\"b\"\"\"\n";
+    assert!(rt; out.as_slice() == want.as_slice());
+    Ok(())
+}
+
+#[test]
+fn tables_are_rows(rt: HostRuntime) -> Result<(), Fail> {
+    let records = records_of(rt.alloc(), TABLE, b';')??;
+    let mut out = Vec::new(rt.alloc());
+    put_mark(&mut out, Some(Mark::Comma))?;
+    put_mark(&mut out, None)?;
+    put_table(rt.alloc(), &mut out, b"places", &records)?;
+    let want = b"\"mark\",\",\"\n\"mark\",\"\"\n\"heads\",\"places\",\"1\",\"name\",\"supply\"\n\
+\"row\",\"places\",\"3\",\"Mill\",\"3\"\n\"row\",\"places\",\"4\",\"Graz\"\n";
     assert!(rt; out.as_slice() == want.as_slice());
     Ok(())
 }
