@@ -35,10 +35,10 @@ origin_in P (NoPlan bottleneck) = None
 
 -- The answer to what tables say: each number that is too great; or all faults of the problem; or,
 -- if there are none of either, a least plan of it, in the units of the tables, or a bottleneck, or
--- the first number beyond the limits and where it comes from.
+-- the first number beyond the limits and where it comes from; and the mark before decimals.
 abbrev pub IsProblemAnswer : Entries → Terms → ProblemAnswer → Type 0
 IsProblemAnswer said terms (Solved s) =
-    (s.scales ≡ scales_of said terms.penalty) × (s.planner ≡ planner_in s.scales said terms) × (great_faults s.scales said terms ≡ [])
+    (s.mark ≡ said.mark) × (s.scales ≡ scales_of said terms.penalty) × (s.planner ≡ planner_in s.scales said terms) × (great_faults s.scales said terms ≡ [])
     × IsProperPlanner s.planner × IsPlannerAnswer s.planner s.answer × (s.origin ≡ origin_in s.planner s.answer)
 IsProblemAnswer said terms (TooGreat faults) = IsMadeOf said terms (GreatNumbers faults)
 IsProblemAnswer said terms (Improper faults) = IsMadeOf said terms (ImproperProblem faults)

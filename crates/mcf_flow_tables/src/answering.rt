@@ -3,6 +3,7 @@ ghost use Rattle.std.specs.Prelude.{◌≡◌, IfOk};
 ghost use Rattle.mcf_flow_tables.specs.TableAnswers.{IsProblemAnswer, IsTableAnswer, origin_in};
 
 use crate::options::Options;
+use mcf_decimal::Mark;
 use mcf_model::Solves;
 use mcf_places::{Origin, Planner, PlannerAnswer, PlannerFault, least, origin_of};
 use mcf_reading::{Faults, Tables, read};
@@ -11,9 +12,11 @@ use mcf_text::NoMemory;
 use mcf_units::{GreatFault, Made, Scales, Terms, problem};
 use std::alloc::Global;
 
-/// The answer to a problem in whole numbers, and their units.
+/// The answer to a problem in whole numbers, with their units and the mark of the tables.
 #[derive(Drop)]
 pub struct SolvedProblem {
+    /// The mark before decimals; `None` if none is named or shown.
+    pub mark: Option<Mark>,
     /// The units of amounts and of costs.
     pub scales: Scales,
     /// The problem. It says which rows of routes have a way back of their own, and so which amount
@@ -72,6 +75,7 @@ fn problem_answer<S: Solves>(
             let answer = least(alloc, solver, &planner)?;
             let origin = origin_in(&planner, &answer);
             Ok(ProblemAnswer::Solved(SolvedProblem {
+                mark: tables.mark(),
                 scales,
                 planner,
                 answer,
