@@ -345,7 +345,7 @@ static int check_tables(void) {
     static const uint8_t narrow[] = "from,to,most,cost\nMill,Town,2,1.5\n";
     static const char plan[] = "\"answer\",\"plan\"\n\"cost\",\"4.5\"\n";
     struct mcf_plan_options options = {MCF_SHOWN_MARK, 0, 0, (const uint8_t *)"", 0};
-    uint8_t room[512];
+    uint8_t room[1024];
     size_t used = 77, length = sizeof places - 1;
     CHECK(51, mcf_plan_flow(places, length, routes, sizeof routes - 1, &options, room, sizeof room,
                             &used) == MCF_FLOW);

@@ -18,13 +18,57 @@ const PLAN: &[u8] = b"\"answer\",\"plan\"\n\"cost\",\"21.875\"\n\"missing\",\"0\
 \"route\",\"2\",\"Mill\",\"G \"\"raz\",\"12.5\"\n\"route\",\"3\",\"G \"\"raz\",\"Wien\",\"12.5\"\n\
 \"place\",\"2\",\"Mill\",\"0\",\"0\"\n\"place\",\"3\",\"G \"\"raz\",\"0\",\"0\"\n\"place\",\"4\",\"Wien\",\"0\",\"0\"\n";
 
+// The mark, and the rows of these places.
+const PLACES_AGAIN: &[u8] = b"\"mark\",\".\"\n\"heads\",\"places\",\"1\",\"name\",\"supply\"\n\
+\"row\",\"places\",\"2\",\"Mill\",\"12.5\"\n\"row\",\"places\",\"3\",\"G \"\"raz\",\"\"\n\
+\"row\",\"places\",\"4\",\"Wien\",\"-12.5\"\n";
+
+// The rows of these routes.
+const ROUTES_AGAIN: &[u8] = b"\"heads\",\"routes\",\"1\",\"from\",\"to\",\"most\",\"cost\"\n\
+\"row\",\"routes\",\"2\",\"Mill\",\"G \"\"raz\",\"20\",\"1.5\"\n\
+\"row\",\"routes\",\"3\",\"G \"\"raz\",\"Wien\",\"\",\"0.25\"\n";
+
+// The part of a text after so many bytes; nothing if it is shorter.
+fn after(text: &[u8], count: usize) -> &[u8] {
+    if count < text.len() {
+        &text[count..]
+    } else {
+        &[]
+    }
+}
+
+// A text without its last bytes; nothing if it is shorter.
+fn before(text: &[u8], count: usize) -> &[u8] {
+    if count < text.len() {
+        &text[..text.len() - count]
+    } else {
+        &[]
+    }
+}
+
+// Whether a text begins with these rows, then has those, and ends with the last.
+fn is_of(text: &[u8], rows: &[u8], then: &[u8], last: &[u8]) -> bool {
+    let rest = after(text, rows.len());
+    text.starts_with(rows) && rest.starts_with(then) && after(rest, then.len()) == last
+}
+
 // The text of the answer to two texts.
 fn text_for(alloc: Global, places: &[u8], routes: &[u8]) -> Result<PlanText, NoMemory> {
+    text_under(alloc, Some(Mark::Point), places, routes)
+}
+
+// The text of the answer to two texts under this mark.
+fn text_under(
+    alloc: Global,
+    mark: Option<Mark>,
+    places: &[u8],
+    routes: &[u8],
+) -> Result<PlanText, NoMemory> {
     let mut engine = Engine {
         choice: Choice::default(),
     };
     let options = Options {
-        mark: Some(Mark::Point),
+        mark,
         terms: Terms {
             unused: false,
             short: false,
@@ -38,7 +82,22 @@ fn text_for(alloc: Global, places: &[u8], routes: &[u8]) -> Result<PlanText, NoM
 fn a_plan_is_told(rt: HostRuntime) -> Result<(), Fail> {
     let told = text_for(rt.alloc(), PLACES, ROUTES)?;
     assert!(rt; told.kind == TextKind::Plan);
-    assert!(rt; told.text.as_slice() == PLAN);
+    assert!(rt; is_of(&told.text, PLAN, PLACES_AGAIN, ROUTES_AGAIN));
+    Ok(())
+}
+
+#[test]
+fn the_tables_are_told_whole(rt: HostRuntime) -> Result<(), Fail> {
+    let places =
+        b"May;;\n\nname;supply;Region\n Mill ;2,5;North\nTown;-2,5;\"South; \"\"old\"\"\"\n";
+    let routes = b"from;to;most;cost\nMill;Town;3;1\n";
+    let told = text_under(rt.alloc(), None, places, routes)?;
+    let places = b"\"mark\",\",\"\n\"heads\",\"places\",\"3\",\"name\",\"supply\",\"Region\"\n\
+\"row\",\"places\",\"4\",\"Mill\",\"2,5\",\"North\"\n\
+\"row\",\"places\",\"5\",\"Town\",\"-2,5\",\"South; \"\"old\"\"\"\n";
+    let routes = b"\"heads\",\"routes\",\"1\",\"from\",\"to\",\"most\",\"cost\"\n\
+\"row\",\"routes\",\"2\",\"Mill\",\"Town\",\"3\",\"1\"\n";
+    assert!(rt; told.text.ends_with(routes) && before(&told.text, routes.len()).ends_with(places));
     Ok(())
 }
 
@@ -51,8 +110,11 @@ fn a_bottleneck_is_told(rt: HostRuntime) -> Result<(), Fail> {
 \"place\",\"3\",\"G \"\"raz\",\"yes\",\"yes\",\"0\",\"0\",\"\",\"\"\n\
 \"place\",\"4\",\"Wien\",\"yes\",\"yes\",\"0\",\"12.5\",\"\",\"\"\n\
 \"route\",\"2\",\"Mill\",\"G \"\"raz\",\"\",\"12\"\n";
+    let again = b"\"heads\",\"routes\",\"1\",\"from\",\"to\",\"most\",\"cost\"\n\
+\"row\",\"routes\",\"2\",\"Mill\",\"G \"\"raz\",\"12\",\"1.5\"\n\
+\"row\",\"routes\",\"3\",\"G \"\"raz\",\"Wien\",\"\",\"0.25\"\n";
     assert!(rt; told.kind == TextKind::NoPlan);
-    assert!(rt; told.text.as_slice() == want.as_slice());
+    assert!(rt; is_of(&told.text, want, PLACES_AGAIN, again));
     Ok(())
 }
 
@@ -64,6 +126,21 @@ const BOUND_PLACES: &[u8] =
 const BOUND_ROUTES: &[u8] = b"from,to,most,cost,both,least\nMill,Depot,,1,,\nDepot,Town,,1,,\n\
 Town,Mill,0.5,1,yes,\nTown,Port,2,1,,1\nPort,Mill,2,1,,1\n";
 
+const BOUND_PLACES_AGAIN: &[u8] = b"\"mark\",\".\"\n\
+\"heads\",\"places\",\"1\",\"name\",\"supply\",\"least\",\"most\",\"cost\"\n\
+\"row\",\"places\",\"2\",\"Mill\",\"3\",\"\",\"\",\"\"\n\
+\"row\",\"places\",\"3\",\"Depot\",\"\",\"0\",\"2\",\"0\"\n\
+\"row\",\"places\",\"4\",\"Town\",\"-3\",\"\",\"\",\"\"\n\
+\"row\",\"places\",\"5\",\"Port\",\"\",\"\",\"\",\"\"\n";
+
+const BOUND_ROUTES_AGAIN: &[u8] =
+    b"\"heads\",\"routes\",\"1\",\"from\",\"to\",\"most\",\"cost\",\"both\",\"least\"\n\
+\"row\",\"routes\",\"2\",\"Mill\",\"Depot\",\"\",\"1\",\"\",\"\"\n\
+\"row\",\"routes\",\"3\",\"Depot\",\"Town\",\"\",\"1\",\"\",\"\"\n\
+\"row\",\"routes\",\"4\",\"Town\",\"Mill\",\"0.5\",\"1\",\"yes\",\"\"\n\
+\"row\",\"routes\",\"5\",\"Town\",\"Port\",\"2\",\"1\",\"\",\"1\"\n\
+\"row\",\"routes\",\"6\",\"Port\",\"Mill\",\"2\",\"1\",\"\",\"1\"\n";
+
 #[test]
 fn what_counts_in_a_bottleneck_is_told(rt: HostRuntime) -> Result<(), Fail> {
     let told = text_for(rt.alloc(), BOUND_PLACES, BOUND_ROUTES)?;
@@ -74,7 +151,7 @@ fn what_counts_in_a_bottleneck_is_told(rt: HostRuntime) -> Result<(), Fail> {
 \"back\",\"4\",\"Mill\",\"Town\",\"\",\"0.5\"\n\
 \"route\",\"5\",\"Town\",\"Port\",\"1\",\"\"\n";
     assert!(rt; told.kind == TextKind::NoPlan);
-    assert!(rt; told.text.as_slice() == want.as_slice());
+    assert!(rt; is_of(&told.text, want, BOUND_PLACES_AGAIN, BOUND_ROUTES_AGAIN));
     Ok(())
 }
 

@@ -4,12 +4,15 @@
 use Rattle.std.specs.Prelude.{◌≡◌, ℕ, List, [], ◌∷◌, ◌++◌, codes, map, Option}
 use Rattle.mcf_answer_rows.specs.AnswerRows.{answer_row}
 use Rattle.mcf_answer_rows.specs.Lines.{comma}
+use Rattle.mcf_answer_rows.specs.TableRows.{mark_row, repeated_rows}
 use Rattle.mcf_answer_rows.specs.declared.texts.PlanText.{PlanText}
 use Rattle.mcf_answer_rows.specs.declared.texts.TextKind.{TextKind}
 use Rattle.mcf_answer_rows.specs.declared.texts.TextKind.TheVariants as told
+use Rattle.mcf_decimal.specs.declared.mark.Mark.{Mark}
 use Rattle.mcf_flow_tables.specs.TableAnswers.{IsFlowAnswer}
 use Rattle.mcf_flow_tables.specs.declared.answering.ProblemAnswer.{ProblemAnswer}
 use Rattle.mcf_flow_tables.specs.declared.answering.ProblemAnswer.TheVariants.{TooGreat, Improper, Solved}
+use Rattle.mcf_flow_tables.specs.declared.answering.SolvedProblem.{SolvedProblem}
 use Rattle.mcf_flow_tables.specs.declared.answering.TableAnswer.{TableAnswer}
 use Rattle.mcf_flow_tables.specs.declared.answering.TableAnswer.TheVariants.{Faults, Problem}
 use Rattle.mcf_flow_tables.specs.declared.flow_answer.FlowAnswer.{FlowAnswer}
@@ -17,13 +20,10 @@ use Rattle.mcf_flow_tables.specs.declared.flow_answer.FlowAnswer.TheVariants.{No
 use Rattle.mcf_flow_tables.specs.declared.options.Options.{Options}
 use Rattle.mcf_places.specs.declared.answering.PlannerAnswer.{PlannerAnswer}
 use Rattle.mcf_places.specs.declared.answering.PlannerAnswer.TheVariants.{Beyond, Least, NoPlan}
-use Rattle.mcf_places.specs.declared.origins.Origin.{Origin}
-use Rattle.mcf_places.specs.Planners.{Planner}
 use Rattle.mcf_reading.specs.declared.locations.Table.TheVariants.{Places, Routes}
 use Rattle.mcf_table.specs.Written.{table_text}
-use Rattle.mcf_units.specs.declared.scales.Scales.{Scales}
 use Rattle.mcf_plan_text.specs.BottleneckRows.{bottleneck_rows}
-use Rattle.mcf_plan_text.specs.FaultRows.{TwoTables, beyond_row, cell_fault_row, great_row, planner_row, text_rows}
+use Rattle.mcf_plan_text.specs.FaultRows.{TwoTables, beyond_row, cell_fault_row, great_row, planner_row, table_word, text_rows}
 use Rattle.mcf_plan_text.specs.PlanRows.{plan_rows}
 
 -- the row that says that there are faults
@@ -32,17 +32,21 @@ faults_row = answer_row (codes "faults")
 
 -- ---- the rows of an answer
 
--- a least plan, a bottleneck, or the first number beyond the limits
-abbrev pub solved_rows : TwoTables → Planner → Scales → Option Origin → PlannerAnswer → List (List (List ℕ))
-solved_rows two P scales origin (Least plan) = plan_rows two P scales plan
-solved_rows two P scales origin (NoPlan bottleneck) = bottleneck_rows two P scales bottleneck
-solved_rows two P scales origin (Beyond fault) = faults_row ∷ beyond_row two origin fault ∷ []
+-- the end of an answer that isn't of faults: the mark before decimals, and both tables
+abbrev pub closing_rows : TwoTables → Option Mark → List (List (List ℕ))
+closing_rows two mark = mark_row mark ∷ (repeated_rows (table_word Places) two.places ++ repeated_rows (table_word Routes) two.routes)
+
+-- a least plan, or a bottleneck, and then both tables; or the first number beyond the limits
+abbrev pub solved_rows : TwoTables → SolvedProblem → PlannerAnswer → List (List (List ℕ))
+solved_rows two s (Least plan) = plan_rows two s.planner s.scales plan ++ closing_rows two s.mark
+solved_rows two s (NoPlan bottleneck) = bottleneck_rows two s.planner s.scales bottleneck ++ closing_rows two s.mark
+solved_rows two s (Beyond fault) = faults_row ∷ beyond_row two s.origin fault ∷ []
 
 -- the answer to what tables say
 abbrev pub problem_rows : TwoTables → ProblemAnswer → List (List (List ℕ))
 problem_rows two (TooGreat faults) = faults_row ∷ map (great_row two) faults.items
 problem_rows two (Improper faults) = faults_row ∷ map (planner_row two) faults.items
-problem_rows two (Solved s) = solved_rows two s.planner s.scales s.origin s.answer
+problem_rows two (Solved s) = solved_rows two s s.answer
 
 -- the answer to the rows of two tables
 abbrev pub table_rows : TwoTables → TableAnswer → List (List (List ℕ))

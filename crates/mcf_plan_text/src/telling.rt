@@ -2,14 +2,16 @@
 ghost use Rattle.std.specs.Prelude.{◌≡◌, ◌++◌, ◌∷◌, [], IfOk, OnOk};
 ghost use Rattle.mcf_answer_rows.specs.Lines.{rows_text};
 ghost use Rattle.mcf_plan_text.specs.FaultRows.{tables_in};
-ghost use Rattle.mcf_plan_text.specs.PlanTexts.{IsPlanText, answer_kind, answer_rows, problem_kind, problem_rows, solved_kind, solved_rows, table_kind, table_rows};
+ghost use Rattle.mcf_plan_text.specs.PlanTexts.{IsPlanText, answer_kind, answer_rows, closing_rows, problem_kind, problem_rows, solved_kind, solved_rows, table_kind, table_rows};
 
 use crate::bottleneck_rows::{Blocked, put_bottleneck};
 use crate::fault_rows::{
     Two, put_beyond, put_cell_faults, put_greats, put_planner_faults, put_text_fault,
 };
 use crate::plan_rows::put_plan;
-use mcf_answer_rows::{PlanText, TextKind, put_answer};
+use crate::words::table_word;
+use mcf_answer_rows::{PlanText, TextKind, put_answer, put_mark, put_table};
+use mcf_decimal::Mark;
 use mcf_flow_tables::{
     FlowAnswer, Options, ProblemAnswer, SolvedProblem, TableAnswer, Texts, plan_tables,
 };
@@ -30,6 +32,20 @@ fn solved_kind(answer: &PlannerAnswer) -> TextKind
     }
 }
 
+// Appends the mark before decimals, and the rows of both tables.
+fn put_closing(
+    alloc: Global,
+    out: &mut Vec<u8>,
+    two: Two<'_>,
+    mark: Option<Mark>,
+) -> Result<(), NoMemory>
+    ensures { OnOk result (out.new.items ≡ out.old.items ++ rows_text (closing_rows (tables_in two.entry) mark)) }
+{
+    put_mark(out, mark)?;
+    put_table(alloc, out, table_word(Table::Places), two.places)?;
+    put_table(alloc, out, table_word(Table::Routes), two.routes)
+}
+
 // Appends the answer to a problem.
 fn put_solved(
     alloc: Global,
@@ -38,11 +54,12 @@ fn put_solved(
     solved: &SolvedProblem,
 ) -> Result<(), NoMemory>
     ensures { OnOk result (out.new.items ≡ out.old.items
-        ++ rows_text (solved_rows (tables_in two.entry) solved.now.planner solved.now.scales solved.now.origin solved.now.answer)) }
+        ++ rows_text (solved_rows (tables_in two.entry) solved.now solved.now.answer)) }
 {
     match &solved.answer {
         PlannerAnswer::Least(least) => {
-            put_plan(alloc, out, two, &solved.planner, solved.scales, least)
+            put_plan(alloc, out, two, &solved.planner, solved.scales, least)?;
+            put_closing(alloc, out, two, solved.mark)
         }
         PlannerAnswer::NoPlan(bottleneck) => {
             let blocked = Blocked {
@@ -50,7 +67,8 @@ fn put_solved(
                 scales: solved.scales,
                 bottleneck,
             };
-            put_bottleneck(alloc, out, two, blocked)
+            put_bottleneck(alloc, out, two, blocked)?;
+            put_closing(alloc, out, two, solved.mark)
         }
         PlannerAnswer::Beyond(fault) => {
             put_answer(out, b"faults")?;
@@ -154,8 +172,10 @@ fn text_of(alloc: Global, answer: &FlowAnswer) -> Result<PlanText, NoMemory>
 /// `plan`, `no plan` or `faults`. Of a plan, `cost` and `missing` with their number, for each route
 /// `route`, its line, its ends and what it carries, and for each place `place`, its line, its name,
 /// what stays there and what is missing. Of a bottleneck, `side`, and for each of its places
-/// `place`, its line, its name, and whether its entry and its exit are meant. For each fault
-/// `fault`, the table, the line, the column, what is wrong, and the cell.
+/// `place`, its line, its name, and whether its entry and its exit are meant. At the end of both,
+/// `mark` with the mark before decimals, and both tables: `heads` the row of the heads and `row`
+/// each further one, with the table, the line and all cells. For each fault `fault`, the table, the
+/// line, the column, what is wrong, and the cell.
 ///
 /// # Errors
 ///
