@@ -146,6 +146,18 @@ def value_in(text):
     return float(text.replace(",", ".").replace("−", "-"))
 
 
+def repeated(rows):
+    """The tables that an answer repeats, by word, as rows of cells. Their lines count from 1."""
+    tables = {}
+    for word, *cells in rows:
+        if word in ("heads", "row"):
+            table, line, *row = cells
+            tables.setdefault(table, []).append(row)
+            if (word == "heads") != (line == "1") or int(line) != len(tables[table]):
+                raise ValueError(f"a row {word} on line {line}")
+    return tables
+
+
 @unittest.skipUnless(PROGRAM.exists(), "bin/mcfplan isn't built")
 class Planner(WithFolder):
     """Random tables, planned by the program and by the tool."""
@@ -166,8 +178,11 @@ class Planner(WithFolder):
         for case in range(CASES):
             mark, separator = rng.choice([(".", ","), (",", ";"), (".", ";")])
             count = rng.randint(2, 6)
-            places = written(separator, random_places(rng, mark, count))
-            routes = written(separator, random_routes(rng, mark, count))
+            tables = {
+                "places": random_places(rng, mark, count),
+                "routes": random_routes(rng, mark, count),
+            }
+            places, routes = (written(separator, table) for table in tables.values())
             words = random_options(rng)
             with self.subTest(case=case, places=places, routes=routes, words=words):
                 status, said, _ = self.flow(places, routes, "--no-picture", *words)
@@ -177,6 +192,7 @@ class Planner(WithFolder):
                     cost = re.search(r"cost (−?-?[0-9]+(?:[.,][0-9]+)?)", said)[1]
                     told = next(row[1] for row in rows if row[0] == "cost")
                     self.assertEqual(float(told), value_in(cost))
+                self.assertEqual(repeated(rows), {} if status == 2 else tables)
                 statuses.append(status)
         self.assertLess(30, statuses.count(0))
         self.assertLess(10, statuses.count(1))
@@ -187,7 +203,8 @@ class Planner(WithFolder):
         statuses = []
         for case in range(CASES):
             mark, separator = rng.choice([(".", ","), (",", ";"), (".", ";")])
-            costs = written(separator, random_costs(rng, mark))
+            table = random_costs(rng, mark)
+            costs = written(separator, table)
             own_words, words = random_pair_options(rng)
             with self.subTest(case=case, costs=costs, words=words):
                 status, said, _ = self.pairs(costs, *words)
@@ -199,6 +216,7 @@ class Planner(WithFolder):
                     pairs = [float(row[5]) for row in rows if row[0] == "pair"]
                     self.assertEqual(float(told), value_in(cost))
                     self.assertEqual(float(told), sum(pairs))
+                self.assertEqual(repeated(rows), {} if status == 2 else {"costs": table})
                 statuses.append(status)
         self.assertLess(100, statuses.count(0))
         self.assertLess(30, statuses.count(1))

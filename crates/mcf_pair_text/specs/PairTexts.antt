@@ -1,12 +1,14 @@
 -- The answer to a table of persons and things as the text of a table. Each of its rows begins with
 -- a word that says what it is.
 -- Source: own
-use Rattle.std.specs.Prelude.{◌≡◌, ℕ, Bool, List, [], ◌∷◌, codes, map, Result, Ok, Err}
+use Rattle.std.specs.Prelude.{◌≡◌, ℕ, Bool, List, [], ◌∷◌, ◌++◌, codes, map, Option, Result, Ok, Err}
 use Rattle.mcf_answer_rows.specs.AnswerRows.{answer_row}
 use Rattle.mcf_answer_rows.specs.Lines.{comma}
+use Rattle.mcf_answer_rows.specs.TableRows.{mark_row, repeated_rows}
 use Rattle.mcf_answer_rows.specs.declared.texts.PlanText.{PlanText}
 use Rattle.mcf_answer_rows.specs.declared.texts.TextKind.{TextKind}
 use Rattle.mcf_answer_rows.specs.declared.texts.TextKind.TheVariants as told
+use Rattle.mcf_decimal.specs.declared.mark.Mark.{Mark}
 use Rattle.mcf_pair_tables.specs.PairAnswers.{IsPairAnswer}
 use Rattle.mcf_pair_tables.specs.declared.answering.ChoiceAnswer.{ChoiceAnswer}
 use Rattle.mcf_pair_tables.specs.declared.answering.ChoiceAnswer.TheVariants.{Improper, Solved, TooGreat}
@@ -22,7 +24,7 @@ use Rattle.mcf_roster_reading.specs.Reading.{Entries, read_roster}
 use Rattle.mcf_roster_reading.specs.declared.kinds.Fault.{Fault}
 use Rattle.mcf_table.specs.Texts.{Record}
 use Rattle.mcf_table.specs.Written.{table_text}
-use Rattle.mcf_pair_text.specs.PairFaultRows.{beyond_row, cell_fault_row, great_row, improper_row, text_row}
+use Rattle.mcf_pair_text.specs.PairFaultRows.{beyond_row, cell_fault_row, costs_word, great_row, improper_row, text_row}
 use Rattle.mcf_pair_text.specs.PairPlaces.{Sheet, sheet_of}
 use Rattle.mcf_pair_text.specs.PairRows.{choice_rows, competition_rows}
 
@@ -32,10 +34,15 @@ faults_row = answer_row (codes "faults")
 
 -- ---- the rows of an answer
 
--- a least choice, persons and things that compete, or the first number beyond the limits
+-- the end of an answer that isn't of faults: the mark before decimals, and the table
+abbrev pub closing_rows : Sheet → Option Mark → List (List (List ℕ))
+closing_rows s mark = mark_row mark ∷ repeated_rows costs_word s.rows
+
+-- a least choice, or persons and things that compete, and then the table; or the first number
+-- beyond the limits
 abbrev pub roster_rows : Bool → Sheet → Entries → SolvedPairs → RosterAnswer → List (List (List ℕ))
-roster_rows maximise s said solved (Least choice) = choice_rows maximise s said solved.scale choice
-roster_rows maximise s said solved (NoChoice competition) = competition_rows s said competition
+roster_rows maximise s said solved (Least choice) = choice_rows maximise s said solved.scale choice ++ closing_rows s said.mark
+roster_rows maximise s said solved (NoChoice competition) = competition_rows s said competition ++ closing_rows s said.mark
 roster_rows maximise s said solved (Beyond fault) = faults_row ∷ beyond_row s said solved.origin fault ∷ []
 
 -- the answer to what a table says

@@ -3,12 +3,14 @@ ghost use Rattle.std.specs.Prelude.{◌≡◌, ◌++◌, IfOk, OnOk};
 ghost use Rattle.mcf_answer_rows.specs.Lines.{rows_text};
 ghost use Rattle.mcf_roster_reading.specs.Reading.{read_roster};
 ghost use Rattle.mcf_pair_text.specs.PairPlaces.{sheet_in};
-ghost use Rattle.mcf_pair_text.specs.PairTexts.{IsPairText, answer_kind, answer_rows, choice_kind, read_rows, roster_kind, roster_rows, said_rows, table_kind, table_rows};
+ghost use Rattle.mcf_pair_text.specs.PairTexts.{IsPairText, answer_kind, answer_rows, choice_kind, closing_rows, read_rows, roster_kind, roster_rows, said_rows, table_kind, table_rows};
 
 use crate::fault_rows::{put_beyond, put_cell_faults, put_greats, put_improper, put_text_fault};
 use crate::pages::{Page, page_of};
 use crate::rows::{Unit, put_choice, put_competition};
-use mcf_answer_rows::{PlanText, TextKind, put_answer};
+use crate::words::costs_word;
+use mcf_answer_rows::{PlanText, TextKind, put_answer, put_mark, put_table};
+use mcf_decimal::Mark;
 use mcf_model::Solves;
 use mcf_pair_tables::{ChoiceAnswer, Options, PairAnswer, SolvedPairs, TableAnswer, plan_pairs};
 use mcf_roster::RosterAnswer;
@@ -26,6 +28,19 @@ fn roster_kind(answer: &RosterAnswer) -> TextKind
         RosterAnswer::NoChoice(_) => TextKind::NoPlan,
         RosterAnswer::Beyond(_) => TextKind::Faults,
     }
+}
+
+// Appends the mark before decimals, and the rows of the table.
+fn put_closing(
+    alloc: Global,
+    out: &mut Vec<u8>,
+    page: Page<'_>,
+    mark: Option<Mark>,
+) -> Result<(), NoMemory>
+    ensures { OnOk result (out.new.items ≡ out.old.items ++ rows_text (closing_rows (sheet_in page.entry) mark)) }
+{
+    put_mark(out, mark)?;
+    put_table(alloc, out, costs_word(), page.records)
 }
 
 // Appends the answer for a roster.
@@ -46,9 +61,13 @@ fn put_roster(
                 maximise,
                 scale: solved.scale,
             };
-            put_choice(alloc, out, page, table, unit, choice)
+            put_choice(alloc, out, page, table, unit, choice)?;
+            put_closing(alloc, out, page, table.mark())
         }
-        RosterAnswer::NoChoice(found) => put_competition(alloc, out, page, table, found),
+        RosterAnswer::NoChoice(found) => {
+            put_competition(alloc, out, page, table, found)?;
+            put_closing(alloc, out, page, table.mark())
+        }
         RosterAnswer::Beyond(fault) => {
             put_answer(out, b"faults")?;
             put_beyond(alloc, out, page, table, solved.origin, fault)
@@ -168,8 +187,10 @@ fn text_of(alloc: Global, options: Options, answer: &PairAnswer) -> Result<PlanT
 /// kind, which is `plan`, `no plan` or `faults`. Of a choice, `cost` with what it costs, or what it
 /// is worth, and for each chosen pair `pair`, its line, the number of its column in a matrix, the
 /// person, the thing and what it costs. Of persons and things that compete, `side`, for each person
-/// `person`, the line and the name, and for each thing `thing`, the line and the name. For each
-/// fault `fault`, `costs`, the line, the column, what is wrong, and the cell.
+/// `person`, the line and the name, and for each thing `thing`, the line and the name. At the end
+/// of both, `mark` with the mark before decimals, and the table: `heads` the row of the heads and
+/// `row` each further one, with `costs`, the line and all cells. For each fault `fault`, `costs`,
+/// the line, the column, what is wrong, and the cell.
 ///
 /// # Errors
 ///
