@@ -9,3 +9,4 @@ mod ProperModels
 mod RowSteps
 mod OriginLists
 mod ToldAnswers
+mod ToldSums

@@ -15,9 +15,11 @@ use Rattle.mcf_model.specs.declared.planning.Planned.{Planned}
 use Rattle.mcf_model.specs.Bottlenecks.{IsBottleneck}
 use Rattle.mcf_model.specs.Model.{Model}
 use Rattle.mcf_model.specs.Planning.{HasNoPlan, IsBestPlan, IsPlanned}
+use Rattle.mcf_roster.specs.declared.amounts.Amounts.{Amounts}
 use Rattle.mcf_roster.specs.declared.answering.LeastChoice.{LeastChoice}
 use Rattle.mcf_roster.specs.declared.pairs.Pair.{Pair}
 use Rattle.mcf_roster.specs.declared.told.Competition.{Competition}
+use Rattle.mcf_roster.specs.Amounts.{AreAmounts}
 use Rattle.mcf_roster.specs.Competitions.{IsCompetition}
 use Rattle.mcf_roster.specs.Models.{choice_of, hub_of, model_of, plan_of}
 use Rattle.mcf_roster.specs.RosterAnswers.{HasNoChoice, IsBestChoice, IsToldCompetition}
@@ -33,13 +35,20 @@ use Rattle.mcf_model.proofs.FaultTests.{all_of}
 pub planned_of : (m n : Model) (a b : Planned) → m ≡ n → a ≡ b → IsPlanned m a → IsPlanned n b
 planned_of m n a b e f h = subst (λ k. IsPlanned k b) e (subst (IsPlanned m) f h)
 
+-- the numbers for the same sets
+pub amounts_for : (R : Roster) (persons things marks others : List Bool) (side : Side) (a : Amounts) → marks ≡ persons → others ≡ things
+    → AreAmounts R (in_table marks) (in_table others) side a → AreAmounts R (in_table persons) (in_table things) side a
+amounts_for R persons things marks others side a e f are =
+    subst (λ xs. AreAmounts R (in_table persons) (in_table xs) side a) f (subst (λ xs. AreAmounts R (in_table xs) (in_table others) side a) e are)
+
 -- ---- what the table says
 
 module _ (R : Roster) (found : Bottleneck) (made : Competition) (table : List Bool) (turned : Bool)
     (marks : (v : ℕ) → IsNode (hub_of R) v → in_table table v ≡ in_list found.places.items v)
     (turned_is : turned ≡ in_table table (hub_of R))
     (persons_are : made.persons.items ≡ tests_told turned table 0 (length R.takes))
-    (things_are : made.things.items ≡ tests_told turned table (length R.takes) (length R.needs)) (side_is : made.side ≡ side_told turned found.side) where
+    (things_are : made.things.items ≡ tests_told turned table (length R.takes) (length R.needs)) (side_is : made.side ≡ side_told turned found.side)
+    (amounts_are : AreAmounts R (in_table made.persons.items) (in_table made.things.items) made.side made.amounts) where
   hub_told : turned ≡ in_list found.places.items (hub_of R)
   hub_told = turned_is ∙ marks (hub_of R) (omega arith, omega arith)
 
@@ -64,6 +73,7 @@ module _ (R : Roster) (found : Bottleneck) (made : Competition) (table : List Bo
         things = λ v k.
             place_told made.things.items (length R.takes) (length R.needs) (length R.takes + v) things_are v k refl (omega (arith, k), omega (arith, k));
         side = side_is ∙ ap (λ t. side_told t found.side) hub_told;
+        are_amounts = amounts_are;
       }
 
 -- ---- what it means
@@ -106,6 +116,7 @@ no_choice R b made sound h told =
       one_by_person = told.one_by_person;
       one_by_thing = told.one_by_thing;
       is_competition = told_competition R b made sound h.is_bottleneck told;
+      are_amounts = told.are_amounts;
       none = λ chosen is. h.none (plan_of R chosen) (choice_is_plan R chosen sound is).is_plan;
     }
 

@@ -11,8 +11,10 @@ pub mod Rosters
 pub mod Models
 pub mod RosterFaults
 pub mod Competitions
+pub mod Amounts
 pub mod RosterLaws
 pub mod RosterAnswers
+pub mod ToldSums
 pub mod Origins
 pub mod TableRows
 pub mod ToldTests

@@ -1,4 +1,5 @@
 //! Laws about rosters. Each is the contract of a function with an empty body.
+ghost use Rattle.mcf_roster.specs.ToldSums.{CompetitionsAddToMore};
 ghost use Rattle.mcf_roster.specs.RosterLaws.{CompetitionsHaveNoChoice, LeastPlansAreLeastChoices, RostersAreModels};
 
 use mcf_model::bottlenecks_have_no_plan;
@@ -20,3 +21,10 @@ pub fn competitions_have_no_choice()
 {
     bottlenecks_have_no_plan();
 }
+
+/// Where persons must take more than there is, the numbers that are told of them add up to more
+/// than those of the things and the number of the pairs that count one more; and so it is for
+/// things that must give more.
+pub fn competitions_add_to_more()
+    ensures { CompetitionsAddToMore }
+{}

@@ -7,6 +7,7 @@ ghost use Rattle.mcf_roster.specs.Models.{hub_of};
 ghost use Rattle.mcf_roster.specs.RosterAnswers.{IsToldCompetition};
 ghost use Rattle.mcf_roster.specs.ToldTests.{tests_told};
 
+use crate::amounts::{Amounts, Contest, amounts_of};
 use crate::rosters::Roster;
 use crate::rows::hub_of;
 use mcf_flows::{Side, table_of};
@@ -25,6 +26,8 @@ pub struct Competition {
     /// For each thing, in order, whether it is one of them.
     pub things: Vec<bool>,
     pub side: Side,
+    /// Their numbers, and the pairs that count one more.
+    pub amounts: Amounts,
 }
 
 // Returns whether a table marks a place.
@@ -71,9 +74,17 @@ pub(crate) fn told(
     let turned = is_marked(&table, hub);
     let persons = tests_told(alloc, turned, &table, 0, takes.len())?;
     let things = tests_told(alloc, turned, &table, takes.len(), needs.len())?;
+    let side = side_told(turned, found.side);
+    let contest = Contest {
+        persons: &persons,
+        things: &things,
+        side,
+    };
+    let amounts = amounts_of(alloc, roster, contest)?;
     Ok(Competition {
         persons,
         things,
-        side: side_told(turned, found.side),
+        side,
+        amounts,
     })
 }
