@@ -170,7 +170,7 @@ if [ -x bin/mcfplan ]; then
     plans_to bad-tables 2 '"answer","faults"'
     [ "$(bin/mcfplan --version | head -n 1)" = 'mcfplan 1.0.0' ] || report 'mcfplan --version: another version'
     pairs_to roster 0 '"answer","plan"' '"cost","6"' '"pair","5","7","Maier, Hans","Früh Mi","1"'
-    pairs_to roster-blocked 1 '"answer","no plan"' '"side","send"' '"person","2","Anna Berger"'
+    pairs_to roster-blocked 1 '"answer","no plan"' '"side","send"' '"person","2","Anna Berger","1"'
     pairs_to rota 0 '"answer","plan"' '"cost","13"'
     tells 'mcfplan: name a table, COSTS' bin/mcfplan pairs
     tells 'mcfplan: cannot read the table of costs' bin/mcfplan pairs none.csv

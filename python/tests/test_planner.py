@@ -141,6 +141,14 @@ def random_pair_options(rng):
     return own, words
 
 
+def competes(rows):
+    """Whether the numbers of those who compete add up to more than there is."""
+    side = next(row[1] for row in rows if row[0] == "side")
+    asks, gives = ("person", "thing") if side == "send" else ("thing", "person")
+    asked, given = (sum(int(row[3]) for row in rows if row[0] == kind) for kind in (asks, gives))
+    return asked > given + sum(row[0] == "pair" for row in rows)
+
+
 def value_in(text):
     """A number that is told."""
     return float(text.replace(",", ".").replace("−", "-"))
@@ -217,6 +225,8 @@ class Planner(WithFolder):
                     self.assertEqual(float(told), value_in(cost))
                     self.assertEqual(float(told), sum(pairs))
                 self.assertEqual(repeated(rows), {} if status == 2 else {"costs": table})
+                if status == 1:
+                    self.assertTrue(competes(rows))
                 statuses.append(status)
         self.assertLess(100, statuses.count(0))
         self.assertLess(30, statuses.count(1))

@@ -1,2 +1,3 @@
 pub mod ChoiceTexts
 pub mod MemberTexts
+pub mod ListTexts

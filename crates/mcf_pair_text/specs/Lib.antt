@@ -4,6 +4,7 @@ pub use Rattle.mcf_answer_rows.specs.Lines
 pub use Rattle.mcf_answer_rows.specs.TableRows
 pub use Rattle.mcf_pair_tables.specs.PairAnswers
 pub use Rattle.mcf_table.specs.Written
+pub mod MemberRows
 pub mod PairFaultRows
 pub mod PairPlaces
 pub mod PairRows

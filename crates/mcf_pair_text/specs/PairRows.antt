@@ -6,13 +6,12 @@ use Rattle.mcf_answer_rows.specs.AnswerRows.{answer_row, line_at, number_row}
 use Rattle.mcf_decimal.specs.Written.{decimal_text}
 use Rattle.mcf_flows.specs.declared.problem.Side.{Side}
 use Rattle.mcf_flows.specs.declared.problem.Side.TheVariants.{Send, Take}
-use Rattle.mcf_names.specs.Names.{name_at}
 use Rattle.mcf_roster.specs.declared.answering.LeastChoice.{LeastChoice}
 use Rattle.mcf_roster.specs.declared.told.Competition.{Competition}
 use Rattle.mcf_roster_reading.specs.Reading.{Entries}
 use Rattle.mcf_roster_reading.specs.declared.pairs.PairEntry.{PairEntry}
-use Rattle.mcf_table.specs.Texts.{Record}
-use Rattle.mcf_pair_text.specs.PairPlaces.{Sheet, line_in, names_under, numbered, pair_column, person_column, thing_column}
+use Rattle.mcf_pair_text.specs.MemberRows.{member_lists, named_lists}
+use Rattle.mcf_pair_text.specs.PairPlaces.{Sheet, numbered, pair_column}
 
 -- ---- choices
 
@@ -32,6 +31,15 @@ told_pair s said (Some p) = pair_row s said p ∷ []
 abbrev pub chosen_rows : Sheet → Entries → List Bool → ℕ → List (List (List ℕ))
 chosen_rows s said chosen place = if slice_index_or chosen place false then told_pair s said (slice_get said.pairs place) else []
 
+-- the pairs that are marked
+abbrev pub all_chosen : Sheet → Entries → List Bool → List (List (List ℕ))
+all_chosen s said chosen = flat_map (chosen_rows s said chosen) (range_with_len 0 (length chosen))
+
+-- how many persons and things the table names
+abbrev pub count_rows : Entries → List (List (List ℕ))
+count_rows said =
+    number_row (codes "persons") (decimal (length said.persons)) ∷ number_row (codes "things") (decimal (length said.things)) ∷ []
+
 -- a number with its sign turned; 0 if that has more than 128 bits, which no sum of costs has
 abbrev pub opposite : ℤ → ℤ
 opposite z = if int_le z (neg_ℤ (pos (2 ^ 127))) then pos 0 else neg_ℤ z
@@ -40,11 +48,16 @@ opposite z = if int_le z (neg_ℤ (pos (2 ^ 127))) then pos 0 else neg_ℤ z
 abbrev pub total : Bool → ℤ → ℤ
 total maximise cost = if maximise then opposite cost else cost
 
--- a least choice: its cost in the unit of the table, and its pairs
+-- what kind of answer a choice is, what it costs, in the unit of the table, and how many persons
+-- and things there are
+abbrev pub choice_heading : Bool → Entries → ℕ → ℤ → List (List (List ℕ))
+choice_heading maximise said scale cost =
+    answer_row (codes "plan") ∷ number_row (codes "cost") (decimal_text (total maximise cost) scale) ∷ count_rows said
+
+-- a least choice: its heading, its pairs, and all persons and things
 abbrev pub choice_rows : Bool → Sheet → Entries → ℕ → LeastChoice → List (List (List ℕ))
 choice_rows maximise s said scale c =
-    answer_row (codes "plan") ∷ number_row (codes "cost") (decimal_text (total maximise c.value) scale)
-    ∷ flat_map (chosen_rows s said c.chosen.items) (range_with_len 0 (length c.chosen.items))
+    choice_heading maximise said scale c.value ++ (all_chosen s said c.chosen.items ++ named_lists s said)
 
 -- ---- persons and things that compete
 
@@ -53,28 +66,13 @@ abbrev pub side_word : Side → List ℕ
 side_word Send = codes "send"
 side_word Take = codes "take"
 
--- one of those that compete: `person` or `thing`, the line on which it is named first, if these are
--- the names of the rows, and its name
-abbrev pub member_row : List ℕ → List Record → List (List ℕ) → List ℕ → List (List ℕ)
-member_row word records under name = word ∷ line_in records under name ∷ name ∷ []
+-- what kind of answer a competition is, its side, and how many persons and things there are
+abbrev pub competition_heading : Entries → Side → List (List (List ℕ))
+competition_heading said side =
+    answer_row (codes "no plan") ∷ number_row (codes "side") (side_word side) ∷ count_rows said
 
--- the one at a place, if it competes
-abbrev pub member_rows : List ℕ → List Record → List (List ℕ) → List (List ℕ) → List Bool → ℕ → List (List (List ℕ))
-member_rows word records under names tests place =
-    if slice_index_or tests place false then member_row word records under (name_at names place) ∷ [] else []
-
--- those of a side that compete, which a column names
-abbrev pub members : List ℕ → List Record → Option ℕ → List (List ℕ) → List Bool → List (List (List ℕ))
-members word records column names tests =
-    flat_map (member_rows word records (names_under records column) names tests) (range_with_len 0 (length tests))
-
--- the persons that compete, and the things
-abbrev pub member_lists : Sheet → Entries → Competition → List (List (List ℕ))
-member_lists s said c =
-    members (codes "person") s.rows (person_column s) said.persons c.persons.items
-    ++ members (codes "thing") s.rows (thing_column s) said.things c.things.items
-
--- persons and things that compete
+-- persons and things that compete: their heading, they themselves, and the pairs that count one
+-- more
 abbrev pub competition_rows : Sheet → Entries → Competition → List (List (List ℕ))
 competition_rows s said c =
-    answer_row (codes "no plan") ∷ number_row (codes "side") (side_word c.side) ∷ member_lists s said c
+    competition_heading said c.side ++ (member_lists s said c ++ all_chosen s said c.amounts.pairs.items)

@@ -5,10 +5,11 @@
 //!
 //! It builds on `mcf_pair_tables`, which has the answer, and on `mcf_answer_rows`, which writes
 //! rows. The definitions are in `specs/`: `PairPlaces` says where the parts of a table stand,
-//! `PairFaultRows` how faults are told, `PairRows` how choices and competitions are, and
-//! `PairTexts` the whole text.
+//! `PairFaultRows` how faults are told, `MemberRows` how persons and things are, `PairRows` how
+//! choices and competitions are, and `PairTexts` the whole text.
 
 mod fault_rows;
+mod members;
 mod pages;
 mod rows;
 mod telling;

@@ -1,21 +1,17 @@
 //! Choices, and persons and things that compete, as rows of a table.
-ghost use Rattle.std.specs.Prelude.{◌≡◌, ◌++◌, OnOk, codes, false, length, option_map, slice_index_or};
-ghost use Rattle.std.specs.List.{flat_map, range_with_len};
+ghost use Rattle.std.specs.Prelude.{◌≡◌, ◌++◌, OnOk, codes, option_map};
 ghost use Rattle.mcf_answer_rows.specs.AnswerRows.{answer_row, number_row};
 ghost use Rattle.mcf_answer_rows.specs.Lines.{row_line, rows_text};
 ghost use Rattle.mcf_decimal.specs.Written.{decimal_text};
 ghost use Rattle.mcf_pair_text.specs.PairPlaces.{sheet_in};
-ghost use Rattle.mcf_pair_text.specs.PairRows.{choice_rows, chosen_rows, competition_rows, member_lists, member_row, member_rows, members, opposite, pair_row, side_word, told_pair, total};
+ghost use Rattle.mcf_pair_text.specs.PairRows.{all_chosen, choice_heading, choice_rows, chosen_rows, competition_heading, competition_rows, count_rows, opposite, pair_row, side_word, told_pair, total};
 
-use crate::pages::{
-    Page, line_in, name_at, names_under, numbered, pair_column, person_column, thing_column,
-};
-use mcf_answer_rows::{decimal_cell, line_cell, put_answer, put_line, put_number_row};
+use crate::members::{put_member_lists, put_named_lists, test_at};
+use crate::pages::{Page, numbered, pair_column};
+use mcf_answer_rows::{decimal_cell, line_cell, number_cell, put_answer, put_line, put_number_row};
 use mcf_flows::Side;
-use mcf_names::Names;
 use mcf_roster::{Competition, LeastChoice};
 use mcf_roster_reading::{PairEntry, RosterTable};
-use mcf_table::Records;
 use mcf_text::NoMemory;
 use std::alloc::Global;
 
@@ -54,16 +50,6 @@ fn put_told_pair(
     }
 }
 
-// A test of a list; no beyond its end.
-fn test_at(tests: &[bool], place: usize) -> bool
-    ensures { result ≡ slice_index_or tests.now place false }
-{
-    match tests.get(place) {
-        Some(test) => *test,
-        None => false,
-    }
-}
-
 // Appends the pair at a place, if it is chosen.
 fn put_chosen(
     alloc: Global,
@@ -82,7 +68,7 @@ fn put_chosen(
     put_told_pair(alloc, out, page, table, table.pairs().get(place))
 }
 
-// Appends the pairs that are chosen.
+// Appends the pairs that are marked.
 fn put_all_chosen(
     alloc: Global,
     out: &mut Vec<u8>,
@@ -91,7 +77,7 @@ fn put_all_chosen(
     chosen: &[bool],
 ) -> Result<(), NoMemory>
     ensures { OnOk result (out.new.items ≡ out.old.items
-        ++ rows_text (flat_map (chosen_rows (sheet_in page.entry) table.now chosen.now) (range_with_len 0 (length chosen.now)))) }
+        ++ rows_text (all_chosen (sheet_in page.entry) table.now chosen.now)) }
 {
     for place in 0..chosen.len() {
         put_chosen(alloc, out, page, table, chosen, place)?;
@@ -127,11 +113,36 @@ fn put_total(alloc: Global, out: &mut Vec<u8>, cost: i128, scale: u32) -> Result
     put_number_row(out, b"cost", &cost)
 }
 
+// Appends how many persons and things there are.
+fn put_counts(alloc: Global, out: &mut Vec<u8>, table: &RosterTable<'_>) -> Result<(), NoMemory>
+    ensures { OnOk result (out.new.items ≡ out.old.items ++ rows_text (count_rows table.now)) }
+{
+    let persons = number_cell(alloc, table.persons().len())?;
+    put_number_row(out, b"persons", &persons)?;
+    let things = number_cell(alloc, table.things().len())?;
+    put_number_row(out, b"things", &things)
+}
+
 // The unit of costs, and whether they are values.
 #[derive(Clone, Copy)]
 pub(crate) struct Unit {
     pub(crate) maximise: bool,
     pub(crate) scale: u32,
+}
+
+// Appends the heading of a choice.
+fn put_choice_heading(
+    alloc: Global,
+    out: &mut Vec<u8>,
+    table: &RosterTable<'_>,
+    unit: Unit,
+    cost: i128,
+) -> Result<(), NoMemory>
+    ensures { OnOk result (out.new.items ≡ out.old.items
+        ++ rows_text (choice_heading unit.maximise table.now unit.scale cost)) }
+{
+    put_total(alloc, out, total(unit.maximise, cost), unit.scale)?;
+    put_counts(alloc, out, table)
 }
 
 // Appends a least choice.
@@ -146,8 +157,9 @@ pub(crate) fn put_choice(
     ensures { OnOk result (out.new.items ≡ out.old.items
         ++ rows_text (choice_rows unit.maximise (sheet_in page.entry) table.now unit.scale choice.now)) }
 {
-    put_total(alloc, out, total(unit.maximise, choice.value), unit.scale)?;
-    put_all_chosen(alloc, out, page, table, &choice.chosen)
+    put_choice_heading(alloc, out, table, unit, choice.value)?;
+    put_all_chosen(alloc, out, page, table, &choice.chosen)?;
+    put_named_lists(alloc, out, page, table)
 }
 
 // The word of a side.
@@ -160,101 +172,18 @@ fn side_word(side: Side) -> &'static [u8]
     }
 }
 
-// The word for one of a side, and the rows of the table.
-#[derive(Clone, Copy)]
-struct Kind<'p> {
-    word: &'p [u8],
-    records: &'p Records,
-}
-
-// Appends one of those that compete.
-fn put_member(
+// Appends the heading of a competition.
+fn put_competition_heading(
     alloc: Global,
     out: &mut Vec<u8>,
-    kind: Kind<'_>,
-    under: &Names<'_>,
-    name: &[u8],
-) -> Result<(), NoMemory>
-    ensures { OnOk result (out.new.items ≡ out.old.items
-        ++ row_line (member_row kind.entry.word.now kind.entry.records.now under.now name.now)) }
-{
-    let line = line_in(alloc, kind.records, under, name)?;
-    put_line(out, &[kind.word, &line, name])
-}
-
-// Appends those that compete.
-fn put_members(
-    alloc: Global,
-    out: &mut Vec<u8>,
-    kind: Kind<'_>,
-    under: &Names<'_>,
-    names: &Names<'_>,
-    tests: &[bool],
-) -> Result<(), NoMemory>
-    ensures { OnOk result (out.new.items ≡ out.old.items
-        ++ rows_text (flat_map (member_rows kind.entry.word.now kind.entry.records.now under.now names.now tests.now)
-        (range_with_len 0 (length tests.now)))) }
-{
-    for place in 0..tests.len() {
-        if !test_at(tests, place) {
-            continue;
-        }
-        put_member(alloc, out, kind, under, name_at(names, place))?;
-    }
-    Ok(())
-}
-
-// Appends those of a side that compete.
-fn put_side(
-    alloc: Global,
-    out: &mut Vec<u8>,
-    kind: Kind<'_>,
-    column: Option<usize>,
-    names: &Names<'_>,
-    tests: &[bool],
-) -> Result<(), NoMemory>
-    ensures { OnOk result (out.new.items ≡ out.old.items
-        ++ rows_text (members kind.entry.word.now kind.entry.records.now column names.now tests.now)) }
-{
-    let under = names_under(alloc, kind.records, column)?;
-    put_members(alloc, out, kind, &under, names, tests)
-}
-
-// Appends the persons and the things that compete.
-fn put_both(
-    alloc: Global,
-    out: &mut Vec<u8>,
-    page: Page<'_>,
     table: &RosterTable<'_>,
-    found: &Competition,
+    side: Side,
 ) -> Result<(), NoMemory>
-    ensures { OnOk result (out.new.items ≡ out.old.items
-        ++ rows_text (member_lists (sheet_in page.entry) table.now found.now)) }
+    ensures { OnOk result (out.new.items ≡ out.old.items ++ rows_text (competition_heading table.now side)) }
 {
-    let person = Kind {
-        word: b"person",
-        records: page.records,
-    };
-    let thing = Kind {
-        word: b"thing",
-        records: page.records,
-    };
-    put_side(
-        alloc,
-        out,
-        person,
-        person_column(page),
-        table.persons(),
-        &found.persons,
-    )?;
-    put_side(
-        alloc,
-        out,
-        thing,
-        thing_column(page),
-        table.things(),
-        &found.things,
-    )
+    put_answer(out, b"no plan")?;
+    put_number_row(out, b"side", side_word(side))?;
+    put_counts(alloc, out, table)
 }
 
 // Appends persons and things that compete.
@@ -267,7 +196,7 @@ pub(crate) fn put_competition(
 ) -> Result<(), NoMemory>
     ensures { OnOk result (out.new.items ≡ out.old.items ++ rows_text (competition_rows (sheet_in page.entry) table.now found.now)) }
 {
-    put_answer(out, b"no plan")?;
-    put_number_row(out, b"side", side_word(found.side))?;
-    put_both(alloc, out, page, table, found)
+    put_competition_heading(alloc, out, table, found.side)?;
+    put_member_lists(alloc, out, page, table, found)?;
+    put_all_chosen(alloc, out, page, table, &found.amounts.pairs)
 }

@@ -24,41 +24,55 @@ const VALUES: Options = Options {
 // A table, what is asked, the kind of the answer, and its text.
 type TextRow = (&'static [u8], Options, TextKind, &'static [u8]);
 
-static ROWS: [TextRow; 8] = [
+static ROWS: [TextRow; 9] = [
     (
         b",X,Y\nA,1,5\n\nB,1,\n",
         PLAIN,
         TextKind::Plan,
-        b"\"answer\",\"plan\"\n\"cost\",\"6\"\n\
-\"pair\",\"2\",\"3\",\"A\",\"Y\",\"5\"\n\"pair\",\"4\",\"2\",\"B\",\"X\",\"1\"\n",
+        b"\"answer\",\"plan\"\n\"cost\",\"6\"\n\"persons\",\"2\"\n\"things\",\"2\"\n\
+\"pair\",\"2\",\"3\",\"A\",\"Y\",\"5\"\n\"pair\",\"4\",\"2\",\"B\",\"X\",\"1\"\n\
+\"person\",\"2\",\"A\"\n\"person\",\"4\",\"B\"\n\
+\"thing\",\"1\",\"X\"\n\"thing\",\"1\",\"Y\"\n",
     ),
     (
         b"who;what;cost\nA;\"X \"\"1\"\"\";0,50\nB;Y;2\n",
         PLAIN,
         TextKind::Plan,
-        b"\"answer\",\"plan\"\n\"cost\",\"2.5\"\n\
-\"pair\",\"2\",\"\",\"A\",\"X \"\"1\"\"\",\"0.5\"\n\"pair\",\"3\",\"\",\"B\",\"Y\",\"2\"\n",
+        b"\"answer\",\"plan\"\n\"cost\",\"2.5\"\n\"persons\",\"2\"\n\"things\",\"2\"\n\
+\"pair\",\"2\",\"\",\"A\",\"X \"\"1\"\"\",\"0.5\"\n\"pair\",\"3\",\"\",\"B\",\"Y\",\"2\"\n\
+\"person\",\"2\",\"A\"\n\"person\",\"3\",\"B\"\n\
+\"thing\",\"2\",\"X \"\"1\"\"\"\n\"thing\",\"3\",\"Y\"\n",
     ),
     (
         b",X,Y\nA,1,2.5\nB,3,3.5\n",
         VALUES,
         TextKind::Plan,
-        b"\"answer\",\"plan\"\n\"cost\",\"5.5\"\n\
-\"pair\",\"2\",\"3\",\"A\",\"Y\",\"2.5\"\n\"pair\",\"3\",\"2\",\"B\",\"X\",\"3\"\n",
+        b"\"answer\",\"plan\"\n\"cost\",\"5.5\"\n\"persons\",\"2\"\n\"things\",\"2\"\n\
+\"pair\",\"2\",\"3\",\"A\",\"Y\",\"2.5\"\n\"pair\",\"3\",\"2\",\"B\",\"X\",\"3\"\n\
+\"person\",\"2\",\"A\"\n\"person\",\"3\",\"B\"\n\
+\"thing\",\"1\",\"X\"\n\"thing\",\"1\",\"Y\"\n",
     ),
     (
         b"who,what,cost\nA,X,1\nB,X,1\n",
         PLAIN,
         TextKind::NoPlan,
-        b"\"answer\",\"no plan\"\n\"side\",\"send\"\n\
-\"person\",\"2\",\"A\"\n\"person\",\"3\",\"B\"\n\"thing\",\"2\",\"X\"\n",
+        b"\"answer\",\"no plan\"\n\"side\",\"send\"\n\"persons\",\"2\"\n\"things\",\"1\"\n\
+\"person\",\"2\",\"A\",\"1\"\n\"person\",\"3\",\"B\",\"1\"\n\"thing\",\"2\",\"X\",\"1\"\n",
     ),
     (
         b",X\nA,1\nB,1\n",
         PLAIN,
         TextKind::NoPlan,
-        b"\"answer\",\"no plan\"\n\"side\",\"send\"\n\
-\"person\",\"2\",\"A\"\n\"person\",\"3\",\"B\"\n\"thing\",\"1\",\"X\"\n",
+        b"\"answer\",\"no plan\"\n\"side\",\"send\"\n\"persons\",\"2\"\n\"things\",\"1\"\n\
+\"person\",\"2\",\"A\",\"1\"\n\"person\",\"3\",\"B\",\"1\"\n\"thing\",\"1\",\"X\",\"1\"\n",
+    ),
+    (
+        b",X,Y,takes\nA,1,2.5,0..9\nB,3,4,0..1\nneeds,2,2,\n",
+        PLAIN,
+        TextKind::NoPlan,
+        b"\"answer\",\"no plan\"\n\"side\",\"take\"\n\"persons\",\"2\"\n\"things\",\"2\"\n\
+\"person\",\"3\",\"B\",\"1\"\n\"thing\",\"1\",\"X\",\"2\"\n\"thing\",\"1\",\"Y\",\"2\"\n\
+\"pair\",\"2\",\"2\",\"A\",\"X\",\"1\"\n\"pair\",\"2\",\"3\",\"A\",\"Y\",\"2.5\"\n",
     ),
     (
         b"Who,what,cost\nA,,y\nB,X,1,7\n",
