@@ -139,6 +139,30 @@ uint32_t mcf_plan_flow(const uint8_t *places, size_t places_length, const uint8_
                        size_t routes_length, const struct mcf_plan_options *options,
                        uint8_t *buffer, size_t buffer_length, size_t *used);
 
+/* How a table of persons and things is read, and which choice is the best. All zeros are the
+   defaults. */
+struct mcf_pair_options {
+    uint32_t decimal;  /* the mark before decimals: MCF_SHOWN_MARK to MCF_COMMA */
+    uint32_t each;     /* who gets just one, where no cell says how many: MCF_EACH_AUTO to
+                          MCF_EACH_BOTH */
+    uint32_t maximise; /* 1: costs are values, and a choice is worth as much as possible; 0: it
+                          costs as little as possible */
+};
+
+/* Each thing, if a cell says how many a person or a thing has, and otherwise each person; each
+   person; each thing; or both. */
+enum mcf_each { MCF_EACH_AUTO = 0, MCF_EACH_WHO = 1, MCF_EACH_WHAT = 2, MCF_EACH_BOTH = 3 };
+
+/* Pairs persons with things by a table, which `man mcfplan` describes, and writes the answer as
+   another table to the beginning of the buffer. The table is in UTF-8. Returns MCF_FLOW: a best
+   choice, which none undercuts; MCF_BLOCKED: there is none, and the answer says who competes for
+   what; MCF_INVALID_INPUT: all faults of the table; or MCF_NO_MEMORY to MCF_INVALID_CHOICE. `used`
+   becomes the length of the answer, also for MCF_BUFFER_TOO_SMALL, or 0 if there is no answer. From
+   status 3 on, the buffer is unchanged. */
+uint32_t mcf_plan_pairs(const uint8_t *costs, size_t costs_length,
+                        const struct mcf_pair_options *options, uint8_t *buffer,
+                        size_t buffer_length, size_t *used);
+
 /* An arc: its tail and head, from 1, its lower bound, its capacity, and the cost of a unit. */
 struct mcf_arc {
     uint32_t src, dst;

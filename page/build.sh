@@ -1,6 +1,6 @@
 #!/bin/bash
 # This script builds bin/mcf.wasm, the module of the page, from the proved crate mcf_c. Of the
-# crate's exports it keeps mcf_solve, mcf_check and mcf_plan_flow.
+# crate's exports it keeps mcf_solve, mcf_check, mcf_plan_flow and mcf_plan_pairs.
 #
 # scripts/module.sh gives the LLVM module of the crate and of all crates below it. This script
 # compiles it for wasm64 with the kit's clang. Binaryen then lowers addresses to 32 bits, so that
@@ -36,7 +36,7 @@ wasm=(--target=wasm64-unknown-unknown -mcpu=lime1 -mllvm -expand-div-rem-bits=64
 "$clang" "${wasm[@]}" -O3 -c -x ir "$scratch/module.ll" -o "$scratch/module.o"
 "$clang" "${wasm[@]}" -O2 -ffreestanding -nostdinc -c page/heap.c -o "$scratch/heap.o"
 (exec -a wasm-ld "$clang" -flavor wasm -mwasm64 --no-entry --stack-first -z stack-size=1048576 --gc-sections --fatal-warnings --max-memory=4227858432 --strip-all \
-    --export=mcf_solve --export=mcf_check --export=mcf_plan_flow --export=page_alloc --export=page_peak -o "$scratch/mcf64.wasm" \
+    --export=mcf_solve --export=mcf_check --export=mcf_plan_flow --export=mcf_plan_pairs --export=page_alloc --export=page_peak -o "$scratch/mcf64.wasm" \
     "$scratch/module.o" "$scratch/heap.o" "$builtins") || stop "the module can't be linked"
 wasm-opt "$scratch/mcf64.wasm" --enable-memory64 --enable-bulk-memory --enable-sign-ext --enable-nontrapping-float-to-int \
     --enable-mutable-globals --enable-multivalue --memory64-lowering -o bin/mcf.wasm

@@ -15,6 +15,8 @@ const CODES = [
 ];
 // The mark before decimals: the one that the tables show, a point, or a comma.
 const MARKS = ['', '.', ','];
+// Who gets just one: whoever the table says, each person, each thing, or both.
+const EACH = ['', 'who', 'what', 'both'];
 const ENGINES = ['auto', 'cancel', 'simplex', 'scaling', 'sap', 'fast'];
 
 // This function chooses the engine if the caller doesn't: `fast` for a flow problem whose problem
@@ -87,6 +89,27 @@ export class Instance {
         BigInt(places.size),
         routes.at,
         BigInt(routes.size),
+        asked,
+        at,
+        BigInt(room),
+        this.used
+      )
+    );
+  }
+
+  // This method pairs persons with things by a table that was lent, and returns the status and the
+  // location of the answer, which is the text of a table.
+  /**
+   * @param {Lent} costs
+   * @param {PairOptions} options
+   * @returns {{ status: Status } & Lent}
+   */
+  pair(costs, { decimal = '', each = '', maximise = false } = {}) {
+    const asked = this.numbers([MARKS.indexOf(decimal), EACH.indexOf(each), Number(maximise)]);
+    return this.written(0, 4096 + 6 * costs.size, (at, room) =>
+      this.exports.mcf_plan_pairs(
+        costs.at,
+        BigInt(costs.size),
         asked,
         at,
         BigInt(room),

@@ -71,6 +71,7 @@ export default function test(expect) {
     }
   }
   plans(expect, module);
+  rosters(expect, module);
   spoilt(expect, module, fs.readFileSync(path.join(examples, 'transport.min')));
   engines(expect, module);
   let refused = false;
@@ -94,6 +95,30 @@ function plans(expect, module) {
       const found = instance.plan(places, routes, { short, penalty: short ? '1000' : '' });
       const words = short ? ['--short', 'allow', '--penalty', '1000'] : [];
       const wanted = spawnSync(mcfplan, ['flow', ...words, ...files]);
+      expect(
+        Buffer.from(instance.bytes(found.at, found.size)).equals(wanted.stdout),
+        `${name}: mcfplan answers otherwise`
+      );
+      expect(
+        ['flow', 'blocked', 'refused'][wanted.status] === found.status,
+        `${name}: status ${found.status}`
+      );
+    }
+  }
+}
+
+// This test does the same for tables of persons and things.
+function rosters(expect, module) {
+  const mcfplan = path.join(programs, 'mcfplan'), folder = path.join(examples, 'plans');
+  for (const name of fs.readdirSync(folder)) {
+    const file = path.join(folder, name, 'costs.csv');
+    if (!fs.existsSync(file)) continue;
+    for (const each of ['', 'both']) {
+      const instance = new Instance(module);
+      const costs = instance.lend(fs.readFileSync(file));
+      const found = instance.pair(costs, { each, maximise: each === 'both' });
+      const words = each ? ['--each', each, '--maximise', 'yes'] : [];
+      const wanted = spawnSync(mcfplan, ['pairs', ...words, file]);
       expect(
         Buffer.from(instance.bytes(found.at, found.size)).equals(wanted.stdout),
         `${name}: mcfplan answers otherwise`

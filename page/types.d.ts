@@ -231,6 +231,16 @@ interface Exports {
     places: bigint, placesSize: bigint, routes: bigint, routesSize: bigint, options: bigint,
     at: bigint, room: bigint, used: bigint
   ): number;
+  mcf_plan_pairs(
+    costs: bigint, costsSize: bigint, options: bigint, at: bigint, room: bigint, used: bigint
+  ): number;
+}
+
+/** How a table of persons and things is read, and which choice is the best. */
+interface PairOptions {
+  decimal?: string;
+  each?: string;
+  maximise?: boolean;
 }
 
 /** How tables are read, and what plans may leave. */

@@ -372,6 +372,39 @@ static int check_tables(void) {
     return 0;
 }
 
+/* Pairs persons with things by a table: a choice, one of the greatest value, a competition, faults,
+   and options without a meaning. */
+static int check_rosters(void) {
+    static const uint8_t costs[] = ",X,Y\nA,1,2.5\nB,3,3.5\n";
+    static const uint8_t narrow[] = ",X\nA,1\nB,1\n";
+    static const char pairs[] = "\"answer\",\"plan\"\n\"cost\",\"4.5\"\n";
+    static const char values[] = "\"answer\",\"plan\"\n\"cost\",\"5.5\"\n";
+    struct mcf_pair_options options = {MCF_SHOWN_MARK, MCF_EACH_AUTO, 0};
+    uint8_t room[1024];
+    size_t used = 77, length = sizeof costs - 1;
+    CHECK(71, mcf_plan_pairs(costs, length, &options, room, sizeof room, &used) == MCF_FLOW);
+    CHECK(72, used > sizeof pairs && memcmp(room, pairs, sizeof pairs - 1) == 0);
+    CHECK(73,
+          mcf_plan_pairs(costs, length, &options, room, used - 1, &used) == MCF_BUFFER_TOO_SMALL);
+    CHECK(74, mcf_plan_pairs(narrow, sizeof narrow - 1, &options, room, sizeof room, &used) ==
+                  MCF_BLOCKED);
+    options.each = MCF_EACH_WHAT;
+    CHECK(75, mcf_plan_pairs(narrow, sizeof narrow - 1, &options, room, sizeof room, &used) ==
+                  MCF_FLOW);
+    options.each = MCF_EACH_BOTH;
+    options.maximise = 1;
+    CHECK(76, mcf_plan_pairs(costs, length, &options, room, sizeof room, &used) == MCF_FLOW &&
+                  memcmp(room, values, sizeof values - 1) == 0);
+    options.decimal = MCF_COMMA;
+    CHECK(77,
+          mcf_plan_pairs(costs, length, &options, room, sizeof room, &used) == MCF_INVALID_INPUT);
+    options.each = MCF_EACH_BOTH + 1;
+    CHECK(78,
+          mcf_plan_pairs(costs, length, &options, room, sizeof room, &used) == MCF_INVALID_CHOICE &&
+              used == 0);
+    return 0;
+}
+
 int main(int count, char **words) {
     int place, status = check_arcs();
     if (status == 0) status = check_wide();
@@ -381,6 +414,7 @@ int main(int count, char **words) {
     if (status == 0) status = check_doubles();
     if (status == 0) status = check_double_transport();
     if (status == 0) status = check_tables();
+    if (status == 0) status = check_rosters();
     if (status == 0) status = check_ranges();
     for (place = 1; status == 0 && place + 1 < count; place += 2)
         status = check_text(words[place + 1], (uint32_t)atoi(words[place]));

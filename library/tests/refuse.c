@@ -69,6 +69,11 @@ static uint32_t call(int number) {
     static const struct mcf_doubles double_matrix = {doubles, 400, 20, 20, 20};
     static const struct mcf_transport_doubles double_transport = {
         {doubles, 400, 20, 20, 20}, masses, 20, masses, 20};
+    static const uint8_t places[] = "name,supply,most\nMill,3,\nPort,,9\nTown,-3,\n";
+    static const uint8_t routes[] = "from,to,most,cost\nMill,Port,5,1.5\nPort,Town,2,1\n";
+    static const uint8_t persons[] = ",X,Y,takes\nA,1,2.5,0..9\nB,3,4,0..1\nneeds,2,2,\n";
+    static const struct mcf_plan_options leaves = {MCF_SHOWN_MARK, 1, 1, (const uint8_t *)"", 0};
+    static const struct mcf_pair_options asks = {MCF_SHOWN_MARK, MCF_EACH_AUTO, 1};
     problem.nodes = nodes;
     problem.arc_count = arc_count;
     switch (number) {
@@ -101,9 +106,14 @@ static uint32_t call(int number) {
     case 12:
         return mcf_transport_doubles(&double_transport, plan, 40, row_wides, 20, column_wides, 20,
                                      &told_doubles);
-    default:
+    case 13:
         return mcf_check_transport_doubles(&double_transport, plan, told_doubles.used, row_wides,
                                            20, column_wides, 20, &told_doubles.scale);
+    case 14:
+        return mcf_plan_flow(places, sizeof places - 1, routes, sizeof routes - 1, &leaves, buffer,
+                             sizeof buffer, &used);
+    default:
+        return mcf_plan_pairs(persons, sizeof persons - 1, &asks, buffer, sizeof buffer, &used);
     }
 }
 
@@ -113,9 +123,10 @@ static int refuse_each(int number) {
     for (step = 0;; step++) {
         uint32_t status;
         int solves = number == 2 || number == 4 || number == 6 || number == 8;
+        int answers = number == 0 || number > 13;
         int is_wide = number == 10 || number == 12, plans = number == 8 || number == 12;
         memset(&verdict, 9, sizeof verdict);
-        if (number == 0) memset(buffer, 7, sizeof buffer);
+        if (answers) memset(buffer, 7, sizeof buffer);
         if (solves) memset(flow, 7, sizeof flow), memset(prices, 7, sizeof prices);
         if (is_wide) memset(row_wides, 7, sizeof row_wides);
         if (is_wide) memset(column_wides, 7, sizeof column_wides);
@@ -135,9 +146,9 @@ static int refuse_each(int number) {
         refusals++;
         if (memcmp(&verdict, &before, sizeof verdict) != 0)
             return printf("refuse: call %d: the verdict is written\n", number);
-        if (number == 0 &&
+        if (answers &&
             (used != 0 || buffer[0] != 7 || memcmp(buffer, buffer + 1, sizeof buffer - 1) != 0))
-            return printf("refuse: the buffer is written\n");
+            return printf("refuse: call %d: the buffer is written\n", number);
         if (solves &&
             (memcmp(flow, sevens, sizeof flow) != 0 || memcmp(prices, sevens, sizeof prices) != 0))
             return printf("refuse: call %d: a buffer is written\n", number);
@@ -211,6 +222,7 @@ int main(int count, char **words) {
     /* The masses differ in total. */
     masses[0] = -1;
     if (refuse_each(8) || refuse_each(12)) return 1;
+    if (refuse_each(14) || refuse_each(15)) return 1;
     choice.pricing = choice.check = 0;
     for (place = 1; place < count; place++) {
         FILE *file = fopen(words[place], "rb");

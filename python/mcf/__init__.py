@@ -6,8 +6,8 @@ histograms, as POT's functions of these names do. `SimpleMinCostFlow`, `SimpleMa
 `SimpleLinearSumAssignment` have the methods of OR-tools' classes, and `mcf.nx` takes networkx
 graphs. The checker judges each answer before the package returns it, unless `check=False`; by
 `check_arrays` it judges a flow that anybody made, and `cost_ranges` tells how far its costs may
-change. `solve_text` and `check_text` take texts in the DIMACS formats, and `plan_flow` tables of
-places and routes.
+change. `solve_text` and `check_text` take texts in the DIMACS formats, `plan_flow` tables of places
+and routes, and `plan_pairs` a table of persons and things.
 """
 from typing import Optional, Tuple, Union
 
@@ -21,7 +21,7 @@ from .assigning import Assignment, assign
 from .assignment import linear_sum_assignment
 from .earth_mover import emd, emd2
 from .simple import SimpleLinearSumAssignment, SimpleMaxFlow, SimpleMinCostFlow
-from .tables import PlanAnswer, plan_flow
+from .tables import PlanAnswer, plan_flow, plan_pairs
 from .transportation import Plan, transport
 
 __all__ = [
@@ -47,6 +47,7 @@ __all__ = [
     "emd2",
     "linear_sum_assignment",
     "plan_flow",
+    "plan_pairs",
     "solve",
     "solve_arrays",
     "solve_text",

@@ -150,6 +150,16 @@ class PlanOptions(ctypes.Structure):
     ]
 
 
+class PairOptions(ctypes.Structure):
+    """How a table of persons and things is read, and which choice is the best."""
+
+    _fields_ = [
+        ("decimal", ctypes.c_uint32),
+        ("each", ctypes.c_uint32),
+        ("maximise", ctypes.c_uint32),
+    ]
+
+
 class ShownFlow(ctypes.Structure):
     _fields_ = [
         ("flow", ctypes.c_void_p),
@@ -260,6 +270,7 @@ def _load() -> ctypes.CDLL:
         "mcf_solve": [*text, by(Choice), *written],
         "mcf_check": [*text, *text, by(Told)],
         "mcf_plan_flow": [*text, *text, by(PlanOptions), *written],
+        "mcf_plan_pairs": [*text, by(PairOptions), *written],
         "mcf_solve_arcs": [flow_problem, by(Choice), *rooms, by(Told)],
         "mcf_check_arcs": [flow_problem, *rooms, by(Told)],
         "mcf_solve_pairs": [assignment, by(Choice), *rooms, by(Told)],
@@ -391,6 +402,11 @@ def solve_text(text: bytes, choice: Choice) -> Tuple[int, bytes]:
 def plan_flow(places: bytes, routes: bytes, options: PlanOptions) -> Tuple[int, bytes]:
     """Plans the flow of two tables, and returns the status and the answer."""
     return _written(_lib.mcf_plan_flow, [places, routes], options)
+
+
+def plan_pairs(costs: bytes, options: PairOptions) -> Tuple[int, bytes]:
+    """Pairs persons with things by a table, and returns the status and the answer."""
+    return _written(_lib.mcf_plan_pairs, [costs], options)
 
 
 def check_text(text: bytes, answer: bytes) -> Verdict:

@@ -7,6 +7,7 @@ from . import _library
 
 KINDS = ("plan", "no plan", "faults")
 MARKS = (None, ".", ",")
+EACH = (None, "who", "what", "both")
 
 
 class PlanAnswer(NamedTuple):
@@ -85,6 +86,59 @@ def plan_flow(
     status, text = _library.plan_flow(_text_of(places), _text_of(routes), options)
     if status == _library.INVALID_CHOICE:
         raise ValueError("the penalty is no number: %r" % penalty)
+    if status > _library.INVALID_INPUT:
+        raise _library.failed(status)
+    return PlanAnswer(KINDS[status], text)
+
+
+def plan_pairs(
+    costs: Union[bytes, str],
+    *,
+    decimal: Optional[str] = None,
+    each: Optional[str] = None,
+    maximise: bool = False,
+) -> PlanAnswer:
+    """Pairs persons with things at the least cost, from the text of a table.
+
+    Parameters
+    ----------
+    costs : bytes or str
+        The text of a list with the columns who, what and cost, and optionally takes and needs; or
+        of a matrix with a person in each row and a thing in each column, and optionally a column
+        takes and a row needs. An empty cell, x or a hyphen for a cost forbids the pair. Bytes are
+        in UTF-8.
+    decimal : {None, '.', ','}
+        The mark before decimals; None for the one that the table shows.
+    each : {None, 'who', 'what', 'both'}
+        Who gets just one, where no cell says how many: each person, each thing, or both. None is
+        each thing if the table has a number in takes or needs, and otherwise each person.
+    maximise : bool
+        Costs are values, and the pairs are worth as much as possible.
+
+    Returns
+    -------
+    PlanAnswer
+        A choice of pairs that none undercuts, or persons and things that show why there is none, or
+        all faults of the table.
+
+    Raises
+    ------
+    ValueError
+        `decimal` is no mark, or `each` is none of these words.
+    MemoryError
+        Memory runs out.
+
+    Examples
+    --------
+    >>> plan_pairs(",day,night\\nAda,1,2.5\\nBen,3,3.5").rows()[:2]
+    [['answer', 'plan'], ['cost', '4.5']]
+    """
+    if decimal not in MARKS:
+        raise ValueError("the decimal mark is '.' or ',', or None")
+    if each not in EACH:
+        raise ValueError("each is 'who', 'what', 'both' or None, not %r" % each)
+    options = _library.PairOptions(MARKS.index(decimal), EACH.index(each), maximise)
+    status, text = _library.plan_pairs(_text_of(costs), options)
     if status > _library.INVALID_INPUT:
         raise _library.failed(status)
     return PlanAnswer(KINDS[status], text)

@@ -211,6 +211,35 @@ class Tables(unittest.TestCase):
         self.assertEqual(answer.rows()[1], ["cost", "26"])
 
 
+class Rosters(unittest.TestCase):
+    """Pairs of persons and things, from the text of a table."""
+
+    COSTS = ";Früh;Spät\nAda;1;2,5\nBen;3;3,5\n"
+
+    def test_pairs(self):
+        answer = mcf.plan_pairs(memoryview(self.COSTS.encode()))
+        self.assertEqual(answer.kind, "plan")
+        self.assertEqual(answer.rows()[:2], [["answer", "plan"], ["cost", "4.5"]])
+        self.assertIn(["pair", "3", "3", "Ben", "Spät", "3.5"], answer.rows())
+        self.assertIn(["thing", "1", "Früh"], answer.rows())
+
+    def test_options(self):
+        answer = mcf.plan_pairs(self.COSTS, decimal=",", each="both", maximise=True)
+        self.assertEqual(answer.rows()[1], ["cost", "5.5"])
+        narrow = "who,what,cost\nAda,day,1\nBen,day,1\n"
+        answer = mcf.plan_pairs(narrow)
+        self.assertEqual(answer.kind, "no plan")
+        self.assertIn(["person", "3", "Ben", "1"], answer.rows())
+        self.assertEqual(mcf.plan_pairs(narrow, each="what").kind, "plan")
+        self.assertEqual(mcf.plan_pairs(narrow, each="who"), answer)
+
+    def test_faults(self):
+        self.assertEqual(mcf.plan_pairs(self.COSTS, decimal=".").kind, "faults")
+        for wrong in ({"decimal": ";"}, {"each": "all"}):
+            with self.assertRaises(ValueError):
+                mcf.plan_pairs(self.COSTS, **wrong)
+
+
 class Raised(unittest.TestCase):
     """Exceptions that pass from one process to another."""
 

@@ -43,6 +43,8 @@ def tables() -> None:
     answer: mcf.PlanAnswer = mcf.plan_flow("name,supply\nA,1\nB,-1", b"from,to,most,cost\nA,B,,2")
     rows: List[List[str]] = answer.rows()
     assert (answer.kind, rows[1]) == ("plan", ["cost", "2"])
+    answer = mcf.plan_pairs("who,what,cost\nA,X,1\nB,X,2", each="what", maximise=True)
+    assert answer.rows()[1] == ["cost", "2"]
 
 
 def decimals() -> None:

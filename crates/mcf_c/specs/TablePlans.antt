@@ -4,6 +4,7 @@ use Rattle.std.specs.Prelude.{◌≡◌, ℕ, ◌==◌, Bool, true, false, if◌
 use Rattle.mcf_answer_rows.specs.declared.texts.PlanText.{PlanText}
 use Rattle.mcf_answer_rows.specs.declared.texts.TextKind.{TextKind}
 use Rattle.mcf_answer_rows.specs.declared.texts.TextKind.TheVariants.{Plan, NoPlan, Faults}
+use Rattle.mcf_c.specs.declared.table_plans.McfPairOptions.{McfPairOptions}
 use Rattle.mcf_c.specs.declared.table_plans.McfPlanOptions.{McfPlanOptions}
 use Rattle.mcf_decimal.specs.Numbers.{read_number}
 use Rattle.mcf_decimal.specs.declared.decimal.Decimal.{Decimal}
@@ -11,6 +12,10 @@ use Rattle.mcf_decimal.specs.declared.fault.NumberFault.{NumberFault}
 use Rattle.mcf_decimal.specs.declared.mark.Mark.{Mark}
 use Rattle.mcf_decimal.specs.declared.mark.Mark.TheVariants.{Point, Comma}
 use Rattle.mcf_flow_tables.specs.declared.options.Options.{Options}
+use Rattle.mcf_pair_tables.specs.declared.options.Each.{Each}
+use Rattle.mcf_pair_tables.specs.declared.options.Each.TheVariants.{Who, What, Both}
+use Rattle.mcf_pair_tables.specs.declared.options.Options.{Options as PairOptions}
+use Rattle.mcf_pair_text.specs.PairTexts.{IsPairText}
 use Rattle.mcf_plan_text.specs.PlanTexts.{IsPlanText}
 use Rattle.mcf_units.specs.declared.terms.Terms.{Terms}
 
@@ -27,6 +32,13 @@ pub record HandsPlanText (places routes : List ℕ) (options : Options) (status 
   pub is_text : text ≡ told.text.items
   pub answers : IsPlanText places routes options told
 
+-- a text of this status is an answer to a table of persons and things
+pub record HandsPairText (costs : List ℕ) (options : PairOptions) (status : ℕ) (text : List ℕ) : Type 0 where
+  pub told : PlanText
+  pub is_status : status ≡ plan_status told.kind
+  pub is_text : text ≡ told.text.items
+  pub answers : IsPairText costs options told
+
 -- ---- what the numbers ask
 
 -- the mark before decimals: that which cells show, a point, or a comma
@@ -34,8 +46,8 @@ abbrev pub asked_mark : ℕ → Option (Option Mark)
 asked_mark n = if n == 0 then Some None else (if n == 1 then Some (Some Point) else (if n == 2 then Some (Some Comma) else None))
 
 -- no or yes
-abbrev pub asked_leave : ℕ → Option Bool
-asked_leave n = if n == 0 then Some false else (if n == 1 then Some true else None)
+abbrev pub asked_yes : ℕ → Option Bool
+asked_yes n = if n == 0 then Some false else (if n == 1 then Some true else None)
 
 -- the number that is read, if one is
 abbrev pub number_in : Result Decimal NumberFault → Option (Option Decimal)
@@ -57,8 +69,26 @@ terms_from (Some unused) (Some short) None = None
 -- how tables are read under a mark, and what plans may leave
 abbrev pub options_under : McfPlanOptions → Option Mark → Option Options
 options_under o mark =
-    option_map (λ terms. record { mark = mark; terms = terms }) (terms_from (asked_leave o.allow_unused) (asked_leave o.allow_short) (asked_penalty mark o.penalty.now))
+    option_map (λ terms. record { mark = mark; terms = terms }) (terms_from (asked_yes o.allow_unused) (asked_yes o.allow_short) (asked_penalty mark o.penalty.now))
 
 -- what the numbers ask, if they have a meaning
 abbrev pub plan_options : McfPlanOptions → Option Options
 plan_options o = option_and_then (options_under o) (asked_mark o.decimal)
+
+-- ---- what the numbers ask of persons and things
+
+-- who gets just one: whoever the table says, each person, each thing, or both
+abbrev pub asked_each : ℕ → Option (Option Each)
+asked_each n =
+    if n == 0 then Some None else (if n == 1 then Some (Some Who) else (if n == 2 then Some (Some What) else (if n == 3 then Some (Some Both) else None)))
+
+-- the options, if each part is there
+abbrev pub pair_options_from : Option (Option Mark) → Option (Option Each) → Option Bool → Option PairOptions
+pair_options_from (Some mark) (Some each) (Some maximise) = Some (record { mark = mark; each = each; maximise = maximise })
+pair_options_from None each maximise = None
+pair_options_from (Some mark) None maximise = None
+pair_options_from (Some mark) (Some each) None = None
+
+-- what the numbers ask of a table of persons and things, if they have a meaning
+abbrev pub pair_options : McfPairOptions → Option PairOptions
+pair_options o = pair_options_from (asked_mark o.decimal) (asked_each o.each) (asked_yes o.maximise)

@@ -1,13 +1,15 @@
 //! Tables planned.
 ghost use Rattle.std.specs.Prelude.{◌≡◌, ◌↔◌, ◌≤◌, ◌⊎◌, IfOk, IfSome, None};
 ghost use Rattle.mcf_c.specs.Calls.{HandsInto, LacksRoomFor};
-ghost use Rattle.mcf_c.specs.TablePlans.{HandsPlanText, asked_leave, asked_mark, asked_penalty, options_under, plan_options, plan_status};
+ghost use Rattle.mcf_c.specs.TablePlans.{HandsPairText, HandsPlanText, asked_each, asked_mark, asked_penalty, asked_yes, options_under, pair_options, plan_options, plan_status};
 
 use crate::statuses::{BLOCKED, BUFFER_TOO_SMALL, FLOW, INVALID_CHOICE, INVALID_INPUT, NO_MEMORY};
 use mcf_answer_rows::TextKind;
 use mcf_choice::{Choice, EngineChoice};
 use mcf_decimal::{Decimal, Mark, number};
 use mcf_flow_tables::{Options, Texts};
+use mcf_pair_tables::{Each, Options as PairOptions};
+use mcf_pair_text::pair_text;
 use mcf_plan_text::plan_text;
 use mcf_planner::Planner;
 use mcf_text::NoMemory;
@@ -23,6 +25,16 @@ pub struct McfPlanOptions<'a> {
     pub allow_unused: u32,
     pub allow_short: u32,
     pub penalty: &'a [u8],
+}
+
+/// How a table of persons and things is read, and which choice is the best. All zeros are the
+/// defaults.
+#[repr(C)]
+#[derive(Clone, Copy)]
+pub struct McfPairOptions {
+    pub decimal: u32,
+    pub each: u32,
+    pub maximise: u32,
 }
 
 // The status of an answer of a kind.
@@ -50,8 +62,8 @@ fn asked_mark(number: u32) -> Option<Option<Mark>>
 }
 
 // No or yes.
-fn asked_leave(number: u32) -> Option<bool>
-    ensures { result ≡ asked_leave number }
+fn asked_yes(number: u32) -> Option<bool>
+    ensures { result ≡ asked_yes number }
 {
     match number {
         0 => Some(false),
@@ -77,8 +89,8 @@ fn asked_penalty(mark: Option<Mark>, text: &[u8]) -> Option<Option<Decimal>>
 fn options_under(numbers: &McfPlanOptions<'_>, mark: Option<Mark>) -> Option<Options>
     ensures { result ≡ options_under numbers.now mark }
 {
-    let unused = asked_leave(numbers.allow_unused)?;
-    let short = asked_leave(numbers.allow_short)?;
+    let unused = asked_yes(numbers.allow_unused)?;
+    let short = asked_yes(numbers.allow_short)?;
     let penalty = asked_penalty(mark, numbers.penalty)?;
     Some(Options {
         mark,
@@ -98,17 +110,49 @@ fn plan_options(numbers: &McfPlanOptions<'_>) -> Option<Options>
     options_under(numbers, mark)
 }
 
+// Who gets just one, by a number.
+fn asked_each(number: u32) -> Option<Option<Each>>
+    ensures { result ≡ asked_each number }
+{
+    match number {
+        0 => Some(None),
+        1 => Some(Some(Each::Who)),
+        2 => Some(Some(Each::What)),
+        3 => Some(Some(Each::Both)),
+        _ => None,
+    }
+}
+
+// What numbers ask of a table of persons and things, if they have a meaning.
+fn pair_options(numbers: &McfPairOptions) -> Option<PairOptions>
+    ensures { result ≡ pair_options numbers.now }
+{
+    let mark = asked_mark(numbers.decimal)?;
+    let each = asked_each(numbers.each)?;
+    let maximise = asked_yes(numbers.maximise)?;
+    Some(PairOptions {
+        mark,
+        each,
+        maximise,
+    })
+}
+
+// What solves the networks of tables.
+fn fast_engine() -> Planner {
+    Planner {
+        choice: Choice {
+            engine: EngineChoice::Fast,
+            ..Choice::default()
+        },
+    }
+}
+
 // The answer to two tables, with its status.
 fn answer_to(alloc: Global, texts: Texts<'_>, options: Options) -> Result<(u32, Vec<u8>), NoMemory>
     ensures text { IfOk result (λ r. HandsPlanText texts.entry.places.now texts.entry.routes.now options r.0 r.1.items) }
     ensures few { IfOk result (λ r. r.0 ≤ 2) }
 {
-    let mut engine = Planner {
-        choice: Choice {
-            engine: EngineChoice::Fast,
-            ..Choice::default()
-        },
-    };
+    let mut engine = fast_engine();
     let told = plan_text(alloc, &mut engine, texts, options)?;
     Ok((plan_status(told.kind), told.text))
 }
@@ -142,6 +186,57 @@ pub extern "C" fn mcf_plan_flow(
     };
     let texts = Texts { places, routes };
     let Ok((status, answer)) = answer_to(alloc, texts, options) else {
+        return NO_MEMORY;
+    };
+    *used = answer.len();
+    if room.len() < answer.len() {
+        return BUFFER_TOO_SMALL;
+    }
+    room[..answer.len()].copy_from_slice(&answer);
+    status
+}
+
+// The answer to a table of persons and things, with its status.
+fn pairs_answer(
+    alloc: Global,
+    costs: &[u8],
+    options: PairOptions,
+) -> Result<(u32, Vec<u8>), NoMemory>
+    ensures text { IfOk result (λ r. HandsPairText costs.now options r.0 r.1.items) }
+    ensures few { IfOk result (λ r. r.0 ≤ 2) }
+{
+    let mut engine = fast_engine();
+    let told = pair_text(alloc, &mut engine, costs, options)?;
+    Ok((plan_status(told.kind), told.text))
+}
+
+/// Pairs persons and things by a table in UTF-8, and writes the answer, as the text of a table, to
+/// the beginning of a buffer of the caller's, as `pair_text` writes it.
+///
+/// The status is 0 for a best choice, 1 if there is none, 2 for faults, 3 if memory runs out, also
+/// for the answer before it is copied to the buffer, 4 if the buffer is too short, and 5 if the
+/// options have no meaning. `used` becomes the length of the answer, also at status 4, and 0 at 3
+/// and 5.
+#[unsafe(no_mangle)]
+pub extern "C" fn mcf_plan_pairs(
+    alloc: Global,
+    costs: &[u8],
+    options: &McfPairOptions,
+    room: &mut [u8],
+    used: &mut usize,
+) -> u32
+    ensures statuses { result ≤ 5 }
+    ensures answer { result ≤ 2 → IfSome (pair_options options.now) (λ o. HandsInto (HandsPairText costs.now o) result room.old room.new used.new) }
+    ensures room { result ≡ 4 → IfSome (pair_options options.now) (λ o. LacksRoomFor (HandsPairText costs.now o) room.old used.new) }
+    ensures options { (result ≡ 5) ↔ (pair_options options.now ≡ None) }
+    ensures untouched { 3 ≤ result → room.new ≡ room.old }
+    ensures unused { (result ≡ 3) ⊎ (result ≡ 5) → used.new ≡ 0 }
+{
+    *used = 0;
+    let Some(options) = pair_options(options) else {
+        return INVALID_CHOICE;
+    };
+    let Ok((status, answer)) = pairs_answer(alloc, costs, options) else {
         return NO_MEMORY;
     };
     *used = answer.len();

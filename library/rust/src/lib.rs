@@ -3,7 +3,7 @@
 
 mod raw;
 
-pub use raw::{Arc, Choice, Decimal, Pair, PlanOptions, Shipment};
+pub use raw::{Arc, Choice, Decimal, Each, Pair, PairOptions, PlanOptions, Shipment};
 
 /// The kind of an answer.
 #[derive(Clone, Copy, Debug, PartialEq, Eq)]
@@ -131,6 +131,13 @@ pub fn solve(input: &[u8], choice: Choice) -> Result<(Kind, Vec<u8>), Error> {
 pub fn plan_flow(places: &[u8], routes: &[u8], options: PlanOptions) -> Result<(Kind, Vec<u8>), Error> {
     let length = 4096 + 6 * (places.len() + routes.len());
     written(length, |room| raw::plan_flow(places, routes, &options, room))
+}
+
+/// Pairs persons with things by a table in UTF-8, and returns the answer as the text of another
+/// table, which the manual page of `mcfplan` describes. Its kind is `Flow` for a best choice,
+/// `Blocked` if there is none, and `Refused` for faults of the table.
+pub fn plan_pairs(costs: &[u8], options: PairOptions) -> Result<(Kind, Vec<u8>), Error> {
+    written(4096 + 6 * costs.len(), |room| raw::plan_pairs(costs, options, room))
 }
 
 /// The verdict on an answer text for an instance text.

@@ -50,6 +50,34 @@ pub struct PlanNumbers {
     penalty_length: usize,
 }
 
+/// Who gets just one, where no cell says how many: each thing, if a cell of the table says it, and
+/// otherwise each person; each person; each thing; or both.
+#[derive(Clone, Copy, Debug, Default, PartialEq, Eq)]
+pub enum Each {
+    #[default]
+    Auto = 0,
+    Who = 1,
+    What = 2,
+    Both = 3,
+}
+
+/// How a table of persons and things is read, and which choice is the best.
+#[derive(Clone, Copy, Debug, Default)]
+pub struct PairOptions {
+    pub decimal: Decimal,
+    pub each: Each,
+    /// Costs are values, and a choice is worth as much as possible.
+    pub maximise: bool,
+}
+
+/// The same in numbers, as `mcf.h` has it.
+#[repr(C)]
+pub struct PairNumbers {
+    decimal: u32,
+    each: u32,
+    maximise: u32,
+}
+
 /// An arc, with nodes from 1.
 #[repr(C)]
 #[derive(Clone, Copy, Debug)]
@@ -208,7 +236,7 @@ impl Wide {
 
 mod exports {
     use super::{
-        Assignment, Choice, Doubles, FlowProblem, Matrix, PlanNumbers, Planned, PlannedDoubles, Scale, Shipment, Told, Transport, TransportDoubles, Wide,
+        Assignment, Choice, Doubles, FlowProblem, Matrix, PairNumbers, PlanNumbers, Planned, PlannedDoubles, Scale, Shipment, Told, Transport, TransportDoubles, Wide,
     };
 
     #[rustfmt::skip]
@@ -216,6 +244,8 @@ mod exports {
         pub fn mcf_solve(input: *const u8, input_length: usize, choice: *const Choice, room: *mut u8, room_length: usize, used: *mut usize) -> u32;
         pub fn mcf_plan_flow(places: *const u8, places_length: usize, routes: *const u8, routes_length: usize,
             options: *const PlanNumbers, room: *mut u8, room_length: usize, used: *mut usize) -> u32;
+        pub fn mcf_plan_pairs(costs: *const u8, costs_length: usize,
+            options: *const PairNumbers, room: *mut u8, room_length: usize, used: *mut usize) -> u32;
         pub fn mcf_check(input: *const u8, input_length: usize, answer: *const u8, answer_length: usize, told: *mut Told) -> u32;
         pub fn mcf_solve_arcs(problem: *const FlowProblem, choice: *const Choice,
             flow: *mut i64, flow_length: usize, prices: *mut i64, prices_length: usize, told: *mut Told) -> u32;
@@ -257,6 +287,17 @@ pub fn plan_flow(places: &[u8], routes: &[u8], options: &PlanOptions, room: &mut
     let status = unsafe {
         exports::mcf_plan_flow(places.as_ptr(), places.len(), routes.as_ptr(), routes.len(), &numbers, room_at, room_length, &mut used)
     };
+    (status, used)
+}
+
+pub fn plan_pairs(costs: &[u8], options: PairOptions, room: &mut [u8]) -> (u32, usize) {
+    let numbers = PairNumbers {
+        decimal: options.decimal as u32,
+        each: options.each as u32,
+        maximise: options.maximise.into(),
+    };
+    let mut used = 0;
+    let status = unsafe { exports::mcf_plan_pairs(costs.as_ptr(), costs.len(), &numbers, room.as_mut_ptr(), room.len(), &mut used) };
     (status, used)
 }
 

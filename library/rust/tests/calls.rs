@@ -1,5 +1,5 @@
-use mcf::{assign_doubles, assign_matrix, check, check_arcs, plan_flow, solve, solve_arcs, solve_pairs, transport};
-use mcf::{Answer, Arc, Assigned, AssignedDoubles, Choice, Decimal, Error, Kind, Pair, PlanOptions, Planned, Shipment, Side};
+use mcf::{assign_doubles, assign_matrix, check, check_arcs, plan_flow, plan_pairs, solve, solve_arcs, solve_pairs, transport};
+use mcf::{Answer, Arc, Assigned, AssignedDoubles, Choice, Decimal, Each, Error, Kind, Pair, PairOptions, PlanOptions, Planned, Shipment, Side};
 
 const TEXT: &[u8] = b"p min 3 3\nn 1 4\nn 3 -4\na 1 2 0 3 1\na 2 3 0 3 -1\na 1 3 0 9 5\n";
 
@@ -38,6 +38,22 @@ fn tables() {
     assert_eq!(plan_flow(places, places, options).unwrap().0, Kind::Refused);
     let comma = PlanOptions { decimal: Decimal::Comma, ..options };
     assert_eq!(plan_flow(places, routes, comma), Err(Error::InvalidChoice));
+}
+
+#[test]
+fn rosters() {
+    let costs = b",X,Y\nA,1,2.5\nB,3,3.5\n";
+    let (kind, answer) = plan_pairs(costs, PairOptions::default()).unwrap();
+    assert_eq!(kind, Kind::Flow);
+    assert!(answer.starts_with(b"\"answer\",\"plan\"\n\"cost\",\"4.5\"\n"));
+    let values = PairOptions { each: Each::Both, maximise: true, ..PairOptions::default() };
+    let (kind, answer) = plan_pairs(costs, values).unwrap();
+    assert_eq!(kind, Kind::Flow);
+    assert!(answer.starts_with(b"\"answer\",\"plan\"\n\"cost\",\"5.5\"\n"));
+    let narrow = b"who,what,cost\nA,X,1\nB,X,1\n";
+    assert_eq!(plan_pairs(narrow, PairOptions::default()).unwrap().0, Kind::Blocked);
+    assert_eq!(plan_pairs(narrow, PairOptions { each: Each::What, ..PairOptions::default() }).unwrap().0, Kind::Flow);
+    assert_eq!(plan_pairs(costs, PairOptions { decimal: Decimal::Comma, ..values }).unwrap().0, Kind::Refused);
 }
 
 #[test]
