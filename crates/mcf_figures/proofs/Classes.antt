@@ -10,11 +10,13 @@ use Rattle.std.proofs.lemmas.List.Elements.{All-cons, All-head, All-tail}
 use Rattle.std.proofs.lemmas.List.FromFn.{get_or-range_with_len, length-range_with_len}
 use Rattle.mcf_flows.specs.Network.{IsNode}
 use Rattle.mcf_model.specs.Model.{IsSound, Model, Route}
-use Rattle.mcf_model.specs.Tables.{no_route}
+use Rattle.mcf_model.specs.Tables.{IsRouteNumber, no_route, route_at}
 use Rattle.mcf_figures.specs.Figures.{AreJoined, IsChain, IsExact, IsLoose, IsLooseLink, Link, link_to, saving}
-use Rattle.mcf_figures.specs.Groups.{AreGroups, AreInOrder, group_at, is_exact_by}
-use Rattle.mcf_figures.specs.Private.Forests.{AreAlike, AreClasses, IsForest, entry, merged, relabelled}
+use Rattle.mcf_figures.specs.Groups.{AreGroups, AreInOrder, entry, group_at, groups_by, is_exact_by, lowest, merged, merged_if, numbers_by, relabelled}
+use Rattle.mcf_figures.specs.Rows.{row_told}
+use Rattle.mcf_figures.specs.Private.Forests.{AreAlike, AreClasses, IsForest}
 use Rattle.mcf_figures.proofs.Chains.{joined_back, joined_on, joined_same}
+use Rattle.mcf_figures.proofs.LooseTests.{loose_passes, tight_fails}
 use Rattle.mcf_figures.proofs.Forests.{merged_ends, own_forest, same_merged}
 
 module _ (prices : List ℤ) (m : Model) (plan : List ℤ) where
@@ -32,6 +34,7 @@ module _ (prices : List ℤ) (m : Model) (plan : List ℤ) where
   no_classes parents e = subst (AreClasses prices m plan 0) (sym e) (record {
     labels = range_with_len 0 n;
     by_place = length-range_with_len 0 n;
+    labels_are = refl;
     forest = own_forest n;
     sound = λ u w hu hw same.
         let one : u ≡ w = omega (arith, get_or-range_with_len 0 n u 0 hu, get_or-range_with_len 0 n w 0 hw, same) in
@@ -48,6 +51,8 @@ module _ (prices : List ℤ) (m : Model) (plan : List ℤ) where
       record {
         labels = c.labels;
         by_place = c.by_place;
+        labels_are = c.labels_are
+            ∙ sym (ap (λ b. merged_if b (lowest prices m plan k) (route k).tail (route k).head) (tight_fails prices (route k) (get_or plan k (pos 0)) tight));
         forest = c.forest;
         sound = c.sound;
         complete = λ i h loose.
@@ -94,6 +99,8 @@ module _ (prices : List ℤ) (m : Model) (plan : List ℤ) where
       record {
         labels = merged c.labels a b;
         by_place = long ∙ c.by_place;
+        labels_are = ap (λ ls. merged_if true ls t h) c.labels_are
+            ∙ sym (ap (λ b. merged_if b (lowest prices m plan k) t h) (loose_passes prices (route k) (get_or plan k (pos 0)) loose));
         forest = forest;
         sound = λ u w hu hw same.
             elim (same_merged a b (entry c.labels u) (entry c.labels w) (sym (at u hu) ∙ same ∙ at w hw)) [
@@ -166,6 +173,11 @@ module _ (prices : List ℤ) (m : Model) (plan : List ℤ) where
         in_order = ordered;
       }
 
+  -- the numbers of these classes are those of the groups
+  pub groups_are : (parents groups : List ℕ) → AreClasses prices m plan (length m.routes) parents
+      → ((labels : List ℕ) → IsForest parents labels → groups ≡ numbers_by labels) → groups ≡ groups_by prices m plan
+  groups_are parents groups c numbers = numbers c.labels c.forest ∙ ap numbers_by c.labels_are
+
 -- ---- exact savings
 
 either : (p q : Bool) {A B : Type 0} → Decides p A → Decides q B → IsTrue (p || q) ↔ (A ⊎ B)
@@ -188,3 +200,12 @@ exact_iff m prices plan groups place saves sound h g e =
   where
     same : (a b : ℕ) → Decides (a == b) (a ≡ b)
     same a b = (λ e. eqb-true a b e, λ e. eq-eqb a b e)
+
+-- the same of a route's number, which counts from 1
+pub exact_at : (m : Model) (prices plan : List ℤ) (groups : List ℕ) (k : ℕ) → IsSound m → IsRouteNumber m k → AreGroups prices m plan groups
+    → (IsTrue (row_told m prices plan groups k).exact ↔ IsExact prices m plan k)
+exact_at m prices plan groups k sound h g =
+    let inside : k - 1 < length m.routes = omega (arith, h.0, h.1) in
+    let named : suc (k - 1) ≡ k = omega (arith, h.0) in
+    subst (λ j. IsTrue (is_exact_by m groups (k - 1) (saving prices (route_at m k))) ↔ IsExact prices m plan j) named
+    (exact_iff m prices plan groups (k - 1) (saving prices (route_at m k)) sound inside g refl)

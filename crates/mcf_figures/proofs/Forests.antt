@@ -5,10 +5,10 @@ use Rattle.std.specs.List.{range_with_len}
 use Rattle.std.proofs.Math.Seq.{get_or-append_seam}
 use Rattle.std.proofs.lemmas.Bool.{cases_eq, cases_lt, eq-eqb, ne_eqb}
 use Rattle.std.proofs.lemmas.Grind.{get_or-set_at}
-use Rattle.std.proofs.lemmas.List.{get_or-map, get_or-set_other, get_or_append_left, length-map, length-set}
+use Rattle.std.proofs.lemmas.List.{ext_get_or, get_or-map, get_or-set_other, get_or_append_left, length-map, length-set}
 use Rattle.std.proofs.lemmas.List.FromFn.{get_or-range_with_len, length-range_with_len}
-use Rattle.mcf_figures.specs.Groups.{AreInOrder}
-use Rattle.mcf_figures.specs.Private.Forests.{AreAlike, Falls, IsForest, entry, greatest, merged, next_number, relabelled}
+use Rattle.mcf_figures.specs.Groups.{AreInOrder, entry, firsts, merged, numbers_by, relabelled}
+use Rattle.mcf_figures.specs.Private.Forests.{AreAlike, Falls, IsForest, greatest, next_number}
 
 -- ---- a parent changed
 
@@ -240,9 +240,27 @@ pub record AreNumbered (parents made : List ℕ) (place count : ℕ) : Type 0 wh
   pub greatest_is : greatest 0 made ≡ count
   pub few : count ≤ place
   pub alike : (labels : List ℕ) → IsForest parents labels → AreAlike labels made place
+  pub counted : (labels : List ℕ) → IsForest parents labels → count ≡ firsts labels place
+  pub numbers : (labels : List ℕ) → IsForest parents labels → (u : ℕ) → u < place → entry made u ≡ firsts labels (suc (entry labels u))
 
 pub none_numbered : (parents : List ℕ) → AreNumbered parents [] 0 0
-none_numbered parents = record { as_long = refl; in_order = tt; greatest_is = refl; few = omega arith; alike = λ labels f u w h k. absurd (omega (arith, h)) }
+none_numbered parents =
+    record {
+      as_long = refl;
+      in_order = tt;
+      greatest_is = refl;
+      few = omega arith;
+      alike = λ labels f u w h k. absurd (omega (arith, h));
+      counted = λ labels f. refl;
+      numbers = λ labels f u h. absurd (omega (arith, h));
+    }
+
+-- the lowest place of a class is one more of those that are counted, and no other place is
+first_own : (labels : List ℕ) (v : ℕ) → entry labels v ≡ v → firsts labels (suc v) ≡ suc (firsts labels v)
+first_own labels v e = rw (eq-eqb (entry labels v) v e) (omega arith)
+
+first_other : (labels : List ℕ) (v : ℕ) → entry labels v ≢ v → firsts labels (suc v) ≡ firsts labels v
+first_other labels v n = rw (ne_eqb (entry labels v) v n) (omega arith)
 
 next_cases : (parents made : List ℕ) (place count : ℕ) → Falls parents → place < length parents
     → ((entry parents place ≡ place) × (next_number parents made place count ≡ suc count))
@@ -281,6 +299,16 @@ numbered_next parents made place count falls h s =
       greatest_is = greatest_push 0 made x ∙ ap (λ c. max c x) s.greatest_is;
       few = omega (arith, bounds.1, s.few);
       alike = λ labels f u w hu hw. pairs labels f u w hu hw;
+      counted = λ labels f.
+          let one : place + 1 ≡ suc place = omega arith in
+          (numbered_at labels f).1 ∙ ap (firsts labels) (sym one);
+      numbers = λ labels f u hu.
+          elim (cases_eq u place) [
+            | inl e ↦ last u e ∙ (numbered_at labels f).0 ∙ ap (λ v. firsts labels (suc (entry labels v))) (sym e)
+            | inr n ↦
+                let k : u < place = omega (arith, n, hu) in
+                before u k ∙ s.numbers labels f u k
+          ];
     }
   where
     next_bounds : (1 ≤ next_number parents made place count) × (next_number parents made place count ≤ suc count)
@@ -300,6 +328,27 @@ numbered_next parents made place count falls h s =
 
     last : (u : ℕ) → u ≡ place → entry (made ++ x ∷ []) u ≡ x
     last u e = ap (entry (made ++ x ∷ [])) (e ∙ sym s.as_long) ∙ get_or-append_seam made x [] 0
+
+    numbered_at : (labels : List ℕ) → IsForest parents labels → (x ≡ firsts labels (suc (entry labels place))) × (max count x ≡ firsts labels (suc place))
+    numbered_at labels f =
+        let c = s.counted labels f in
+        elim (next_cases parents made place count falls h) [
+          | inl root ↦
+              let own = f.own place h root.0 in
+              let first = first_own labels place own in (
+                root.1 ∙ ap suc c ∙ sym first ∙ ap (λ l. firsts labels (suc l)) (sym own),
+                omega (arith, root.1, first, c),
+              )
+          | inr child ↦
+              let p = entry parents place in
+              let same = f.same place h in
+              let low = f.low p (omega (arith, child.0, h)) in
+              let other = first_other labels place (λ e. omega (arith, e, same, low, child.0)) in
+              let each = each_number 0 made p s.in_order (omega (arith, child.0, s.as_long)) in (
+                child.1 ∙ s.numbers labels f p child.0 ∙ ap (λ l. firsts labels (suc l)) same,
+                omega (arith, child.1, other, c, each.1, s.greatest_is),
+              )
+        ]
 
     pairs : (labels : List ℕ) → IsForest parents labels → AreAlike labels (made ++ x ∷ []) (place + 1)
     pairs labels f u w hu hw =
@@ -341,3 +390,12 @@ numbered_more parents made after place count number top falls h s e f g =
     subst (λ xs. AreNumbered parents xs (place + 1) top) (sym g)
     (subst (AreNumbered parents (made ++ number ∷ []) (place + 1)) (sym f)
     (subst (λ x. AreNumbered parents (made ++ x ∷ []) (place + 1) (max count x)) (sym e) (numbered_next parents made place count falls h s)))
+
+-- all numbers
+pub numbers_are : (parents labels made : List ℕ) (place count : ℕ) → AreNumbered parents made place count → length parents ≤ place → IsForest parents labels
+    → length made ≡ length parents → made ≡ numbers_by labels
+numbers_are parents labels made place count s top f long =
+    let same : length made ≡ length (numbers_by labels) = long ∙ sym f.as_long ∙ sym (length-map labels (λ low. firsts labels (suc low))) in
+    ext_get_or 0 made (numbers_by labels) same
+    (λ i h. s.numbers labels f i (omega (arith, h, long, top))
+    ∙ sym (get_or-map (λ low. firsts labels (suc low)) labels i 0 0 (omega (arith, h, long, f.as_long))))

@@ -6,4 +6,6 @@ mod FigureBounds
 mod Told
 mod LooseRoutes
 mod Forests
+mod LooseTests
+mod StepCosts
 mod Classes

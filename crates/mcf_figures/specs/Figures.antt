@@ -1,9 +1,11 @@
 -- The figures of a plan: what is free on a route, what one more unit saves there, and the places
 -- between which a unit costs what the prices say.
 -- Source: own, after AMO 9.2 and 9.11
-use Rattle.std.specs.Prelude.{◌≡◌, ℕ, ◌-◌, ◌^◌, Bool, List, [], ◌∷◌, if◌then◌else◌, ℤ, pos, ◌+ℤ◌, ◌-ℤ◌, Option, Some, None, option_map, slice_index_or, ◌⊎◌}
+use Rattle.std.specs.Prelude.{◌≡◌, ℕ, ◌-◌, ◌^◌, Bool, true, ◌&&◌, List, [], ◌∷◌, if◌then◌else◌, int_le, ℤ, pos, ◌+ℤ◌, ◌-ℤ◌, Option, Some, None, option_map, slice_index_or, ◌⊎◌}
 use Rattle.std.specs.Int.{int_max}
 use Rattle.std.specs.List.{All}
+use Rattle.std.specs.Ordering.{int_eq}
+use Rattle.mcf_model.specs.declared.rows.Step.{Step}
 use Rattle.mcf_model.specs.Model.{MayCarry, Model, Route, charged, room}
 use Rattle.mcf_model.specs.Prices.{price_drop, reduced_route_cost}
 use Rattle.mcf_model.specs.Tables.{IsRouteNumber, route_at}
@@ -45,6 +47,24 @@ pub record IsLoose (prices : List ℤ) (r : Route) (x : ℤ) : Type 0 where
   pub may_less : MayCarry r (x -ℤ pos 1)
   pub more_is : reduced_route_cost prices r (x +ℤ pos 1) ≡ reduced_route_cost prices r x
   pub less_is : reduced_route_cost prices r (x -ℤ pos 1) ≡ reduced_route_cost prices r x
+
+-- the test of an amount that fits the steps
+abbrev pub fits : List Step → Option ℤ → ℤ → Bool
+fits steps (Some last_most) x = int_le x (room steps last_most)
+fits steps None x = true
+
+-- the test of an amount that a route may carry
+abbrev pub may_carry : Route → ℤ → Bool
+may_carry r x = int_le r.least (charged r.both x) && fits r.steps r.last_most (charged r.both x)
+
+-- the test of two amounts that a route carries at the same reduced cost
+abbrev pub costs_the_same : List ℤ → Route → ℤ → ℤ → Bool
+costs_the_same prices r x y = int_eq (reduced_route_cost prices r x) (reduced_route_cost prices r y)
+
+-- the test of a loose route
+abbrev pub is_loose : List ℤ → Route → ℤ → Bool
+is_loose prices r x =
+    (may_carry r (x +ℤ pos 1) && may_carry r (x -ℤ pos 1)) && (costs_the_same prices r (x +ℤ pos 1) x && costs_the_same prices r (x -ℤ pos 1) x)
 
 -- a route in one of its directions
 pub record Link : Type 0 where

@@ -6,4 +6,5 @@ pub mod Figures
 pub mod FigureLaws
 pub mod Told
 pub mod Groups
+pub mod Rows
 pub mod Private

@@ -25,7 +25,7 @@ pub struct RouteFigures {
 }
 
 // Returns the number at a place, or 0 past the end.
-fn number_at(numbers: &[i128], place: usize) -> i128
+pub(crate) fn number_at(numbers: &[i128], place: usize) -> i128
     ensures { result ≡ slice_index_or numbers.now place (pos 0) }
 {
     if place < numbers.len() {
@@ -36,7 +36,7 @@ fn number_at(numbers: &[i128], place: usize) -> i128
 }
 
 // Returns the price of a place, or 0 if it has none.
-fn price_of(prices: &[i128], node: u32) -> i128
+pub(crate) fn price_of(prices: &[i128], node: u32) -> i128
     ensures { result ≡ at_node prices.now node }
 {
     number_at(prices, (node as usize).saturating_sub(1))
@@ -66,7 +66,7 @@ fn numbers_of(row: RouteRow, own: &[Step], carried: i128, drop: i128) -> RouteFi
 }
 
 // Returns the figures of a route that carries an amount, if the prices at its ends are these.
-fn figures_of(
+pub(crate) fn figures_of(
     row: RouteRow,
     own: &[Step],
     carried: i128,

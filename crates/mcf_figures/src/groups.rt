@@ -1,10 +1,11 @@
 //! Groups of places that loose routes join.
 ghost use Rattle.std.specs.Prelude.{◌≡◌, ◌==◌, ◌||◌, ◌<◌, ◌≤◌, ◌↔◌, ℕ, ℤ, List, IfNone, IfOk, IfSome, IsTrue, OnErr, false, length, slice_index_or, slice_set, suc, true};
 ghost use Rattle.std.specs.List.{range_with_len};
-ghost use Rattle.mcf_model.specs.Tables.{no_route};
+ghost use Rattle.mcf_model.specs.Tables.{IsRouteNumber, no_route};
 ghost use Rattle.mcf_figures.specs.Figures.{IsExact, saving};
-ghost use Rattle.mcf_figures.specs.Groups.{AreGroups, AreInOrder, HaveFigures, group_at, is_exact_by};
-ghost use Rattle.mcf_figures.specs.Private.Forests.{AreAlike, AreClasses, Falls, IsForest, entry, merged, next_number};
+ghost use Rattle.mcf_figures.specs.Groups.{AreGroups, AreInOrder, HaveFigures, entry, group_at, groups_by, is_exact_between, is_exact_by, merged, numbers_by};
+ghost use Rattle.mcf_figures.specs.Private.Forests.{AreAlike, AreClasses, Falls, IsForest, next_number};
+ghost use Rattle.mcf_figures.specs.Rows.{row_told};
 ghost use Rattle.mcf_figures.specs.Told.{HasFigures};
 
 use crate::figures::route_figures;
@@ -140,6 +141,7 @@ fn numbered(alloc: Global, parents: &[usize]) -> Result<Vec<usize>, NoMemory>
     requires { Falls parents.now }
     ensures as_long { IfOk result (λ made. length made.items ≡ length parents.now) }
     ensures alike { IfOk result (λ made. (labels : List ℕ) → IsForest parents.now labels → AreAlike labels made.items (length parents.now)) }
+    ensures value { IfOk result (λ made. (labels : List ℕ) → IsForest parents.now labels → made.items ≡ numbers_by labels) }
     ensures in_order { IfOk result (λ made. AreInOrder 0 made.items) }
     ensures wants { OnErr result (1 ≤ length parents.now) }
 {
@@ -156,7 +158,7 @@ fn numbered(alloc: Global, parents: &[usize]) -> Result<Vec<usize>, NoMemory>
 /// Returns the number of the group of each place of a model, in a plan at the prices that show it.
 /// Two places have one number just where loose routes join them: then a unit costs at one place
 /// just as much more than at the other as the prices say. Groups are numbered from 1, in the order
-/// of their first places.
+/// of their first places. By them `row_figures` tells which savings are exact.
 ///
 /// It is `None` if there are no figures of some route: `route_figures` says when.
 ///
@@ -169,6 +171,9 @@ pub fn groups_of(
     carries: &[i128],
 ) -> Result<Option<Vec<usize>>, NoMemory>
     ensures some { IfOk result (λ made. IfSome made (λ groups. AreGroups prices.now model.now carries.now groups.items)) }
+    ensures value { IfOk result (λ made. IfSome made (λ groups. groups.items ≡ groups_by prices.now model.now carries.now)) }
+    ensures exact { IfOk result (λ made. IfSome made (λ groups. (number : ℕ) → IsRouteNumber model.now number
+        → (IsTrue (row_told model.now prices.now carries.now groups.items number).exact ↔ IsExact prices.now model.now carries.now number))) }
     ensures none { IfOk result (λ made. IfNone made (¬ HaveFigures model.now prices.now carries.now)) }
     ensures have { IfOk result (λ made. IfSome made (λ groups. HaveFigures model.now prices.now carries.now)) }
     ensures wants { OnErr result (1 ≤ length model.now.supplies) }
@@ -208,6 +213,15 @@ fn either(first: bool, second: bool) -> bool
     first || second
 }
 
+// Returns whether a saving is 0, or the ends of its route are in one group.
+pub(crate) fn is_exact_between(groups: &[usize], tail: u32, head: u32, saves: i128) -> bool
+    ensures { result ≡ is_exact_between groups.now tail head saves }
+{
+    let none = is_zero(saves);
+    let joined = are_together(groups, tail, head);
+    either(none, joined)
+}
+
 /// Returns whether what one more unit of room on a route saves is exact: it is 0, or loose routes
 /// join the ends of the route. The place of the route counts from 0, and the groups are those of
 /// `groups_of`.
@@ -219,7 +233,5 @@ pub fn is_exact(model: &PlanModel, groups: &[usize], place: usize, saves: i128) 
         → (IsTrue result ↔ IsExact prices model.now plan (suc place)) }
 {
     let row = model.route(place).row;
-    let none = is_zero(saves);
-    let joined = are_together(groups, row.tail, row.head);
-    either(none, joined)
+    is_exact_between(groups, row.tail, row.head, saves)
 }

@@ -5,12 +5,15 @@
 //!
 //! It builds on `mcf_model`, whose least plans come with prices that show them. The definitions are
 //! in `specs/`: `Changes` has models with one unit more, `Figures` the figures, `Groups` the groups
-//! of places, and `FigureLaws` what the figures say of these models. No definition names a network.
+//! of places, `Told` and `Rows` what is told of a route, and `FigureLaws` what the figures say of
+//! these models. No definition names a network.
 
+mod costs;
 mod figure_laws;
 mod figures;
 mod groups;
 mod loose;
+mod rows;
 mod units;
 
 pub use figure_laws::{
@@ -18,3 +21,4 @@ pub use figure_laws::{
 };
 pub use figures::{RouteFigures, route_figures};
 pub use groups::{groups_of, is_exact};
+pub use rows::{RowFigures, are_small, row_figures};

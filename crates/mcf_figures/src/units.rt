@@ -5,6 +5,7 @@ ghost use Rattle.mcf_flows.specs.WellFormed.{IsUpTo};
 ghost use Rattle.mcf_model.specs.Model.{charged, room};
 ghost use Rattle.mcf_model.specs.Tables.{route_with};
 ghost use Rattle.mcf_figures.specs.Figures.{figure_limit, free, saving_if};
+ghost use Rattle.mcf_figures.specs.Told.{is_up_to};
 
 use mcf_model::{RouteRow, Step, room};
 
@@ -13,7 +14,8 @@ const LIMIT: i128 = 1_000_000_000_000_000_000_000_000_000_000_000_000;
 
 /// Returns whether a number is within the limit of figures.
 pub(crate) fn is_small(number: i128) -> bool
-    ensures { IsTrue result ↔ IsUpTo figure_limit number }
+    ensures limit { IsTrue result ↔ IsUpTo figure_limit number }
+    ensures test { result ≡ is_up_to figure_limit number }
 {
     -LIMIT <= number && number <= LIMIT
 }

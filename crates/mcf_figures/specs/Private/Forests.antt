@@ -1,14 +1,11 @@
 -- Classes of numbers as trees: each number has a parent in its class, which is itself or a lower
 -- one. The class is known by a label, its lowest number.
 -- Source: own, after CLRS 21.3
-use Rattle.std.specs.Prelude.{◌≡◌, ℕ, suc, ◌-◌, ◌<◌, ◌≤◌, ◌==◌, min, max, if◌then◌else◌, List, [], ◌∷◌, length, map, ℤ, pos, slice_index_or, ◌↔◌}
+use Rattle.std.specs.Prelude.{◌≡◌, ℕ, suc, ◌-◌, ◌<◌, ◌≤◌, ◌==◌, max, if◌then◌else◌, List, [], ◌∷◌, length, ℤ, pos, slice_index_or, ◌↔◌}
 use Rattle.mcf_model.specs.Model.{Model}
 use Rattle.mcf_model.specs.Tables.{no_route}
 use Rattle.mcf_figures.specs.Figures.{AreJoined, IsLoose}
-
--- entry v of a list, whose first is entry 0
-abbrev pub entry : List ℕ → ℕ → ℕ
-entry xs v = slice_index_or xs v 0
+use Rattle.mcf_figures.specs.Groups.{entry, lowest}
 
 -- no parent is greater than its child
 abbrev pub Falls : List ℕ → Type 0
@@ -23,19 +20,12 @@ pub record IsForest (parents labels : List ℕ) : Type 0 where
   pub same : (v : ℕ) → v < length parents → entry labels (entry parents v) ≡ entry labels v
   pub own : (v : ℕ) → v < length parents → entry parents v ≡ v → entry labels v ≡ v
 
--- the label of a number, after the class with label `high` joined that with label `low`
-abbrev pub relabelled : ℕ → ℕ → ℕ → ℕ
-relabelled high low label = if label == high then low else label
-
--- the labels, after the classes with two labels are joined
-abbrev pub merged : List ℕ → ℕ → ℕ → List ℕ
-merged labels a b = map (relabelled (max a b) (min a b)) labels
-
 -- the classes of places that the first `count` routes join, as far as they are loose; places count
 -- from 0 here
 pub record AreClasses (prices : List ℤ) (m : Model) (plan : List ℤ) (count : ℕ) (parents : List ℕ) : Type 0 where
   pub labels : List ℕ
   pub by_place : length parents ≡ length m.supplies
+  pub labels_are : labels ≡ lowest prices m plan count
   pub forest : IsForest parents labels
   pub sound : (u w : ℕ) → u < length m.supplies → w < length m.supplies → entry labels u ≡ entry labels w → AreJoined prices m plan (suc u) (suc w)
   pub complete : (k : ℕ) → k < count → IsLoose prices (slice_index_or m.routes k no_route) (slice_index_or plan k (pos 0))

@@ -20,7 +20,7 @@ returns-then-small_head-clause-small c =
     let t : to_z w128 (of_z w128 c.args.tail) ≡ c.args.tail = omega (arith, ints, c.ranges.tail.sfits) in
     let h : to_z w128 (of_z w128 c.args.head) ≡ c.args.head = omega (arith, ints, c.ranges.head.sfits) in
     record {
-      amount = subst (IsUpTo figure_limit) x (c.is_small-small.ensures.0 c.if-small.true);
-      at_tail = subst (IsUpTo figure_limit) t (c.is_small-small_tail.ensures.0 c.if-small_tail.true);
-      at_head = subst (IsUpTo figure_limit) h (c.is_small-small_head.ensures.0 c.if-small_head.true);
+      amount = subst (IsUpTo figure_limit) x (c.is_small-small.ensures.limit.0 c.if-small.true);
+      at_tail = subst (IsUpTo figure_limit) t (c.is_small-small_tail.ensures.limit.0 c.if-small_tail.true);
+      at_head = subst (IsUpTo figure_limit) h (c.is_small-small_head.ensures.limit.0 c.if-small_head.true);
     }

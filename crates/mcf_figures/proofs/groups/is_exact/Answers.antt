@@ -7,6 +7,6 @@ use Rattle.mcf_figures.proofs.groups.is_exact.Goals as goal
 
 pub returns-clause-exact : goal.returns-clause-exact
 returns-clause-exact c prices plan g e =
-    let value : c.either.result ≡ is_exact_by c.args.model.now c.args.groups.now c.args.place c.args.saves = search rules in
+    let value : c.is_exact_between.result ≡ is_exact_by c.args.model.now c.args.groups.now c.args.place c.args.saves = search rules in
     subst (λ t. IsTrue t ↔ IsExact prices c.args.model.now plan (suc c.args.place)) (sym value)
     (exact_iff c.args.model.now prices plan c.args.groups.now c.args.place c.args.saves (c.route.ensures.proper).sound c.requires g e)

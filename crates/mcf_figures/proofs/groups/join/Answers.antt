@@ -1,5 +1,6 @@
 use Rattle.std.proofs.Common.{◌≡◌, ◌<◌, ◌∙◌, ap, sym, subst, arith, length, set, max, min}
-use Rattle.mcf_figures.specs.Private.Forests.{IsForest, entry, merged}
+use Rattle.mcf_figures.specs.Groups.{entry, merged}
+use Rattle.mcf_figures.specs.Private.Forests.{IsForest}
 use Rattle.mcf_figures.proofs.Forests.{joined_forest}
 use Rattle.mcf_figures.proofs.groups.join.Goals as goal
 

@@ -1,6 +1,7 @@
 use Rattle.std.proofs.Common.{◌≡◌, ◌<◌, ◌∙◌, ap, sym, subst, arith, length, set}
 use Rattle.std.proofs.lemmas.List.{length-set}
-use Rattle.mcf_figures.specs.Private.Forests.{Falls, IsForest, entry}
+use Rattle.mcf_figures.specs.Groups.{entry}
+use Rattle.mcf_figures.specs.Private.Forests.{Falls, IsForest}
 use Rattle.mcf_figures.proofs.Forests.{halved_falls, halved_forest, twice_falls}
 use Rattle.mcf_figures.proofs.groups.root_of.Goals as goal
 

@@ -1,5 +1,6 @@
 use Rattle.std.proofs.Common.{◌≡◌, ◌<◌, List, ℕ, length}
-use Rattle.mcf_figures.specs.Private.Forests.{Falls, IsForest, entry}
+use Rattle.mcf_figures.specs.Groups.{entry}
+use Rattle.mcf_figures.specs.Private.Forests.{Falls, IsForest}
 use Rattle.mcf_figures.proofs.groups.root_of.Given as goal
 
 abbrev pub invariant-climb : goal.invariant-climb
