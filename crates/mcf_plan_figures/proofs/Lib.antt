@@ -2,3 +2,5 @@ mod ChangedModels
 mod RouteRooms
 mod ThroughRooms
 mod Units
+mod ToldFigures
+mod ToldLaws

@@ -41,7 +41,7 @@ same_exit_supply : (o : Option Bounds) (p : Place) → exit_supply (option_map e
 same_exit_supply (Some b) p = refl
 same_exit_supply None p = refl
 
-exit_by_some : (n m v : ℕ) (o q : Option Bounds) → n ≡ m → is_some o ≡ is_some q → exit_by n v o ≡ exit_by m v q
+pub exit_by_some : (n m v : ℕ) (o q : Option Bounds) → n ≡ m → is_some o ≡ is_some q → exit_by n v o ≡ exit_by m v q
 exit_by_some n m v (Some b) (Some c) e f = ap (λ k. k + 2 + v) e
 exit_by_some n m v (Some b) None e f = cc f
 exit_by_some n m v None (Some c) e f = cc f
@@ -70,7 +70,7 @@ map_same f g (r ∷ rs) e = ap (λ x. x ∷ map f rs) (e r) ∙ ap (λ xs. g r �
 
 -- ---- the routes made for places, by the number of places
 
-abbrev T : ℕ → ℕ → Place → Option Route
+abbrev pub T : ℕ → ℕ → Place → Option Route
 T n v p = option_map (λ (b : Bounds). plain_route v (n + 2 + v) b.least b.most b.cost) p.through
 
 abbrev S : Bool → ℕ → ℕ → Place → Option Route
@@ -253,7 +253,7 @@ module _ (most : ℤ) (P : Planner) (v : ℕ) (hv : IsNode (length P.places) v) 
       }
 
 -- the bounds of a place that has some
-bounds_of : (o : Option Bounds) → is_some o ≡ true → (b : Bounds) × (o ≡ Some b)
+pub bounds_of : (o : Option Bounds) → is_some o ≡ true → (b : Bounds) × (o ≡ Some b)
 bounds_of (Some b) h = (b, refl)
 bounds_of None h = cc h
 

@@ -5,3 +5,4 @@ pub use Rattle.mcf_places.specs.PlannerLaws
 pub mod Changes
 pub mod PlannerFigures
 pub mod PlannerFigureLaws
+pub mod Told

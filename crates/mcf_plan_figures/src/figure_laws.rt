@@ -1,6 +1,7 @@
 //! Laws about the figures of planners' plans. Each is the contract of a function that only cites
 //! other laws.
 ghost use Rattle.mcf_plan_figures.specs.PlannerFigureLaws.{ExactRouteSavingsAreReached, ExactThroughSavingsAreReached, JoinedUnitsCostThat, RouteSavingsAreBounds, ThroughSavingsAreBounds, UnitsCostNoLess};
+ghost use Rattle.mcf_plan_figures.specs.Told.{ToldFiguresAreThePlanners};
 
 use mcf_figures::{
     exact_savings_are_reached, joined_prices_are_reached, prices_are_bounds, savings_are_bounds,
@@ -65,4 +66,12 @@ pub fn joined_units_cost_that()
     planners_are_models();
     sound_planners_have_sound_models();
     joined_prices_are_reached();
+}
+
+/// What `plan_figures` tells of a model of a problem are the figures of the problem that the other
+/// laws speak of, and as much passes through a place as it tells.
+pub fn told_figures_are_the_planners()
+    ensures { ToldFiguresAreThePlanners }
+{
+    planners_are_models();
 }

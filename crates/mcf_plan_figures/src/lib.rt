@@ -5,12 +5,16 @@
 //!
 //! It builds on `mcf_figures`, which has the figures of models, and on `mcf_places`, whose least
 //! plans come with the model that they were found in. The definitions are in `specs/`: `Changes`
-//! has problems with one unit more, `PlannerFigures` the figures, and `PlannerFigureLaws` what they
-//! say of these problems. No definition names a network.
+//! has problems with one unit more, `PlannerFigures` the figures, `Told` what is told of a plan, and
+//! `PlannerFigureLaws` what the figures say of these problems. No definition names a network.
 
 mod figure_laws;
+mod figures;
 
 pub use figure_laws::{
     exact_route_savings_are_reached, exact_through_savings_are_reached, joined_units_cost_that,
-    route_savings_are_bounds, through_savings_are_bounds, units_cost_no_less,
+    route_savings_are_bounds, through_savings_are_bounds, told_figures_are_the_planners,
+    units_cost_no_less,
 };
+pub use figures::{PassFigures, PlaceFigures, PlanFigures, plan_figures};
+pub use mcf_figures::RowFigures;
