@@ -15,8 +15,11 @@ const ROUTES: &[u8] = b"from,to,most,cost\nMill,\"G \"\"raz\",20,1.5\n\"G \"\"ra
 
 const PLAN: &[u8] = b"\"answer\",\"plan\"\n\"cost\",\"21.875\"\n\"missing\",\"0\"\n\
 \"supply\",\"12.5\"\n\"demand\",\"12.5\"\n\
-\"route\",\"2\",\"Mill\",\"G \"\"raz\",\"12.5\"\n\"route\",\"3\",\"G \"\"raz\",\"Wien\",\"12.5\"\n\
-\"place\",\"2\",\"Mill\",\"0\",\"0\"\n\"place\",\"3\",\"G \"\"raz\",\"0\",\"0\"\n\"place\",\"4\",\"Wien\",\"0\",\"0\"\n";
+\"route\",\"2\",\"Mill\",\"G \"\"raz\",\"12.5\",\"18.75\",\"7.5\",\"0\",\"yes\"\n\
+\"route\",\"3\",\"G \"\"raz\",\"Wien\",\"12.5\",\"3.125\",\"\",\"0\",\"yes\"\n\
+\"place\",\"2\",\"Mill\",\"0\",\"0\",\"0\",\"1\",\"\",\"\",\"\",\"\",\"\"\n\
+\"place\",\"3\",\"G \"\"raz\",\"0\",\"0\",\"1.5\",\"1\",\"\",\"\",\"\",\"\",\"\"\n\
+\"place\",\"4\",\"Wien\",\"0\",\"0\",\"1.75\",\"1\",\"\",\"\",\"\",\"\",\"\"\n";
 
 // The mark, and the rows of these places.
 const PLACES_AGAIN: &[u8] = b"\"mark\",\".\"\n\"heads\",\"places\",\"1\",\"name\",\"supply\"\n\
@@ -98,6 +101,97 @@ fn the_tables_are_told_whole(rt: HostRuntime) -> Result<(), Fail> {
     let routes = b"\"heads\",\"routes\",\"1\",\"from\",\"to\",\"most\",\"cost\"\n\
 \"row\",\"routes\",\"2\",\"Mill\",\"Town\",\"3\",\"1\"\n";
     assert!(rt; told.text.ends_with(routes) && before(&told.text, routes.len()).ends_with(places));
+    Ok(())
+}
+
+// The tables and the results of examples/plans/models: two places with bounds, steps, and routes
+// both ways, of which two have ways back of their own and one is used backwards.
+const WAY_PLACES: &[u8] = b"name,supply,most,cost\n\
+Rostock,70,,\n\
+Triest,60,,\n\
+Hof,0,65,1.5\n\
+Leipzig,0,,0.5\n\
+Prag,-45,,\n\
+Wien,-50,,\n\
+Berlin,-35,,\n";
+
+const WAY_ROUTES: &[u8] = b"from,to,most,cost,most 2,cost 2,both\n\
+Rostock,Berlin,,4,,,\n\
+Rostock,Leipzig,20,5,25,8,\n\
+Triest,Wien,30,6,30,9.5,\n\
+Triest,Hof,40,11,,,\n\
+Leipzig,Hof,30,3,,,yes\n\
+Leipzig,Prag,30,4,20,6,\n\
+Hof,Prag,40,5,,,\n\
+Hof,Wien,25,7,,,\n\
+Berlin,Leipzig,15,3,,,yes\n\
+Prag,Wien,20,5,,,yes\n";
+
+const WAY_PLAN: &[u8] = b"\"answer\",\"plan\"\n\
+\"cost\",\"1027.5\"\n\
+\"missing\",\"0\"\n\
+\"supply\",\"130\"\n\
+\"demand\",\"130\"\n\
+\"route\",\"2\",\"Rostock\",\"Berlin\",\"50\",\"200\",\"\",\"0\",\"yes\"\n\
+\"route\",\"3\",\"Rostock\",\"Leipzig\",\"20\",\"100\",\"25\",\"0\",\"yes\"\n\
+\"route\",\"4\",\"Triest\",\"Wien\",\"60\",\"465\",\"0\",\"0\",\"yes\"\n\
+\"route\",\"5\",\"Triest\",\"Hof\",\"0\",\"0\",\"40\",\"0\",\"yes\"\n\
+\"route\",\"6\",\"Leipzig\",\"Hof\",\"0\",\"0\",\"30\",\"0\",\"yes\"\n\
+\"route\",\"7\",\"Leipzig\",\"Prag\",\"35\",\"150\",\"15\",\"0\",\"yes\"\n\
+\"route\",\"8\",\"Hof\",\"Prag\",\"0\",\"0\",\"40\",\"0\",\"yes\"\n\
+\"route\",\"9\",\"Hof\",\"Wien\",\"0\",\"0\",\"25\",\"0\",\"yes\"\n\
+\"route\",\"10\",\"Berlin\",\"Leipzig\",\"15\",\"45\",\"0\",\"1\",\"no\"\n\
+\"route\",\"11\",\"Prag\",\"Wien\",\"-10\",\"50\",\"10\",\"0\",\"yes\"\n\
+\"back\",\"6\",\"Hof\",\"Leipzig\",\"0\",\"0\",\"30\",\"0\",\"yes\"\n\
+\"back\",\"10\",\"Leipzig\",\"Berlin\",\"0\",\"0\",\"15\",\"0\",\"yes\"\n\
+\"place\",\"2\",\"Rostock\",\"0\",\"0\",\"0\",\"1\",\"\",\"\",\"\",\"\",\"\"\n\
+\"place\",\"3\",\"Triest\",\"0\",\"0\",\"0\",\"2\",\"\",\"\",\"\",\"\",\"\"\n\
+\"place\",\"4\",\"Hof\",\"0\",\"0\",\"9.5\",\"9\",\"0\",\"0\",\"65\",\"0\",\"yes\"\n\
+\"place\",\"5\",\"Leipzig\",\"0\",\"0\",\"8.5\",\"4\",\"35\",\"17.5\",\"\",\"0\",\"yes\"\n\
+\"place\",\"6\",\"Prag\",\"0\",\"0\",\"14.5\",\"4\",\"\",\"\",\"\",\"\",\"\"\n\
+\"place\",\"7\",\"Wien\",\"0\",\"0\",\"9.5\",\"4\",\"\",\"\",\"\",\"\",\"\"\n\
+\"place\",\"8\",\"Berlin\",\"0\",\"0\",\"4\",\"1\",\"\",\"\",\"\",\"\",\"\"\n";
+
+// Those of examples/plans/degenerate: a plan in which no unit may move, so that what one more unit
+// saves is less than the prices say.
+const TIGHT_PLACES: &[u8] = b"name,supply\n\
+Depot A,30\n\
+Depot B,20\n\
+Markt 1,-20\n\
+Markt 2,-20\n\
+Markt 3,-10\n";
+
+const TIGHT_ROUTES: &[u8] = b"from,to,least,most,cost\n\
+Depot A,Markt 1,0,20,3\n\
+Depot A,Markt 2,0,10,5\n\
+Depot A,Markt 3,0,30,9\n\
+Depot B,Markt 1,0,20,6\n\
+Depot B,Markt 2,0,10,4\n\
+Depot B,Markt 3,0,10,2\n";
+
+const TIGHT_PLAN: &[u8] = b"\"answer\",\"plan\"\n\
+\"cost\",\"170\"\n\
+\"missing\",\"0\"\n\
+\"supply\",\"50\"\n\
+\"demand\",\"50\"\n\
+\"route\",\"2\",\"Depot A\",\"Markt 1\",\"20\",\"60\",\"0\",\"0\",\"yes\"\n\
+\"route\",\"3\",\"Depot A\",\"Markt 2\",\"10\",\"50\",\"0\",\"0\",\"yes\"\n\
+\"route\",\"4\",\"Depot A\",\"Markt 3\",\"0\",\"0\",\"30\",\"0\",\"yes\"\n\
+\"route\",\"5\",\"Depot B\",\"Markt 1\",\"0\",\"0\",\"20\",\"0\",\"yes\"\n\
+\"route\",\"6\",\"Depot B\",\"Markt 2\",\"10\",\"40\",\"0\",\"1\",\"no\"\n\
+\"route\",\"7\",\"Depot B\",\"Markt 3\",\"10\",\"20\",\"0\",\"0\",\"yes\"\n\
+\"place\",\"2\",\"Depot A\",\"0\",\"0\",\"0\",\"1\",\"\",\"\",\"\",\"\",\"\"\n\
+\"place\",\"3\",\"Depot B\",\"0\",\"0\",\"0\",\"2\",\"\",\"\",\"\",\"\",\"\"\n\
+\"place\",\"4\",\"Markt 1\",\"0\",\"0\",\"3\",\"3\",\"\",\"\",\"\",\"\",\"\"\n\
+\"place\",\"5\",\"Markt 2\",\"0\",\"0\",\"5\",\"4\",\"\",\"\",\"\",\"\",\"\"\n\
+\"place\",\"6\",\"Markt 3\",\"0\",\"0\",\"2\",\"5\",\"\",\"\",\"\",\"\",\"\"\n";
+
+#[test]
+fn figures_are_told(rt: HostRuntime) -> Result<(), Fail> {
+    let told = text_for(rt.alloc(), WAY_PLACES, WAY_ROUTES)?;
+    assert!(rt; told.text.as_slice() == WAY_PLAN);
+    let told = text_for(rt.alloc(), TIGHT_PLACES, TIGHT_ROUTES)?;
+    assert!(rt; told.text.as_slice() == TIGHT_PLAN);
     Ok(())
 }
 

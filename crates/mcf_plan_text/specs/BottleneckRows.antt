@@ -17,18 +17,15 @@ use Rattle.mcf_places.specs.declared.told.PlannerBottleneck.{PlannerBottleneck}
 use Rattle.mcf_table.specs.Texts.{Record}
 use Rattle.mcf_units.specs.declared.scales.Scales.{Scales}
 use Rattle.mcf_answer_rows.specs.AnswerRows.{answer_row, cell_under, line_at, number_row}
+use Rattle.mcf_plan_text.specs.Cells.{amount_text, yes_or_no}
 use Rattle.mcf_plan_text.specs.FaultRows.{TwoTables}
-use Rattle.mcf_plan_text.specs.PlanRows.{amount_text, balance_rows}
+use Rattle.mcf_plan_text.specs.PlanRows.{balance_rows}
 use Rattle.mcf_plan_text.specs.declared.bottleneck_rows.Led.{Led}
 
 -- the word of a side
 abbrev pub side_word : Side → List ℕ
 side_word Send = codes "send"
 side_word Take = codes "take"
-
--- yes or no
-abbrev pub yes_or_no : Bool → List ℕ
-yes_or_no given = if given then codes "yes" else codes "no"
 
 -- an amount, if it counts
 abbrev pub amount_if : Bool → Scales → ℤ → List ℕ

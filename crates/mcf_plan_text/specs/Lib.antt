@@ -3,8 +3,10 @@ pub use Rattle.mcf_answer_rows.specs.FaultWords
 pub use Rattle.mcf_answer_rows.specs.Lines
 pub use Rattle.mcf_answer_rows.specs.TableRows
 pub use Rattle.mcf_flow_tables.specs.TableAnswers
+pub use Rattle.mcf_plan_figures.specs.Told
 pub use Rattle.mcf_table.specs.Written
 pub mod BottleneckRows
+pub mod Cells
 pub mod FaultRows
 pub mod PlanRows
 pub mod PlanTexts

@@ -5,12 +5,13 @@ ghost use Rattle.mcf_model.specs.Bottlenecks.{limit_or_zero, route_room};
 ghost use Rattle.mcf_model.specs.Tables.{route_with};
 ghost use Rattle.mcf_places.specs.PlannerBottlenecks.{through_least, through_most};
 ghost use Rattle.mcf_places.specs.Planners.{given, wanted};
-ghost use Rattle.mcf_plan_text.specs.BottleneckRows.{amount_if, bottleneck_rows, is_away, is_here, is_way_back, led_row, led_rows, no_place, other_way, route_at, route_led_rows, row_of, set_row, set_rows, side_rows, side_word, there, way_word, yes_or_no};
+ghost use Rattle.mcf_plan_text.specs.BottleneckRows.{amount_if, bottleneck_rows, is_away, is_here, is_way_back, led_row, led_rows, no_place, other_way, route_at, route_led_rows, row_of, set_row, set_rows, side_rows, side_word, there, way_word};
 ghost use Rattle.mcf_plan_text.specs.FaultRows.{tables_in};
 ghost use Rattle.mcf_answer_rows.specs.Lines.{row_line, rows_text};
 
+use crate::cells::{amount_cell, yes_or_no};
 use crate::fault_rows::Two;
-use crate::plan_rows::{amount_cell, put_balance};
+use crate::plan_rows::put_balance;
 use mcf_answer_rows::{cell_under, line_cell, put_answer, put_line, put_number_row};
 use mcf_flows::Side;
 use mcf_model::{RouteParts, room};
@@ -28,13 +29,6 @@ fn side_word(side: Side) -> &'static [u8]
         Side::Send => b"send",
         Side::Take => b"take",
     }
-}
-
-// Yes or no.
-fn yes_or_no(given: bool) -> &'static [u8]
-    ensures { result.now ≡ yes_or_no given }
-{
-    if given { b"yes" } else { b"no" }
 }
 
 // An amount as a cell, if it counts.

@@ -7,5 +7,5 @@ use Rattle.mcf_plan_text.proofs.plan_rows.put_backs.Given as goal
 
 abbrev pub invariant-loop-place : goal.invariant-loop-place
 invariant-loop-place l =
-    l.out.items ++ rows_text (map (back_row l.scales l.routes (drop (row_count l.planner) l.carries) l.planner.returning) (range_with_len l.place (length l.planner.returning - l.place)))
-    ≡ l.initial.out.items ++ rows_text (back_rows l.planner l.scales l.routes l.carries)
+    l.out.items ++ rows_text (map (back_row l.scales l.routes (drop (row_count l.planner) l.ways.carries.now) (drop (row_count l.planner) l.ways.told.now) l.planner.returning) (range_with_len l.place (length l.planner.returning - l.place)))
+    ≡ l.initial.out.items ++ rows_text (back_rows l.planner l.scales l.routes l.ways.carries.now l.ways.told.now)

@@ -2,7 +2,7 @@ use Rattle.std.proofs.Common.{rules, ◌≡◌, ◌++◌, codes, OnOk}
 use Rattle.mcf_answer_rows.specs.AnswerRows.{number_row}
 use Rattle.mcf_answer_rows.specs.Lines.{row_line}
 use Rattle.mcf_places.specs.Planners.{all_given, all_wanted}
-use Rattle.mcf_plan_text.specs.PlanRows.{amount_text}
+use Rattle.mcf_plan_text.specs.Cells.{amount_text}
 use Rattle.mcf_plan_text.proofs.TableTexts.{pair_put}
 use Rattle.mcf_plan_text.proofs.plan_rows.put_balance.Goals as goal
 

@@ -6,5 +6,5 @@ use Rattle.mcf_plan_text.proofs.plan_rows.put_routes.Given as goal
 
 abbrev pub invariant-loop-place : goal.invariant-loop-place
 invariant-loop-place l =
-    l.out.items ++ rows_text (map (route_row l.scales l.routes l.carries) (range_with_len l.place (l.count - l.place)))
-    ≡ l.initial.out.items ++ rows_text (route_rows l.planner l.scales l.routes l.carries)
+    l.out.items ++ rows_text (map (route_row l.scales l.routes l.ways.carries.now l.ways.told.now) (range_with_len l.place (l.count - l.place)))
+    ≡ l.initial.out.items ++ rows_text (route_rows l.planner l.scales l.routes l.ways.carries.now l.ways.told.now)

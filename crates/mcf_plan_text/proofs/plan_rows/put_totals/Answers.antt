@@ -1,7 +1,7 @@
 use Rattle.std.proofs.Common.{rules, ◌≡◌, ◌++◌, codes, OnOk}
 use Rattle.mcf_answer_rows.specs.Lines.{row_line}
 use Rattle.mcf_answer_rows.specs.AnswerRows.{answer_row, number_row}
-use Rattle.mcf_plan_text.specs.PlanRows.{amount_text, cost_text}
+use Rattle.mcf_plan_text.specs.Cells.{amount_text, cost_text}
 use Rattle.mcf_answer_rows.proofs.RowTexts.{three_put}
 use Rattle.mcf_plan_text.proofs.plan_rows.put_totals.Goals as goal
 
