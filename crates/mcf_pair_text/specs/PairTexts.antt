@@ -1,7 +1,7 @@
 -- The answer to a table of persons and things as the text of a table. Each of its rows begins with
 -- a word that says what it is.
 -- Source: own
-use Rattle.std.specs.Prelude.{◌≡◌, ℕ, Bool, List, [], ◌∷◌, ◌++◌, codes, map, Option, Result, Ok, Err}
+use Rattle.std.specs.Prelude.{◌≡◌, ℕ, Bool, List, [], ◌∷◌, ◌++◌, codes, map, Option, None, Result, Ok, Err}
 use Rattle.mcf_answer_rows.specs.AnswerRows.{answer_row}
 use Rattle.mcf_answer_rows.specs.Lines.{comma}
 use Rattle.mcf_answer_rows.specs.TableRows.{mark_row, repeated_rows}
@@ -34,15 +34,14 @@ faults_row = answer_row (codes "faults")
 
 -- ---- the rows of an answer
 
--- the end of an answer that isn't of faults: the mark before decimals, and the table
+-- the end of an answer: the mark before decimals, and the table
 abbrev pub closing_rows : Sheet → Option Mark → List (List (List ℕ))
 closing_rows s mark = mark_row mark ∷ repeated_rows costs_word s.rows
 
--- a least choice, or persons and things that compete, and then the table; or the first number
--- beyond the limits
+-- a least choice, or persons and things that compete, or the first number beyond the limits
 abbrev pub roster_rows : Bool → Sheet → Entries → SolvedPairs → RosterAnswer → List (List (List ℕ))
-roster_rows maximise s said solved (Least choice) = choice_rows maximise s said solved.scale choice ++ closing_rows s said.mark
-roster_rows maximise s said solved (NoChoice competition) = competition_rows s said competition ++ closing_rows s said.mark
+roster_rows maximise s said solved (Least choice) = choice_rows maximise s said solved.scale choice
+roster_rows maximise s said solved (NoChoice competition) = competition_rows s said competition
 roster_rows maximise s said solved (Beyond fault) = faults_row ∷ beyond_row s said solved.origin fault ∷ []
 
 -- the answer to what a table says
@@ -51,14 +50,15 @@ said_rows maximise s said (TooGreat cells) = faults_row ∷ map (great_row s) ce
 said_rows maximise s said (Improper fault) = faults_row ∷ improper_row s said fault ∷ []
 said_rows maximise s said (Solved solved) = roster_rows maximise s said solved solved.answer
 
--- the answer to what a table says, as it was read; a table with faults has another answer
+-- the answer to what a table says, as it was read, and the table; one with faults has another
+-- answer
 abbrev pub read_rows : Bool → Sheet → Result Entries (List Fault) → ChoiceAnswer → List (List (List ℕ))
-read_rows maximise s (Ok said) answer = said_rows maximise s said answer
+read_rows maximise s (Ok said) answer = said_rows maximise s said answer ++ closing_rows s said.mark
 read_rows maximise s (Err faults) answer = []
 
 -- the answer to the rows of a table
 abbrev pub table_rows : Options → List Record → TableAnswer → List (List (List ℕ))
-table_rows options records (Faults faults) = faults_row ∷ map (cell_fault_row (sheet_of records)) faults
+table_rows options records (Faults faults) = (faults_row ∷ map (cell_fault_row (sheet_of records)) faults) ++ closing_rows (sheet_of records) None
 table_rows options records (Choice answer) = read_rows options.maximise (sheet_of records) (read_roster options.mark records) answer
 
 -- the answer to a text

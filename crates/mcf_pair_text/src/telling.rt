@@ -1,9 +1,10 @@
 //! The answer to a table of persons and things as text.
-ghost use Rattle.std.specs.Prelude.{◌≡◌, ◌++◌, IfOk, OnOk};
+ghost use Rattle.std.specs.Prelude.{◌≡◌, ◌++◌, ◌∷◌, IfOk, None, OnOk, map};
 ghost use Rattle.mcf_answer_rows.specs.Lines.{rows_text};
 ghost use Rattle.mcf_roster_reading.specs.Reading.{read_roster};
+ghost use Rattle.mcf_pair_text.specs.PairFaultRows.{cell_fault_row};
 ghost use Rattle.mcf_pair_text.specs.PairPlaces.{sheet_in};
-ghost use Rattle.mcf_pair_text.specs.PairTexts.{IsPairText, answer_kind, answer_rows, choice_kind, closing_rows, read_rows, roster_kind, roster_rows, said_rows, table_kind, table_rows};
+ghost use Rattle.mcf_pair_text.specs.PairTexts.{IsPairText, answer_kind, answer_rows, choice_kind, closing_rows, faults_row, read_rows, roster_kind, roster_rows, said_rows, table_kind, table_rows};
 
 use crate::fault_rows::{put_beyond, put_cell_faults, put_greats, put_improper, put_text_fault};
 use crate::pages::{Page, page_of};
@@ -14,7 +15,7 @@ use mcf_decimal::Mark;
 use mcf_model::Solves;
 use mcf_pair_tables::{ChoiceAnswer, Options, PairAnswer, SolvedPairs, TableAnswer, plan_pairs};
 use mcf_roster::RosterAnswer;
-use mcf_roster_reading::{RosterTable, read};
+use mcf_roster_reading::{Fault, RosterTable, read};
 use mcf_table::Records;
 use mcf_text::NoMemory;
 use std::alloc::Global;
@@ -61,13 +62,9 @@ fn put_roster(
                 maximise,
                 scale: solved.scale,
             };
-            put_choice(alloc, out, page, table, unit, choice)?;
-            put_closing(alloc, out, page, table.mark())
+            put_choice(alloc, out, page, table, unit, choice)
         }
-        RosterAnswer::NoChoice(found) => {
-            put_competition(alloc, out, page, table, found)?;
-            put_closing(alloc, out, page, table.mark())
-        }
+        RosterAnswer::NoChoice(found) => put_competition(alloc, out, page, table, found),
         RosterAnswer::Beyond(fault) => {
             put_answer(out, b"faults")?;
             put_beyond(alloc, out, page, table, solved.origin, fault)
@@ -110,7 +107,24 @@ fn put_said(
     }
 }
 
-// Appends the answer to what a table says, which is read once more for its names and pairs.
+// Appends the answer to what a table says, and the table.
+fn put_answered(
+    alloc: Global,
+    out: &mut Vec<u8>,
+    page: Page<'_>,
+    table: &RosterTable<'_>,
+    maximise: bool,
+    answer: &ChoiceAnswer,
+) -> Result<(), NoMemory>
+    ensures { OnOk result (out.new.items ≡ out.old.items
+        ++ rows_text (said_rows maximise (sheet_in page.entry) table.now answer.now ++ closing_rows (sheet_in page.entry) table.now.mark)) }
+{
+    put_said(alloc, out, page, table, maximise, answer)?;
+    put_closing(alloc, out, page, table.mark())
+}
+
+// Appends the answer to what a table says, which is read once more for its names and pairs, and the
+// table.
 fn put_read(
     alloc: Global,
     out: &mut Vec<u8>,
@@ -122,7 +136,7 @@ fn put_read(
         ++ rows_text (read_rows options.maximise (sheet_in page.entry) (read_roster options.mark page.entry.records.now) answer.now)) }
 {
     match read(alloc, page.records, options.mark)? {
-        Ok(table) => put_said(alloc, out, page, &table, options.maximise, answer),
+        Ok(table) => put_answered(alloc, out, page, &table, options.maximise, answer),
         Err(_) => Ok(()),
     }
 }
@@ -137,7 +151,35 @@ fn table_kind(answer: &TableAnswer) -> TextKind
     }
 }
 
-// Appends the answer to the rows of a table.
+// Appends faults of heads and cells.
+fn put_faults(
+    alloc: Global,
+    out: &mut Vec<u8>,
+    page: Page<'_>,
+    faults: &[Fault],
+) -> Result<(), NoMemory>
+    ensures { OnOk result (out.new.items ≡ out.old.items
+        ++ rows_text (faults_row ∷ map (cell_fault_row (sheet_in page.entry)) faults.now)) }
+{
+    put_answer(out, b"faults")?;
+    put_cell_faults(alloc, out, page, faults)
+}
+
+// Appends faults of heads and cells, and the table.
+fn put_faulty(
+    alloc: Global,
+    out: &mut Vec<u8>,
+    page: Page<'_>,
+    faults: &[Fault],
+) -> Result<(), NoMemory>
+    ensures { OnOk result (out.new.items ≡ out.old.items
+        ++ rows_text ((faults_row ∷ map (cell_fault_row (sheet_in page.entry)) faults.now) ++ closing_rows (sheet_in page.entry) None)) }
+{
+    put_faults(alloc, out, page, faults)?;
+    put_closing(alloc, out, page, None)
+}
+
+// Appends the answer to the rows of a table, and these.
 fn put_table_answer(
     alloc: Global,
     out: &mut Vec<u8>,
@@ -149,10 +191,7 @@ fn put_table_answer(
 {
     let page = page_of(records);
     match answer {
-        TableAnswer::Faults(faults) => {
-            put_answer(out, b"faults")?;
-            put_cell_faults(alloc, out, page, faults.list())
-        }
+        TableAnswer::Faults(faults) => put_faulty(alloc, out, page, faults.list()),
         TableAnswer::Choice(answer) => put_read(alloc, out, page, options, answer),
     }
 }
@@ -187,10 +226,10 @@ fn text_of(alloc: Global, options: Options, answer: &PairAnswer) -> Result<PlanT
 /// kind, which is `plan`, `no plan` or `faults`. Of a choice, `cost` with what it costs, or what it
 /// is worth, and for each chosen pair `pair`, its line, the number of its column in a matrix, the
 /// person, the thing and what it costs. Of persons and things that compete, `side`, for each person
-/// `person`, the line and the name, and for each thing `thing`, the line and the name. At the end
-/// of both, `mark` with the mark before decimals, and the table: `heads` the row of the heads and
-/// `row` each further one, with `costs`, the line and all cells. For each fault `fault`, `costs`,
-/// the line, the column, what is wrong, and the cell.
+/// `person`, the line and the name, and for each thing `thing`, the line and the name. For each
+/// fault `fault`, `costs`, the line, the column, what is wrong, and the cell. At the end, unless
+/// the text is no table, `mark` with the mark before decimals that was settled, and the table:
+/// `heads` the row of the heads and `row` each further one, with `costs`, the line and all cells.
 ///
 /// # Errors
 ///

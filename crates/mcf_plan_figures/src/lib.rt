@@ -5,8 +5,8 @@
 //!
 //! It builds on `mcf_figures`, which has the figures of models, and on `mcf_places`, whose least
 //! plans come with the model that they were found in. The definitions are in `specs/`: `Changes`
-//! has problems with one unit more, `PlannerFigures` the figures, `Told` what is told of a plan, and
-//! `PlannerFigureLaws` what the figures say of these problems. No definition names a network.
+//! has problems with one unit more, `PlannerFigures` the figures, `Told` what is told of a plan,
+//! and `PlannerFigureLaws` what the figures say of these problems. No definition names a network.
 
 mod figure_laws;
 mod figures;

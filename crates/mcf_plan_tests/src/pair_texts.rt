@@ -112,15 +112,10 @@ fn after(text: &[u8], count: usize) -> &[u8] {
     }
 }
 
-// Whether a text has these rows, and then the table, unless it is of faults.
+// Whether a text has these rows, and then the table.
 fn has_rows(told: &PlanText, rows: &[u8]) -> bool {
     let rest = after(&told.text, rows.len());
-    let ends = if told.kind == TextKind::Faults {
-        rest.is_empty()
-    } else {
-        rest.starts_with(b"\"mark\",")
-    };
-    told.text.starts_with(rows) && ends
+    told.text.starts_with(rows) && rest.starts_with(b"\"mark\",")
 }
 
 #[test]
@@ -135,7 +130,7 @@ fn answers_to_pairs_are_told(rt: HostRuntime) -> Result<(), Fail> {
 // A table, what is asked, and the end of the text of the answer.
 type EndRow = (&'static [u8], Options, &'static [u8]);
 
-static ENDS: [EndRow; 3] = [
+static ENDS: [EndRow; 4] = [
     (
         b",X,Y\nA,1,2.5\n\nB,1,\n",
         PLAIN,
@@ -154,6 +149,12 @@ static ENDS: [EndRow; 3] = [
         PLAIN,
         b"\"mark\",\"\"\n\"heads\",\"costs\",\"1\",\"\",\"X\"\n\
 \"row\",\"costs\",\"2\",\"A\",\"1\"\n\"row\",\"costs\",\"3\",\"B\",\"1\"\n",
+    ),
+    (
+        b"Who,what,cost\nA,,0.5\n",
+        PLAIN,
+        b"\"mark\",\"\"\n\"heads\",\"costs\",\"1\",\"Who\",\"what\",\"cost\"\n\
+\"row\",\"costs\",\"2\",\"A\",\"\",\"0.5\"\n",
     ),
 ];
 

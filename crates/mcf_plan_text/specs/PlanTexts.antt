@@ -1,7 +1,7 @@
 -- The answer to two tables as the text of a table. Each of its rows begins with a word that says
 -- what it is.
 -- Source: own
-use Rattle.std.specs.Prelude.{◌≡◌, ℕ, List, [], ◌∷◌, ◌++◌, codes, map, Option}
+use Rattle.std.specs.Prelude.{◌≡◌, ℕ, List, [], ◌∷◌, ◌++◌, codes, map, Option, None}
 use Rattle.mcf_answer_rows.specs.AnswerRows.{answer_row}
 use Rattle.mcf_answer_rows.specs.Lines.{comma}
 use Rattle.mcf_answer_rows.specs.TableRows.{mark_row, repeated_rows}
@@ -17,6 +17,7 @@ use Rattle.mcf_flow_tables.specs.declared.answering.TableAnswer.{TableAnswer}
 use Rattle.mcf_flow_tables.specs.declared.answering.TableAnswer.TheVariants.{Faults, Problem}
 use Rattle.mcf_flow_tables.specs.declared.flow_answer.FlowAnswer.{FlowAnswer}
 use Rattle.mcf_flow_tables.specs.declared.flow_answer.FlowAnswer.TheVariants.{NoTables, Tables}
+use Rattle.mcf_flow_tables.specs.declared.flow_answer.SaidTables.{SaidTables}
 use Rattle.mcf_flow_tables.specs.declared.options.Options.{Options}
 use Rattle.mcf_places.specs.declared.answering.PlannerAnswer.{PlannerAnswer}
 use Rattle.mcf_places.specs.declared.answering.PlannerAnswer.TheVariants.{Beyond, Least, NoPlan}
@@ -32,14 +33,14 @@ faults_row = answer_row (codes "faults")
 
 -- ---- the rows of an answer
 
--- the end of an answer that isn't of faults: the mark before decimals, and both tables
+-- the end of an answer: the mark before decimals, and both tables
 abbrev pub closing_rows : TwoTables → Option Mark → List (List (List ℕ))
 closing_rows two mark = mark_row mark ∷ (repeated_rows (table_word Places) two.places ++ repeated_rows (table_word Routes) two.routes)
 
--- a least plan, or a bottleneck, and then both tables; or the first number beyond the limits
+-- a least plan, or a bottleneck, or the first number beyond the limits
 abbrev pub solved_rows : TwoTables → SolvedProblem → PlannerAnswer → List (List (List ℕ))
-solved_rows two s (Least plan) = plan_rows two s.planner s.scales plan ++ closing_rows two s.mark
-solved_rows two s (NoPlan bottleneck) = bottleneck_rows two s.planner s.scales bottleneck ++ closing_rows two s.mark
+solved_rows two s (Least plan) = plan_rows two s.planner s.scales plan
+solved_rows two s (NoPlan bottleneck) = bottleneck_rows two s.planner s.scales bottleneck
 solved_rows two s (Beyond fault) = faults_row ∷ beyond_row two s.origin fault ∷ []
 
 -- the answer to what tables say
@@ -53,10 +54,25 @@ abbrev pub table_rows : TwoTables → TableAnswer → List (List (List ℕ))
 table_rows two (Faults faults) = faults_row ∷ map (cell_fault_row two) faults
 table_rows two (Problem answer) = problem_rows two answer
 
--- the answer to two texts
+-- the mark that was settled, if the tables say a problem
+abbrev pub problem_mark : ProblemAnswer → Option Mark
+problem_mark (TooGreat faults) = None
+problem_mark (Improper faults) = None
+problem_mark (Solved s) = s.mark
+
+-- the mark that was settled, if the rows say a problem
+abbrev pub table_mark : TableAnswer → Option Mark
+table_mark (Faults faults) = None
+table_mark (Problem answer) = problem_mark answer
+
+-- the rows of two tables
+abbrev pub said_tables : SaidTables → TwoTables
+said_tables said = record { places = said.places; routes = said.routes }
+
+-- the answer to two texts; if both are tables, it ends with these
 abbrev pub answer_rows : FlowAnswer → List (List (List ℕ))
 answer_rows (NoTables broken) = faults_row ∷ (text_rows Places broken.places ++ text_rows Routes broken.routes)
-answer_rows (Tables said) = table_rows (record { places = said.places; routes = said.routes }) said.answer
+answer_rows (Tables said) = table_rows (said_tables said) said.answer ++ closing_rows (said_tables said) (table_mark said.answer)
 
 -- ---- its kind
 

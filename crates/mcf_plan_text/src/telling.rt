@@ -2,7 +2,7 @@
 ghost use Rattle.std.specs.Prelude.{◌≡◌, ◌++◌, ◌∷◌, [], IfOk, OnOk};
 ghost use Rattle.mcf_answer_rows.specs.Lines.{rows_text};
 ghost use Rattle.mcf_plan_text.specs.FaultRows.{tables_in};
-ghost use Rattle.mcf_plan_text.specs.PlanTexts.{IsPlanText, answer_kind, answer_rows, closing_rows, problem_kind, problem_rows, solved_kind, solved_rows, table_kind, table_rows};
+ghost use Rattle.mcf_plan_text.specs.PlanTexts.{IsPlanText, answer_kind, answer_rows, closing_rows, problem_kind, problem_mark, problem_rows, solved_kind, solved_rows, table_kind, table_mark, table_rows};
 
 use crate::bottleneck_rows::{Blocked, put_bottleneck};
 use crate::fault_rows::{
@@ -58,8 +58,7 @@ fn put_solved(
 {
     match &solved.answer {
         PlannerAnswer::Least(least) => {
-            put_plan(alloc, out, two, &solved.planner, solved.scales, least)?;
-            put_closing(alloc, out, two, solved.mark)
+            put_plan(alloc, out, two, &solved.planner, solved.scales, least)
         }
         PlannerAnswer::NoPlan(bottleneck) => {
             let blocked = Blocked {
@@ -67,8 +66,7 @@ fn put_solved(
                 scales: solved.scales,
                 bottleneck,
             };
-            put_bottleneck(alloc, out, two, blocked)?;
-            put_closing(alloc, out, two, solved.mark)
+            put_bottleneck(alloc, out, two, blocked)
         }
         PlannerAnswer::Beyond(fault) => {
             put_answer(out, b"faults")?;
@@ -137,6 +135,40 @@ fn put_table_answer(
     }
 }
 
+// The mark that was settled, if the tables say a problem.
+fn problem_mark(answer: &ProblemAnswer) -> Option<Mark>
+    ensures { result ≡ problem_mark answer.now }
+{
+    match answer {
+        ProblemAnswer::Solved(solved) => solved.mark,
+        _ => None,
+    }
+}
+
+// The mark that was settled, if the rows say a problem.
+fn table_mark(answer: &TableAnswer) -> Option<Mark>
+    ensures { result ≡ table_mark answer.now }
+{
+    match answer {
+        TableAnswer::Faults(_) => None,
+        TableAnswer::Problem(answer) => problem_mark(answer),
+    }
+}
+
+// Appends the answer to the rows of two tables, and these.
+fn put_said(
+    alloc: Global,
+    out: &mut Vec<u8>,
+    two: Two<'_>,
+    answer: &TableAnswer,
+) -> Result<(), NoMemory>
+    ensures { OnOk result (out.new.items ≡ out.old.items
+        ++ rows_text (table_rows (tables_in two.entry) answer.now ++ closing_rows (tables_in two.entry) (table_mark answer.now))) }
+{
+    put_table_answer(alloc, out, two, answer)?;
+    put_closing(alloc, out, two, table_mark(answer))
+}
+
 // The text of an answer.
 fn text_of(alloc: Global, answer: &FlowAnswer) -> Result<PlanText, NoMemory>
     ensures text { IfOk result (λ told. told.text.items ≡ rows_text (answer_rows answer.now)) }
@@ -158,7 +190,7 @@ fn text_of(alloc: Global, answer: &FlowAnswer) -> Result<PlanText, NoMemory>
                 places: &said.places,
                 routes: &said.routes,
             };
-            put_table_answer(alloc, &mut text, two, &said.answer)?;
+            put_said(alloc, &mut text, two, &said.answer)?;
             Ok(PlanText {
                 text,
                 kind: table_kind(&said.answer),
@@ -172,10 +204,10 @@ fn text_of(alloc: Global, answer: &FlowAnswer) -> Result<PlanText, NoMemory>
 /// `plan`, `no plan` or `faults`. Of a plan, `cost` and `missing` with their number, for each route
 /// `route`, its line, its ends and what it carries, and for each place `place`, its line, its name,
 /// what stays there and what is missing. Of a bottleneck, `side`, and for each of its places
-/// `place`, its line, its name, and whether its entry and its exit are meant. At the end of both,
-/// `mark` with the mark before decimals, and both tables: `heads` the row of the heads and `row`
-/// each further one, with the table, the line and all cells. For each fault `fault`, the table, the
-/// line, the column, what is wrong, and the cell.
+/// `place`, its line, its name, and whether its entry and its exit are meant. For each fault
+/// `fault`, the table, the line, the column, what is wrong, and the cell. At the end, unless a text
+/// is no table, `mark` with the mark before decimals that was settled, and both tables: `heads` the
+/// row of the heads and `row` each further one, with the table, the line and all cells.
 ///
 /// # Errors
 ///
