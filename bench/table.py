@@ -2,12 +2,12 @@
 network simplex and cost scaling and dlib's assignment, over families and sizes.
 
 The script prints the rows of a Markdown table, one for each instance. For `mcf solve` a row has the
-options that the tools choose (`options_for` of python/mcf_plan/solve.py), the least processor
-seconds of the whole process (reading, solving, writing a flow in the sparse form), their ratio to
-the better of the peers, the peak memory, and the ratio to the time of the size before. For LEMON's
-engines it has the same seconds, with a fast reader and output of the nonzero flows; for dlib's
-engine those of a program that writes only the cost. A program that takes too long at one size is
-left out at the next. Costs must agree.
+options that the tools choose (`OPTIONS`), the least processor seconds of the whole process
+(reading, solving, writing a flow in the sparse form), their ratio to the better of the peers, the
+peak memory, and the ratio to the time of the size before. For LEMON's engines it has the same
+seconds, with a fast reader and output of the nonzero flows; for dlib's engine those of a program
+that writes only the cost. A program that takes too long at one size is left out at the next. Costs
+must agree.
 """
 import os
 import pathlib
@@ -21,10 +21,9 @@ import assignments
 import programs
 
 BENCH = pathlib.Path(__file__).resolve().parent
-sys.path.insert(0, str(BENCH.parent / "python"))
-from mcf_plan.solve import options_for  # noqa: E402
-
 OUT = BENCH / "out"
+# The options by which the tools and the modules solve a problem of a kind.
+OPTIONS = {"min": ["--engine", "fast"], "asn": []}
 PROGRAM = programs.built("mcf")
 
 FLOWS = {family: range(10, 19) for family in ("netgen", "gridgen", "road", "goto")} | {
@@ -104,7 +103,7 @@ def rows(family, sizes, problem, file_of, peers_of):
     is the kind of its problem."""
     before = {}
     for size in sizes:
-        path, options = str(file_of(size)), options_for(problem)
+        path, options = str(file_of(size)), OPTIONS[problem]
         both = {OURS: [PROGRAM, "solve", *options, "--form", "2", path], **peers_of(path)}
         runs = measured(
             {name: command for name, command in both.items() if before.get(name, 0) <= MOST}
