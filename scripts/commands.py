@@ -152,7 +152,7 @@ def fill(folder: pathlib.Path) -> None:
     (folder / "bin").mkdir(parents=True)
     programs = pathlib.Path(os.environ.get("MCF_BIN", TOP / "bin"))
     libraries = ("mcf.h", "libmcf.a", "libmcf.so", "libmcf.so.1")
-    built = [programs / name for name in ("mcf", "mcfcheck")]
+    built = [programs / name for name in ("mcf", "mcfcheck", "mcfplan")]
     for path in built + [TOP / "bin" / name for name in libraries]:
         if path.exists():
             (folder / "bin" / path.name).symlink_to(path.resolve())

@@ -6,8 +6,8 @@ set -u
 cd "$(dirname "$0")/.." || exit 1
 export MCF_BIN="${MCF_BIN:-$PWD/bin}"
 
-if [ ! -x "$MCF_BIN/mcf" ] || [ ! -x "$MCF_BIN/mcfcheck" ]; then
-    echo "tools-test: skipped: mcf and mcfcheck aren't built (make builds them)"
+if [ ! -x "$MCF_BIN/mcf" ] || [ ! -x "$MCF_BIN/mcfcheck" ] || [ ! -x "$MCF_BIN/mcfplan" ]; then
+    echo "tools-test: skipped: mcf, mcfcheck and mcfplan aren't built (make builds them)"
 elif ! python3 -c 'import sys; sys.exit(sys.version_info < (3, 8))' 2> /dev/null; then
     echo "tools-test: skipped: there is no Python 3.8 or newer"
 else
