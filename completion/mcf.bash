@@ -32,7 +32,7 @@ _mcf_options()
         mcf_one:*) echo "$solve" ;;
         mcf_plan:flow) echo -h --help "$plan" --unused --short --most-flow --penalty --no-picture ;;
         mcf_plan:pairs) echo -h --help "$plan" --each --maximise --maximize ;;
-        mcf_plan:diff) echo -h --help --all --programs ;;
+        mcf_plan:diff) echo -h --help --all ;;
         mcf_plan:*) echo -h --help ;;
         mcf_explain:*) echo -h --help --programs ;;
     esac

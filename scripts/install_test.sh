@@ -35,8 +35,8 @@ programs() {
 
 tools() {
     step 2 "line 1: '1x' is no whole number" mcf_explain refused-number-with-letter.min
-    step 0 "accepted by mcfcheck: cost" mcf_plan flow plans/transport/places.csv plans/transport/routes.csv -o flow --no-picture
-    step 0 "accepted by mcfcheck: cost" mcf_plan pairs plans/roster/costs.csv -o pairs
+    step 0 "plan, proved: cost" mcf_plan flow plans/transport/places.csv plans/transport/routes.csv -o flow --no-picture
+    step 0 "pairs, proved: cost" mcf_plan pairs plans/roster/costs.csv -o pairs
     step 0 "0 of 15 differ." mcf_plan diff flow flow
 }
 

@@ -5,8 +5,8 @@ import tempfile
 
 from mcf_plan import life
 from mcf_plan.cli import Parser, prepare
-from mcf_plan.faults import Rejected, Stop, trouble
-from mcf_plan.solve import Programs
+from mcf_plan.faults import Stop, trouble
+from mcf_plan.programs import program, run
 
 from .reading import faults_of
 from .words import magic_of, said_of
@@ -69,17 +69,19 @@ def further_lines(faults):
     return (["Further on, where mcf doesn't look any more:"] if told else []) + told
 
 
-def agreement(programs, data, fault):
+def agreement(checker, data, fault):
     """Warns if `mcfcheck` doesn't accept the first fault as the refusal."""
-    with tempfile.TemporaryDirectory() as scratch:
+    with tempfile.TemporaryDirectory() as scratch, tempfile.TemporaryFile() as output:
         instance, answer = pathlib.Path(scratch, "instance"), pathlib.Path(scratch, "answer")
         instance.write_bytes(data)
         answer.write_text(f"r {fault.number} {fault.code}\n" if fault else "r 1 kind\n")
-        try:
-            programs.verdict(instance, answer)
-            is_right = fault is not None
-        except Rejected as rejected:
-            is_right = fault is None and "rejected kind" in str(rejected)
+        with life.doing("mcfcheck judges the answer"):
+            status, told = run([checker, str(instance), str(answer)], output)
+        output.seek(0)
+        words = output.read().decode("utf-8", "replace").split()[:2]
+    if (status, words[:1]) not in ((0, ["accepted"]), (1, ["rejected"])):
+        raise trouble(f"mcfcheck gave no verdict (status {status}): {told}")
+    is_right = status == 0 if fault else words == ["rejected", "kind"]
     return (
         []
         if is_right
@@ -90,7 +92,7 @@ def agreement(programs, data, fault):
     )
 
 
-def explained(name, data, programs):
+def explained(name, data, checker):
     """The lines to print, and the status."""
     faults = faults_of(data)
     with life.doing("reads the instance"):
@@ -103,17 +105,17 @@ def explained(name, data, programs):
         rest = (
             [] if first is None or (magic_of(data) and first.number == 1) else further_lines(faults)
         )
-    against = agreement(programs, data, first) if programs else []
+    against = agreement(checker, data, first) if checker else []
     unsure = (
-        [] if programs else ["(mcfcheck isn't there, so this wasn't compared with what mcf says.)"]
+        [] if checker else ["(mcfcheck isn't there, so this wasn't compared with what mcf says.)"]
     )
     return lines + rest + unsure + against, 3 if against else 0 if first is None else 2
 
 
-def programs_in(folder):
-    """The programs, or None if they don't exist and no folder was named."""
+def checker_in(folder):
+    """The path of mcfcheck, or None if it doesn't exist and no folder was named."""
     try:
-        return Programs(folder)
+        return program("mcfcheck", folder)
     except Stop:
         if folder:
             raise
@@ -138,14 +140,14 @@ def main(words):
     parser.add_argument(
         "file", nargs="?", metavar="FILE", help="the instance; without it, standard input"
     )
-    parser.add_argument("--programs", metavar="FOLDER", help="where mcf and mcfcheck are")
+    parser.add_argument("--programs", metavar="FOLDER", help="where mcfcheck is")
     try:
         prepare()
         if hasattr(sys, "set_int_max_str_digits"):
             sys.set_int_max_str_digits(0)
         options = parser.parse_args(words)
         lines, status = explained(
-            options.file or "standard input", data_of(options.file), programs_in(options.programs)
+            options.file or "standard input", data_of(options.file), checker_in(options.programs)
         )
         print("\n".join(lines), flush=True)
         return status

@@ -5,7 +5,7 @@ import datetime
 import os
 
 from .faults import Stop
-from .page import grouped
+from .figures import figure, grouped
 from .words import line_of
 
 # The title of the option, or none; the date and the tables; the units of costs and of amounts.
@@ -32,21 +32,8 @@ def date_of_run():
         raise Stop(f"SOURCE_DATE_EPOCH={seconds}: this is no date in seconds since 1970", 2)
 
 
-class Figures:
-    """The numbers of a problem as pages show them, with narrow spaces between thousands."""
-
-    def __init__(self, problem):
-        self.units, self.mark = problem.units, problem.numbers.mark or "."
-
-    def amount(self, number, unit=""):
-        """An amount; an empty text if there is no limit."""
-        return with_unit(grouped(self.units.amount(number), self.mark), unit)
-
-    def total(self, number, currency=""):
-        """The cost of amounts."""
-        return with_unit(grouped(self.units.total(number), self.mark), currency)
-
-
-def with_unit(number, unit):
-    """A number with its unit, if one was given."""
-    return f"{number} {unit}" if unit else number
+def shown_number(problem, value, unit=""):
+    """A number as pages show it, with narrow spaces between thousands and with its unit, if one was
+    given; an empty text if there is no limit."""
+    number = grouped(figure(value), problem.mark)
+    return f"{number} {unit}" if unit and number else number

@@ -29,7 +29,7 @@ HEADS = (
     "needs",
 )
 STATUSES = (
-    "Status 0: a plan, accepted. 1: no plan exists, accepted. 2: a bad table or a wrong call. 3:"
+    "Status 0: a plan, proved. 1: no plan exists, proved. 2: a bad table or a wrong call. 3:"
     " anything else. 130: interrupted."
 )
 
@@ -46,7 +46,7 @@ def options_of(words):
     """The options in the words of the command line."""
     parser = Parser(
         prog="mcf_plan",
-        description="Plans from tables: mcf solves them, and mcfcheck must accept each answer.",
+        description="Plans from tables: mcfplan makes them, by a proof.",
         epilog=STATUSES,
     )
     commands = parser.add_subparsers(dest="command", metavar="flow|pairs|diff")
@@ -118,7 +118,6 @@ def add_diff(command):
     command.add_argument("old", metavar="OLD", help="the folder of the first plan")
     command.add_argument("new", metavar="NEW", help="the folder of the second")
     command.add_argument("--all", action="store_true", help="list all differences")
-    command.add_argument("--programs", metavar="FOLDER", help="where mcf and mcfcheck are")
     command.set_defaults(act=diff_command, map=[], decimal=None, encoding=None, xlsx=False)
 
 
@@ -135,7 +134,7 @@ def add_common(command, act):
     command.add_argument(
         "--programs",
         metavar="FOLDER",
-        help="the folder of mcf and mcfcheck, if not beside this tool, in bin/ or on the path",
+        help="the folder of mcfplan, if not beside this tool, in bin/ or on the path",
     )
     add_reading(command)
     command.set_defaults(act=act)

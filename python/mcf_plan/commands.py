@@ -1,46 +1,87 @@
 """The commands `flow` and `pairs`. They read tables and write a folder of results."""
-from . import flowpage, life, pairs, pairspage, picture, report, scene
-from .blocked import Blocked
+import re
+
+from . import flowpage, life, notes, pairs, pairspage, picture, report, scene
+from .answer import answer_to
+from .bottlenecks import Blocked
 from .caption import caption_of
-from .faults import Stop
-from .flownet import FlowNet, FlowPlan, Policy
+from .faults import Faults, Stop
 from .folder import results_in
-from .model import Problem
 from .page import Writer
-from .record import write_record
+from .problem import Plan, Problem
+from .programs import program
 from .results import Results
 from .roster import Roster
-from .solve import Programs, bottlenecks_of, solve
+from .tables import tables_of
+from .told import NEEDED, Teller
 
 
-def policy_of(options, problem):
-    """Whether supplies may stay and demands may be unmet, from the options."""
-    return Policy(
-        options.unused == "allow" or options.most_flow,
-        options.short == "allow" or options.most_flow,
-        problem.penalty,
-    )
+class Asking:
+    """The tables of a run, and what `mcfplan` answers to them."""
+
+    def __init__(self, command, paths, words, options, reading):
+        self.command, self.words, self.options, self.faults = command, words, options, Faults()
+        with life.doing("reads the tables"):
+            wanted = [NEEDED[word] for word in words]
+            self.tables = tables_of(paths, wanted, reading, self.faults)
+        self.program, self.decimal = program("mcfplan", options.programs), options.decimal
+        # A number of a sheet has a point, unless the options name another mark.
+        if not self.decimal and any(
+            "." in cell for one in self.tables for cell in one.figures.values()
+        ):
+            self.decimal = "."
+
+    def answer(self, *more):
+        """The answer to the tables with further options. Ends the run if they have faults."""
+        more = ["--decimal", self.decimal, *more] if self.decimal else more
+        texts = [table.text for table in self.tables]
+        found = answer_to(self.program, [self.command, *more], texts)
+        Teller(self.words, self.tables, self.options, self.faults).tell(found.rows["fault"])
+        self.faults.end()
+        return found
+
+    def settle(self):
+        """Settles the mark of a penalty, which is written as in the tables."""
+        penalty, mark = self.options.penalty, re.search("[.,]", self.options.penalty)
+        is_number = re.fullmatch("[0-9]+([.,][0-9]+)?", penalty)
+        if is_number and mark and not self.decimal:
+            is_either = re.fullmatch("[1-9][0-9]{0,2}[.,][0-9]{3}", penalty)
+            self.decimal = self.answer().shown_mark or (None if is_either else mark[0])
+        if not is_number or (mark and mark[0] != self.decimal):
+            raise Stop(f"--penalty {penalty}: this is no cost, written as in the tables", 2)
+
+
+def policy_words(unused, short, penalty):
+    """The options of `mcfplan` for what may stay and be missing."""
+    words = ["--unused", "allow"] if unused else []
+    words += ["--short", "allow"] if short else []
+    return words + (["--penalty", penalty] if short and penalty else [])
 
 
 def flow_command(options, reading):
     """Runs `flow`: returns the lines of the summary and the status."""
     if options.penalty and options.short != "allow":
         raise Stop(f"--penalty {options.penalty}: it comes with --short allow", 2)
-    with life.doing("reads the tables"):
-        problem = Problem.read(options.tables, reading, options.penalty)
-    programs, net = Programs(options.programs), FlowNet(problem, policy_of(options, problem))
-    life.warn(report.slips(net))
+    asking = Asking("flow", options.tables, ("places", "routes"), options, reading)
+    options.unused = options.unused == "allow" or options.most_flow
+    options.short = options.short == "allow" or options.most_flow
+
+    def answer(unused, short):
+        return asking.answer(*policy_words(unused, short, options.penalty))
+
     with results_in(options.folder) as folder:
-        results = Results(
-            folder, options, problem.numbers.mark, [problem.place_table, problem.route_table]
-        )
-        answer = solve(programs, folder, net.instance())
-        lines = (
-            plan_results(FlowPlan(net, answer), results, options)
-            if answer
-            else blocked_results(Blocked(programs, folder, net), results, options)
-        )
-    return lines + problem.told(), 0 if answer else 1
+        if options.penalty:
+            asking.settle()
+        found = answer(options.unused, options.short)
+        (folder / "answer.csv").write_bytes(found.data)
+        problem = Problem(found, asking.tables, options)
+        life.warn(report.slips(problem))
+        results = Results(folder, options, problem.mark, asking.tables)
+        if found.kind == "plan":
+            lines = plan_results(Plan(problem), results, options)
+        else:
+            lines = blocked_results(Blocked(problem, answer), results, options)
+    return lines + notes.notes_of(problem), 0 if found.kind == "plan" else 1
 
 
 def plan_results(plan, results, options):
@@ -50,31 +91,20 @@ def plan_results(plan, results, options):
     report.write_flows(results, plan)
     report.write_prices(results, plan)
     results.finish()
-    lines, page = report.flow_summary(plan), flowpage.plan_page(
-        plan, options, drawn_in(folder, scene.plan_scene(plan, caption), options)
-    )
-    write_page(folder, page, problem.numbers, caption)
-    parts = [
-        (*problem.ends(route), problem.units.amount(result.carries))
-        for route, result in zip(problem.routes, plan.routes)
-    ]
-    cost, mark = problem.units.total(plan.cost), problem.numbers.mark
-    write_record(folder, "flow", plan.net, mark, cost, parts)
-    return lines
+    drawn = drawn_in(folder, scene.plan_scene(plan, caption), options)
+    write_page(folder, flowpage.plan_page(plan, options, drawn), problem.mark, caption)
+    return report.flow_summary(plan)
 
 
 def blocked_results(blocked, results, options):
     """Writes the reasons why there is no plan, and returns the summary."""
-    folder, problem = results.folder, blocked.net.problem
+    folder, problem = results.folder, blocked.problem
     caption = caption_of(options, problem.place_table, problem.route_table)
-    report.write_bottlenecks(results, blocked.eased, blocked.all())
+    report.write_bottlenecks(results, problem, blocked.all())
     results.finish()
-    lines, page = report.blocked_summary(blocked), flowpage.blocked_page(
-        blocked, options, drawn_in(folder, scene.blocked_scene(blocked, caption), options)
-    )
-    write_page(folder, page, problem.numbers, caption)
-    write_record(folder, "flow", blocked.net, problem.numbers.mark)
-    return lines
+    drawn = drawn_in(folder, scene.blocked_scene(blocked, caption), options)
+    write_page(folder, flowpage.blocked_page(blocked, options, drawn), problem.mark, caption)
+    return report.blocked_summary(blocked)
 
 
 def drawn_in(folder, shown, options):
@@ -87,46 +117,29 @@ def drawn_in(folder, shown, options):
     return drawn
 
 
-def write_page(folder, page, numbers, caption):
+def write_page(folder, page, mark, caption):
     """Writes report.html."""
     with life.doing("writes the page"):
-        text = Writer(folder, numbers.mark, caption).html(page)
+        text = Writer(folder, mark, caption).html(page)
         (folder / "report.html").write_text(text, encoding="utf-8")
 
 
 def pairs_command(options, reading):
     """Runs `pairs`: returns the lines of the summary and the status."""
-    with life.doing("reads the table"):
-        roster = Roster(options.costs, reading, options.each, options.maximise)
-    programs, net = Programs(options.programs), pairs.RosterNet(roster)
+    asking = Asking("pairs", [options.costs], ("costs",), options, reading)
+    words = ["--each", options.each] if options.each else []
+    words += ["--maximise", "yes"] if options.maximise else []
     with results_in(options.folder) as folder:
-        results, instance = (
-            Results(folder, options, roster.numbers.mark, [roster.table]),
-            net.instance(),
-        )
-        plan, chosen, cost = solve(programs, folder, instance), [], None
-        if plan:
-            chosen = sorted(
-                (pair for pair, flow in zip(roster.pairs, plan.flows) if flow),
-                key=lambda pair: pair[:2],
-            )
-            cost = roster.units.total(plan.cost)
-            pairs.write_pairs(results, roster, chosen)
-            lines = pairs.summary(roster, chosen, plan.cost)
-            page = pairspage.plan_page(roster, chosen, plan.cost, lines, options)
+        found = asking.answer(*words)
+        (folder / "answer.csv").write_bytes(found.data)
+        roster = Roster(found, asking.tables[0], options)
+        results = Results(folder, options, roster.mark, asking.tables)
+        if found.kind == "plan":
+            pairs.write_pairs(results, roster)
+            lines, page = pairs.summary(roster), pairspage.plan_page(roster, options)
         else:
-            found = bottlenecks_of(programs, folder / instance.name, net, net.hub, net.whole)
-            pairs.write_bottlenecks(results, net, found)
-            lines = pairs.blocked_lines(net, found)
-            page = pairspage.blocked_page(net, found, options)
+            pairs.write_bottlenecks(results, roster)
+            lines, page = pairs.blocked_lines(roster), pairspage.blocked_page(roster, options)
         results.finish()
-        write_page(folder, page, roster.numbers, caption_of(options, roster.table))
-        write_record(
-            folder,
-            "pairs",
-            net,
-            roster.numbers.mark,
-            cost,
-            [(*map(net.name, (pair.who, net.persons + pair.what)), "1") for pair in chosen],
-        )
-    return lines + roster.told(), 0 if plan else 1
+        write_page(folder, page, roster.mark, caption_of(options, roster.table))
+    return lines + pairs.notes_of(roster), 0 if found.kind == "plan" else 1

@@ -1,9 +1,16 @@
 """Comparison of two plans: `mcf_plan diff OLD NEW`."""
 import collections
+import csv
+import pathlib
 
-from .accepted import Accepted, number_text
+from .answer import Answer
+from .bottlenecks import bottlenecks_of
+from .competitions import competitions_of
 from .faults import bad_table
-from .solve import Programs
+from .figures import said
+from .problem import NO_OPTIONS, Plan, Problem
+from .report import balance_sentence, bottleneck_sentence
+from .roster import Roster
 from .words import TOLD_NAMES, listed
 
 # The most lines of a kind to print, unless the options ask for all.
@@ -26,16 +33,92 @@ def name_text(key):
     return " -> ".join(names) + (f" ({count})" if count > 1 else "")
 
 
+class Folder:
+    """The plan of a folder, from its answer: its cost, or why there is none; what each route
+    carries, or each chosen pair; what stays and what is missing at places, and what it costs that
+    something is missing."""
+
+    def __init__(self, name):
+        try:
+            answer = Answer((pathlib.Path(name) / "answer.csv").read_bytes())
+            self.mark, self.stays, self.missing, self.delivered = answer.shown_mark, {}, {}, {}
+            self.is_flow, self.cost, self.parts, self.penalties = (
+                not answer.rows["persons"],
+                None,
+                [],
+                0,
+            )
+            (self.read_flow if self.is_flow else self.read_pairs)(answer)
+        except OSError as error:
+            raise bad_table(f"{name}: this is no folder of a plan: answer.csv: {error.strerror}")
+        except (
+            ArithmeticError,
+            AttributeError,
+            IndexError,
+            KeyError,
+            TypeError,
+            ValueError,
+            csv.Error,
+        ):
+            raise bad_table(f"{name}: its answer.csv can't be read")
+
+    def read_flow(self, answer):
+        """Reads a plan of routes, or why there is none."""
+        problem = Problem(answer, (None, None), NO_OPTIONS)
+        if answer.kind != "plan":
+            self.why_not = why_not(problem)
+            return
+        plan = Plan(problem)
+        self.cost = plan.cost
+        self.parts = [
+            (*problem.ends(route), result.carries)
+            for route, result in zip(problem.routes, plan.routes)
+        ]
+        self.stays, self.missing = (
+            {place.name: amount for place, amount in plan.unmet(is_supply)}
+            for is_supply in (True, False)
+        )
+        passing = [place.through for place in plan.places if place.through]
+        costs = [result.cost for result in plan.routes + passing]
+        self.penalties = 0 if None in costs else plan.cost - sum(costs)
+        self.delivered = {
+            place.name: -place.supply - self.missing.get(place.name, 0)
+            for place in problem.places
+            if place.supply < 0
+        }
+
+    def read_pairs(self, answer):
+        """Reads chosen pairs, or why there are none."""
+        roster = Roster(answer, None, NO_OPTIONS)
+        if answer.kind != "plan":
+            found = competitions_of(roster)[:TOLD_NAMES]
+            self.why_not = [one.sentence() for one in found]
+            return
+        self.cost = roster.cost()
+        self.parts = sorted((pair.who, pair.what, 1) for pair in roster.pairs)
+        self.delivered = collections.Counter(what for _, what, _ in self.parts)
+
+
+def why_not(problem):
+    """The sentences that say why there is no plan. If supplies and demands differ, the answer
+    doesn't say whether something may stay or be missing: what blocks even then is told."""
+    differ = problem.supply != problem.demand
+    found = bottlenecks_of(problem, problem.answer, differ, differ)
+    if not found:
+        return [balance_sentence(problem)]
+    return [bottleneck_sentence(problem, one) for one in found[:TOLD_NAMES]]
+
+
 class Comparison:
     """Two plans, with numbers in the notation of the new plan's tables."""
 
     def __init__(self, old, new, show_all):
         self.plans, self.show_all = {"old": old, "new": new}, show_all
-        self.mark = new.record["mark"] or old.record["mark"]
+        self.mark = new.mark or old.mark or "."
 
     def text(self, value):
         """A number."""
-        return number_text(value, self.mark)
+        return said(value, self.mark)
 
     def lines(self):
         """All lines of the comparison."""
@@ -43,7 +126,7 @@ class Comparison:
         lines = [line for word, plan in self.plans.items() for line in self.plan_lines(word, plan)]
         if None in (old.cost, new.cost):
             return lines
-        lines += self.delivery(old.delivered(), new.delivered())
+        lines += self.delivery(old.delivered, new.delivered)
         difference = new.cost - old.cost
         verb = "rises" if difference > 0 else "falls"
         lines.append(
@@ -69,19 +152,19 @@ class Comparison:
     def plan_lines(self, word, plan):
         """Lines on the cost of a plan, what stays and what is missing, or on why there is none."""
         if plan.cost is None:
-            return [f"{word}: no plan exists, as mcfcheck accepted again: {plan.why_not()}."]
-        lines = [f"{word}: cost {self.text(plan.cost)} (accepted again by mcfcheck)"]
-        for is_supply, words, none in (
-            (True, "stay at", "Nothing stays."),
-            (False, "are missing at", "Nothing is missing."),
+            return [f"{word}: no plan exists: {' '.join(plan.why_not)}"]
+        lines = [f"{word}: cost {self.text(plan.cost)}"]
+        for side, words, none in (
+            ("stays", "stay at", "Nothing stays."),
+            ("missing", "are missing at", "Nothing is missing."),
         ):
-            if any(other.unmet(is_supply) for other in self.plans.values()):
-                found = plan.unmet(is_supply)
+            if any(getattr(other, side) for other in self.plans.values()):
+                found = getattr(plan, side)
                 where = [f"{name} {self.text(amount)}" for name, amount in found.items()]
-                total = self.text(sum(found.values()))
                 where = listed(where, len(where) if self.show_all else TOLD_NAMES)
-                if not is_supply and plan.record["penalty"]:
-                    where += f", which costs {self.text(plan.penalty_cost())} of that"
+                if side == "missing" and plan.penalties:
+                    where += f", which costs {self.text(plan.penalties)} of that"
+                total = self.text(sum(found.values()))
                 lines.append(f"  {total} {words}: {where}." if found else f"  {none}")
         return lines
 
@@ -107,11 +190,8 @@ class Comparison:
 
 def diff_command(options, _):
     """Runs `diff`: returns the lines and the status, which is 0 whether or not the plans differ."""
-    programs = Programs(options.programs)
-    old, new = (Accepted(name, programs) for name in (options.old, options.new))
-    if old.record["kind"] != new.record["kind"]:
-        raise bad_table(
-            f"{options.old} is a plan of {old.record['kind']}, {options.new} one of"
-            f" {new.record['kind']}"
-        )
+    old, new = Folder(options.old), Folder(options.new)
+    if old.is_flow != new.is_flow:
+        kinds = ["flow" if one.is_flow else "pairs" for one in (old, new)]
+        raise bad_table(f"{options.old} is a plan of {kinds[0]}, {options.new} one of {kinds[1]}")
     return Comparison(old, new, options.all).lines(), 0

@@ -1,8 +1,8 @@
 """The exceptions that end a run without a plan, and the faults of tables by their kinds."""
 import collections
 
-# The place of a cell: its table, its line, and its column by head or by number from 1. Without a
-# column it is a whole line.
+# The place of a cell: the name of its table, its line, and its column by head or by number from 1.
+# Without a column it is a whole line, without a line the whole table.
 At = collections.namedtuple("At", "table line column", defaults=("",))
 # How many further cells of one kind a message names.
 TOLD_CELLS = 4
@@ -14,10 +14,6 @@ class Stop(Exception):
     def __init__(self, text, status):
         super().__init__(text)
         self.status = status
-
-
-class Rejected(Exception):
-    """The checker rejected an answer. The run keeps it separately, so that it can be reported."""
 
 
 def bad_table(text):
@@ -59,21 +55,17 @@ class Kind:
 
 
 class Faults:
-    """The faults of tables. The run reports them together before it starts a program, one line for
-    each kind."""
+    """The faults of tables, which the run reports together, one line for each kind."""
 
     def __init__(self):
         self.kinds = {}
 
     def add(self, at, kind, text, cell=""):
         """Notes a fault in a table."""
-        key = at.table.name, kind, at.column if isinstance(at.column, str) else None
-        where = f"{at.table.name}, line {at.line}" + (f", column {at.column}" if at.column else "")
+        key = at.table, kind, "" if str(at.column).isdecimal() else at.column
+        where = at.table + (f", line {at.line}" if at.line else "")
+        where += f", column {at.column}" if at.column else ""
         self.kinds.setdefault(key, Kind(f"{where}: {text}")).add(at.line, cell)
-
-    def has(self, table, kind):
-        """Whether a table has a fault of a kind."""
-        return any(key[:2] == (table.name, kind) for key in self.kinds)
 
     def end(self):
         """Ends the run if there was a fault."""

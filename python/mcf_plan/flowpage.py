@@ -1,10 +1,12 @@
 """The page of a flow."""
 from . import report
-from .amounts import Figure
-from .heads import RESULTS
-from .page import Page, Share, Sheet, finding, grouped, listed_rows
+from .caption import shown_number
+from .figures import Figure, figure
+from .notes import notes_of
+from .problem import THROUGH
+from .page import Page, Share, Sheet, finding, listed_rows
+from .results import kept
 from .scene import blocked_heading
-from .tables import cell_at
 from .words import listed
 
 ROUTE_COLUMNS = [
@@ -36,14 +38,14 @@ THROUGH_COLUMNS = [
 USED = ("from", "to", "least", "most", "cost", "name", "supply", "x", "y")
 
 
-def own_columns(table):
-    """The planner's own columns of a table."""
-    return [place for place in table.kept(*RESULTS) if table.heads[place] not in USED]
+def own_columns(sheet):
+    """The places of the planner's own columns of a table."""
+    return [place for place in kept(sheet) if sheet.heads[place] not in USED]
 
 
 def plan_page(plan, options, picture):
     """The page of a plan."""
-    problem, total = plan.problem, plan.problem.units.total(plan.cost)
+    problem = plan.problem
     carrying = sum(1 for result in plan.routes if result.carries)
     full = sum(1 for number in range(len(plan.routes)) if plan.is_full(number))
     facts = [
@@ -52,23 +54,15 @@ def plan_page(plan, options, picture):
         (Figure(carrying), "carry something"),
         (Figure(full), "are full"),
     ]
-    facts += [
-        (
-            told(
-                problem.units.amount(sum(unmet for _, unmet in plan.unmet(is_supply))),
-                problem.numbers.mark,
-                options.unit,
-            ),
-            words,
-        )
-        for is_supply, words in ((True, "stay"), (False, "are missing"))
-        if plan.unmet(is_supply)
-    ]
-    lead = warnings(plan.net) + ["No plan for these tables costs less."]
-    lead += report.unmet_lines(plan) + problem.told()
+    for is_supply, words in ((True, "stay"), (False, "are missing")):
+        found = plan.unmet(is_supply)
+        total = sum(amount for _, amount in found)
+        facts += [(shown_number(problem, total, options.unit), words)] if found else []
+    lead = warnings(problem) + ["No plan for these tables costs less."]
+    lead += report.unmet_lines(plan) + notes_of(problem)
     return Page(
         options.title or "A least-cost plan",
-        f"Least cost: {told(total, problem.numbers.mark, options.currency)}",
+        f"Least cost: {shown_number(problem, plan.cost, options.currency)}",
         True,
         lead,
         facts,
@@ -78,20 +72,15 @@ def plan_page(plan, options, picture):
     )
 
 
-def warnings(net):
+def warnings(problem):
     """Warnings about likely slips in the tables."""
-    return [f"Warning: {line}" for line in report.slips(net)]
-
-
-def told(number, mark, unit):
-    """A number for a sentence, with its unit if the options give one."""
-    return grouped(number, mark or ".") + (f" {unit}" if unit else "")
+    return [f"Warning: {line}" for line in report.slips(problem)]
 
 
 def savings(plan):
     """The table of savings by one more unit of capacity."""
     rows = [
-        ("full", [*ends, "exactly" if result.is_exact else "at most", plan.rate(result.saves)])
+        ("full", [*ends, "exactly" if result.is_exact else "at most", figure(result.saves)])
         for ends, result in report.savings_of(plan)[:50]
     ]
     columns = [
@@ -105,102 +94,87 @@ def savings(plan):
 
 def routes_sheet(plan):
     """The table of the routes."""
-    problem, table = plan.problem, plan.problem.route_table
-    own = own_columns(table)
-    rows = []
+    problem, table, sheet = plan.problem, plan.problem.route_table, plan.problem.route_sheet
+    own, rows = own_columns(sheet), []
     for number, route in enumerate(problem.routes):
         kind = "full" if plan.is_full(number) else "" if plan.routes[number].carries else "idle"
-        cells = route_cells(plan, number) + [cell_at(route.cells, place) for place in own]
-        rows.append((kind, cells))
+        cells = [table.cell(route.line, route.cells, place) for place in own]
+        rows.append((kind, route_cells(plan, number) + cells))
     rows, note = listed_rows(rows)
-    columns = ROUTE_COLUMNS + [(table.titles[place], "") for place in own]
-    total = problem.units.total(sum(result.cost for result in plan.routes))
+    columns = ROUTE_COLUMNS + [(table.title(sheet.titles[place]), "") for place in own]
+    total = figure(sum(result.cost or 0 for result in plan.routes))
     totals = [total if head == "total" else "" for head, _ in ROUTE_COLUMNS] + [""] * len(own)
     return Sheet("Routes", columns, rows, totals, note)
 
 
 def route_cells(plan, number):
     """The cells of a route in the table of the routes."""
-    problem, units = plan.problem, plan.problem.units
-    route, result = problem.routes[number], plan.routes[number]
+    problem, route, result = plan.problem, plan.problem.routes[number], plan.routes[number]
     exact = "exactly" if result.is_exact else "at most"
+    costs = [step.cost for step in route.steps]
     return [
         *problem.ends(route),
-        units.amount(route.least),
-        units.amount(route.most),
-        costs_cell(problem, route),
-        units.amount(result.carries),
-        units.total(result.cost),
-        Share(100 * abs(result.carries) / abs(route.most)) if route.most else "",
-        plan.rate(result.saves) if result.saves else "",
+        figure(route.least),
+        figure(route.most),
+        figure(costs[0]) if len(costs) == 1 else " / ".join(map(problem.said, costs)),
+        figure(result.carries),
+        figure(result.cost),
+        Share(100 * float(abs(result.carries)) / float(abs(route.most))) if route.most else "",
+        figure(result.saves) if result.saves else "",
         exact if result.saves else "",
     ]
 
 
-def costs_cell(problem, route):
-    """The unit cost of a route, or all its rising costs, in the notation of sentences."""
-    if len(route.steps) == 1:
-        return problem.units.rate(route.cost)
-    return " / ".join(map(problem.said.rate, route.costs()))
-
-
 def places_sheet(plan):
     """The table of the places."""
-    problem, units, rows = plan.problem, plan.problem.units, []
-    table, own = problem.place_table, own_columns(problem.place_table)
-    has_bounds, has_unmet = any(place.bounds for place in problem.places), plan.net.hub is not None
+    problem, table, sheet = plan.problem, plan.problem.place_table, plan.problem.place_sheet
+    own, rows = own_columns(sheet), []
+    has_bounds = any(place.bounds for place in problem.places)
+    has_unmet = problem.unused or problem.short
     for place, result in zip(problem.places, plan.places):
-        cells = [
-            place.name,
-            units.amount(place.supply),
-            plan.rate(result.price),
-            Figure(result.group),
-        ]
-        cells += [units.amount(result.unmet) if result.unmet else ""] * has_unmet + (
-            through_cells(plan, place, result.through) if has_bounds else []
-        )
-        rows.append(("", cells + [cell_at(place.cells, column) for column in own]))
+        unmet = result.stays + result.missing
+        cells = [place.name, figure(place.supply), figure(result.costs), result.group]
+        cells += [figure(unmet) if unmet else ""] * has_unmet
+        cells += through_cells(place, result.through) if has_bounds else []
+        cells += [table.cell(place.line, place.cells, column) for column in own]
+        rows.append(("", cells))
     rows, note = listed_rows(rows)
     columns = (
         PLACE_COLUMNS
         + UNMET_COLUMNS * has_unmet
         + THROUGH_COLUMNS * has_bounds
-        + [(table.titles[place], "") for place in own]
+        + [(table.title(sheet.titles[place]), "") for place in own]
     )
     return Sheet("Places", columns, rows, (), note)
 
 
-def through_cells(plan, place, through):
+def through_cells(place, through):
     """The cells on the flow through a place."""
     if not through:
         return [""] * len(THROUGH_COLUMNS)
-    units = plan.problem.units
     return [
-        units.amount(through.carries),
-        units.amount(place.bounds.most),
-        units.total(through.cost),
-        plan.rate(through.saves) if through.saves else "",
+        figure(through.carries),
+        figure(place.bounds.most),
+        figure(through.cost),
+        figure(through.saves) if through.saves else "",
     ]
 
 
 def blocked_page(blocked, options, picture):
     """The page for a problem without a plan."""
-    problem = blocked.net.problem
+    problem = blocked.problem
     findings = [balance_finding(problem)] if blocked.is_unbalanced else []
-    findings += [
-        bottleneck_finding(blocked.eased, bottleneck) for bottleneck in blocked.bottlenecks
-    ]
-    lead = warnings(blocked.net)
+    findings += [bottleneck_finding(problem, bottleneck) for bottleneck in blocked.bottlenecks]
+    lead = warnings(problem)
     lead.append(
         "Whatever way amounts go, these places must send or take more than the routes around them"
         " carry."
     )
-    lead += problem.told()
     return Page(
         options.title or "No plan exists",
         blocked_heading(blocked, options.unit),
         False,
-        lead,
+        lead + notes_of(problem),
         [],
         findings,
         picture,
@@ -210,12 +184,11 @@ def blocked_page(blocked, options, picture):
 
 def balance_finding(problem):
     """The finding that supplies and demands aren't equal."""
-    supply, demand = report.balance_of(problem)
-    amount = problem.said.amount
+    supply, demand = problem.supply, problem.demand
     figures = [
-        ("supply", amount(supply)),
-        ("demand", amount(demand)),
-        ("short by", amount(abs(supply - demand))),
+        ("supply", problem.said(supply)),
+        ("demand", problem.said(demand)),
+        ("short by", problem.said(abs(supply - demand))),
     ]
     cure = (
         "Make them equal; or let what is too much"
@@ -224,17 +197,16 @@ def balance_finding(problem):
     return finding("Supplies and demands must be equal.", figures, cure)
 
 
-def bottleneck_finding(net, bottleneck):
+def bottleneck_finding(problem, bottleneck):
     """The finding on a bottleneck, and what would help."""
-    amount = net.problem.said.amount
-    short = amount(bottleneck.must - bottleneck.can)
+    short = problem.said(bottleneck.must - bottleneck.can)
     figures = [
-        ("must", amount(bottleneck.must)),
-        ("can", amount(bottleneck.can)),
+        ("must", problem.said(bottleneck.must)),
+        ("can", problem.said(bottleneck.can)),
         ("short by", short),
     ]
     what = "demand" if bottleneck.side == "take" else "supply"
-    routes = [" -> ".join(net.ends(k)) for k, _ in net.amounts(bottleneck.limiting, "most")]
+    routes = [arc_text(one) for one in bottleneck.limiting]
     together = " together" if len(routes) > 1 else ""
     raise_them = (
         f"Give {listed(routes)} {short} more room{together}, or"
@@ -242,20 +214,30 @@ def bottleneck_finding(net, bottleneck):
         else "Give them a route, or"
     )
     return finding(
-        report.bottleneck_sentence(net, bottleneck),
+        report.bottleneck_sentence(problem, bottleneck),
         figures,
         f"{raise_them} move {short} of {what} elsewhere.",
     )
 
 
+def arc_ends(crossing):
+    """The ends of a route, or of the flow through a place."""
+    return (*crossing.names, THROUGH) if crossing.kind == "through" else crossing.names
+
+
+def arc_text(crossing):
+    """A route, or the flow through a place, in a sentence."""
+    return " -> ".join(arc_ends(crossing))
+
+
 def limiting_sheet(blocked):
     """The routes that limit the bottlenecks."""
-    net, amount, rows = blocked.eased, blocked.net.problem.units.amount, []
+    rows = []
     for count, bottleneck in enumerate(blocked.bottlenecks, 1):
-        for k, most in net.amounts(bottleneck.limiting, "most"):
-            rows.append(("full", [f"{count}.", *net.ends(k), amount(most), ""]))
-        for k, least in net.amounts(bottleneck.forcing, "least"):
-            rows.append(("", [f"{count}.", *net.ends(k), "", amount(least)]))
+        for one in bottleneck.limiting:
+            rows.append(("full", [f"{count}.", *arc_ends(one), figure(one.most), ""]))
+        for one in bottleneck.forcing:
+            rows.append(("", [f"{count}.", *arc_ends(one), "", figure(one.least)]))
     columns = [
         ("bottleneck", ""),
         ("from", ""),

@@ -5,11 +5,12 @@ import pathlib
 import shutil
 import signal
 
-from .faults import Rejected, Stop, trouble
-from .record import is_record
+from .faults import Stop, trouble
 
-# The files of a plan. A run doesn't touch a folder that has any other file.
+# The files of a plan, also of earlier versions. A run doesn't touch a folder that has any other
+# file.
 RESULTS = (
+    "answer.csv",
     "flows.csv",
     "prices.csv",
     "pairs.csv",
@@ -22,6 +23,8 @@ RESULTS = (
     "instance.asn",
     "answer.ans",
 )
+# How the files begin of which one shows that a folder is the tool's own.
+BEGINS = {"answer.csv": '"answer","', "plan.json": '{\n"format": '}
 
 
 @contextlib.contextmanager
@@ -39,8 +42,6 @@ def results_in(name):
     try:
         yield part
         swap(part, target)
-    except Rejected as stop:
-        raise trouble(f"{stop}; please report the instance and the answer in {kept(part, target)}")
     finally:
         shutil.rmtree(part, ignore_errors=True)
 
@@ -59,10 +60,10 @@ def check_target(name, target):
             ),
             2,
         )
-    if names and not is_record(target / "plan.json"):
+    if names and not any(begins(target / name, text) for name, text in BEGINS.items()):
         raise Stop(
             (
-                f"the folder {name} has {names[0]}, and no plan.json of this tool, by which it"
+                f"the folder {name} has {names[0]}, and no answer.csv of this tool, by which it"
                 " would be an earlier result: name a folder of its own with -o"
             ),
             2,
@@ -89,11 +90,10 @@ def swap(part, target):
         signal.pthread_sigmask(signal.SIG_SETMASK, held)
 
 
-def kept(part, target):
-    """Keeps a rejected answer under another name, and returns the folder."""
-    number = 1
-    while target.with_name(f"{target.name}.rejected{number}").exists():
-        number += 1
-    found = target.with_name(f"{target.name}.rejected{number}")
-    os.rename(part, found)
-    return found
+def begins(path, text):
+    """Whether a file begins with a text."""
+    try:
+        with open(path, "rb") as file:
+            return file.read(len(text)) == text.encode()
+    except OSError:
+        return False

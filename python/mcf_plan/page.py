@@ -3,9 +3,8 @@ import collections
 import hashlib
 import html
 import pathlib
-import re
 
-from .amounts import Figure
+from .figures import Figure, grouped
 
 # A page: its title, its headline, whether a plan exists, the text below the headline, facts as
 # pairs of a value and its words, findings as paragraphs, the picture or None, and sheets.
@@ -19,9 +18,9 @@ Share = collections.namedtuple("Share", "percent")
 LISTED = 5000
 
 PROVED = (
-    "mcfcheck accepted this answer for this instance, and mcfcheck is proved to accept nothing that"
-    " isn't right. How the instance was made of the tables, and this page of the answer, isn't"
-    " proved, but tested."
+    "mcfplan wrote answer.csv from the texts of the tables, and it is proved that mcfplan writes"
+    " nothing that isn't right: from the bytes of these texts to the bytes of answer.csv. How files"
+    " and sheets became texts, and this page of the answer, isn't proved, but tested."
 )
 
 
@@ -30,21 +29,11 @@ def text(value):
     return html.escape(str(value))
 
 
-def grouped(number, mark="."):
-    """A number with narrow spaces between thousands."""
-    whole, point, decimals = str(number).partition(".")
-    sign, digits = ("\u2212", whole[1:]) if whole.startswith("-") else ("", whole)
-    if len(digits) > 4:
-        digits = re.sub(r"(?<=\d)(?=(?:\d{3})+$)", "\u202f", digits)
-    return sign + digits + (mark if point else "") + decimals
-
-
 class Writer:
     """Assembles a page from its parts."""
 
     def __init__(self, folder, mark, caption):
-        self.folder, self.mark, self.caption = folder, mark or ".", caption
-        self.instance = next(folder.glob("instance.*")).name
+        self.sum, self.mark, self.caption = sha256_of(folder / "answer.csv"), mark, caption
 
     def html(self, page):
         """The whole page."""
@@ -101,14 +90,10 @@ class Writer:
         )
 
     def seal(self):
-        """The lines below the headline: the instance and the accepted answer."""
-        sums = " &middot; ".join(
-            f"{name} <code>{sha256_of(self.folder / name)[:16]}</code>"
-            for name in (self.instance, "answer.ans")
-        )
+        """The line below the headline: the answer that is proved."""
         return (
-            f'<p class="soft">Accepted by mcfcheck, which is proved. {sums} (<a'
-            ' href="#accepted">whole sums</a>)</p>'
+            f'<p class="soft">Proved, from the tables to answer.csv <code>{self.sum[:16]}</code>'
+            ' (<a href="#proved">what that means</a>)</p>'
         )
 
     def figure(self, value):
@@ -172,16 +157,11 @@ class Writer:
         )
 
     def proof(self):
-        """The section on what mcfcheck accepted, and how to judge it again."""
-        rows = "".join(
-            f"<dt>{name}</dt><dd><code>{sha256_of(self.folder / name)}</code></dd>"
-            for name in (self.instance, "answer.ans")
-        )
+        """The section on what is proved, and what is trusted."""
         return (
-            '<section id="accepted"><h2>What was'
-            f' accepted</h2><p>{text(PROVED)}</p><dl>{rows}</dl><p class="soft">These are SHA-256.'
-            " To have it judged again: <code>mcfcheck"
-            f" {self.instance} answer.ans</code></p></section>"
+            f'<section id="proved"><h2>What is proved</h2><p>{text(PROVED)}</p><dl><dt>answer.csv'
+            f'</dt><dd><code>{self.sum}</code></dd></dl><p class="soft">This is SHA-256.</p>'
+            "</section>"
         )
 
 

@@ -1,41 +1,29 @@
 """The page of pairs."""
 from . import pairs
-from .amounts import Figure
-from .flowpage import told
+from .caption import shown_number
+from .competitions import competitions_of
+from .figures import Figure
 from .page import Page, Sheet, finding, listed_rows
 
 
-def plan_page(roster, chosen, cost, lines, options):
+def plan_page(roster, options):
     """The page of chosen pairs."""
-    word = "Greatest value" if roster.units.sign < 0 else "Least cost"
     facts = [
-        (Figure(len(roster.persons.names)), "persons"),
-        (Figure(len(roster.things.names)), "things"),
-        (Figure(len(chosen)), "pairs"),
+        (Figure(len(roster.persons)), "persons"),
+        (Figure(len(roster.things)), "things"),
+        (Figure(len(roster.pairs)), "pairs"),
     ]
-    rows = [
-        (
-            "",
-            [
-                roster.persons.names[pair.who - 1],
-                roster.things.names[pair.what - 1],
-                roster.units.rate(pair.cost),
-            ],
-        )
-        for pair in chosen
-    ]
-    rows, note = listed_rows(rows)
-    total = ["", "", roster.units.total(cost)]
-    lead = [
-        f"No other choice of pairs {'is worth more' if roster.units.sign < 0 else 'costs less'}."
-    ]
-    lead += lines[2:] + roster.told()
-    headline = f"{word}: {told(roster.units.total(cost), roster.numbers.mark, options.currency)}"
+    rows, note = listed_rows(
+        [("", [pair.who, pair.what, Figure(pair.cost)]) for pair in roster.pairs]
+    )
+    total = ["", "", Figure(roster.answer.one("cost"))]
+    lead = [f"No other choice of pairs {'is worth more' if options.maximise else 'costs less'}."]
+    word = "Greatest value" if options.maximise else "Least cost"
     return Page(
         options.title or "A plan of pairs",
-        headline,
+        f"{word}: {shown_number(roster, roster.cost(), options.currency)}",
         True,
-        lead,
+        lead + pairs.left_lines(roster) + pairs.notes_of(roster),
         facts,
         [],
         None,
@@ -43,24 +31,18 @@ def plan_page(roster, chosen, cost, lines, options):
     )
 
 
-def blocked_page(net, bottlenecks, options):
+def blocked_page(roster, options):
     """The page for a roster without such pairs."""
-    findings = []
-    for bottleneck in bottlenecks:
-        figures = [
-            ("must", bottleneck.must),
-            ("can", bottleneck.can),
-            ("short by", bottleneck.must - bottleneck.can),
-        ]
-        findings.append(finding(pairs.blocked_sentence(net, bottleneck), figures, ""))
-    short = ", ".join(
-        f"short by {bottleneck.must - bottleneck.can}" for bottleneck in bottlenecks[:3]
-    )
+    findings, shorts = [], []
+    for one in competitions_of(roster):
+        shorts.append(f"short by {one.needs - one.gets}")
+        figures = [("must", one.needs), ("can", one.gets), ("short by", one.needs - one.gets)]
+        findings.append(finding(one.sentence(), figures, ""))
     return Page(
         options.title or "No such pairs exist",
-        f"No such pairs exist: {short}",
+        f"No such pairs exist: {', '.join(shorts[:3])}",
         False,
-        pairs.each_hint(net.roster) + net.roster.told(),
+        pairs.each_hint(roster) + pairs.notes_of(roster),
         [],
         findings,
         None,

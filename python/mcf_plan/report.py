@@ -1,138 +1,91 @@
 """The results of a flow: tables, and a summary."""
-from .amounts import Figure
-from .flownet import MISSING, STAYS, THROUGH
-from .heads import FLOW_RESULTS, PLACE_RESULTS, THROUGH_RESULTS
-from .tables import cell_at
+from .answer import cell_at
+from .figures import Figure, figure
+from .problem import MISSING, STAYS, THROUGH
+from .results import FLOW_RESULTS, PLACE_RESULTS, THROUGH_RESULTS
 from .words import TOLD_NAMES, count_of, listed
 
 
 def write_flows(results, plan):
     """Writes flows.csv: the routes in their order, with the columns of their table, and then what
     stays and what is missing."""
-    units, table, rows = plan.problem.units, plan.problem.route_table, []
-    for route, result in zip(plan.problem.routes, plan.routes):
-        free, exact = units.amount(result.free), "yes" if result.is_exact else "no"
-        rows.append(
-            (
-                route.cells,
-                [
-                    units.amount(result.carries),
-                    units.total(result.cost),
-                    free,
-                    plan.rate(result.saves),
-                    exact,
-                ],
-            )
-        )
+    problem = plan.problem
+    rows = [
+        (route.line, route.cells, result_cells(result))
+        for route, result in zip(problem.routes, plan.routes)
+    ]
     for is_supply in (True, False):
         for place, amount in plan.unmet(is_supply):
-            ends = (
-                {"from": place.name, "to": STAYS}
-                if is_supply
-                else {"from": MISSING, "to": place.name}
-            )
-            penalty = plan.net.policy.penalty if not is_supply else 0
-            cost = "" if penalty is None else units.total(penalty * amount)
-            rows.append(
-                (
-                    [ends.get(head, "") for head in table.heads],
-                    [units.amount(amount), cost, "", "", ""],
-                )
-            )
-    results.after("flows", table, [FLOW_RESULTS], rows)
+            ends = {"from": place.name, "to": STAYS}
+            if not is_supply:
+                ends = {"from": MISSING, "to": place.name}
+            penalty = 0 if is_supply else problem.penalty
+            cost = "" if penalty is None else figure(penalty * amount)
+            cells = [ends.get(head, "") for head in problem.route_sheet.heads]
+            rows.append((None, cells, [figure(amount), cost, "", "", ""]))
+    results.after("flows", problem.route_table, problem.route_sheet, [FLOW_RESULTS], rows)
 
 
 def write_prices(results, plan):
-    """Writes prices.csv: the places in their order, with the columns of their table. The cost of a
-    unit at a place is minus its price."""
-    has_bounds = any(place.bounds for place in plan.problem.places)
-    rows = [
-        (
-            place.cells,
-            [plan.rate(result.price), Figure(result.group)]
-            + (through_cells(plan, result.through) if has_bounds else []),
-        )
-        for place, result in zip(plan.problem.places, plan.places)
-    ]
+    """Writes prices.csv: the places in their order, with the columns of their table."""
+    problem = plan.problem
+    has_bounds = any(place.bounds for place in problem.places)
     groups = [PLACE_RESULTS, THROUGH_RESULTS] if has_bounds else [PLACE_RESULTS]
-    results.after("prices", plan.problem.place_table, groups, rows)
+    rows = []
+    for place, result in zip(problem.places, plan.places):
+        cells = [figure(result.costs), result.group]
+        if has_bounds:
+            cells += result_cells(result.through) if result.through else [""] * 5
+        rows.append((place.line, place.cells, cells))
+    results.after("prices", problem.place_table, problem.place_sheet, groups, rows)
 
 
-def through_cells(plan, through):
-    """The flow through a place, in the cells of a route."""
-    units = plan.problem.units
-    if not through:
-        return [""] * 5
-    return [
-        units.amount(through.carries),
-        units.total(through.cost),
-        units.amount(through.free),
-        plan.rate(through.saves),
-        "yes" if through.is_exact else "no",
-    ]
+def result_cells(result):
+    """The results of a route, or of the flow through a place. Figures that are too great are
+    empty."""
+    exact = "" if result.saves is None else "yes" if result.is_exact else "no"
+    return [*map(figure, result[:4]), exact]
 
 
-def write_bottlenecks(results, net, bottlenecks):
+def write_bottlenecks(results, problem, bottlenecks):
     """Writes bottleneck.csv. For each bottleneck, the column `must` sums to the amount that it must
     send (or take), and the column `can` to the amount that it can."""
-    amount, rows = net.problem.units.amount, []
+    rows = []
     for count, bottleneck in enumerate(bottlenecks, 1):
-        sign = 1 if bottleneck.side == "send" else -1
-        supplies = {}
-        for node in bottleneck.nodes:
-            supplies[net.node_name(node)] = (
-                supplies.get(net.node_name(node), 0) + sign * net.supplies[node - 1]
-            )
+        begin = [Figure(count), bottleneck.side]
         rows += [
-            [Figure(count), bottleneck.side, "place", name, "", "", amount(supply), ""]
-            for name, supply in supplies.items()
+            [*begin, "place", problem.places[number - 1].name, "", "", figure(own), ""]
+            for number, own in sorted(bottleneck.places.items())
         ]
-        for k, least in net.amounts(bottleneck.forcing, "least"):
-            rows.append([Figure(count), bottleneck.side, *arc_cells(net, k), amount(least), ""])
-        for k, most in net.amounts(bottleneck.limiting, "most"):
-            rows.append([Figure(count), bottleneck.side, *arc_cells(net, k), "", amount(most)])
-    results.table(
-        "bottleneck",
-        net.problem.route_table,
-        ["bottleneck", "side", "kind", "name", "from", "to", "must", "can"],
-        rows,
-    )
+        rows += [[*begin, *arc_cells(one), figure(one.least), ""] for one in bottleneck.forcing]
+        rows += [[*begin, *arc_cells(one), "", figure(one.most)] for one in bottleneck.limiting]
+    heads = ["bottleneck", "side", "kind", "name", "from", "to", "must", "can"]
+    results.table("bottleneck", problem.route_table, problem.route_sheet, heads, rows)
 
 
-def arc_cells(net, k):
-    """An arc, as cells."""
-    return (
-        ["through", net.ends(k)[0], "", ""]
-        if net.uses[k].kind == "through"
-        else ["route", "", *net.ends(k)]
-    )
+def arc_cells(crossing):
+    """A route, or the flow through a place, as cells."""
+    if crossing.kind == "through":
+        return ["through", *crossing.names, "", ""]
+    return ["route", "", *crossing.names]
 
 
-def balance_of(problem):
-    """The sums of supplies and of demands."""
-    return (
-        sum(place.supply for place in problem.places if place.supply > 0),
-        -sum(place.supply for place in problem.places if place.supply < 0),
-    )
-
-
-def slips(net):
+def slips(problem):
     """Likely slips in tables that are readable."""
-    supply, demand = balance_of(net.problem)
-    if supply and not demand:
-        stays = ", and all that is sent stays" if net.policy.unused else ""
+    if problem.supply and not problem.demand:
+        stays = ", and all that is sent stays" if problem.unused else ""
         return [
             f"no supply is below 0, so no place takes anything{stays}: was demand written as a"
             " positive number?"
         ]
-    if demand and not supply:
-        lacks = ", and all that is taken is missing" if net.policy.short else ""
+    if problem.demand and not problem.supply:
+        lacks = ", and all that is taken is missing" if problem.short else ""
         return [
             f"no supply is above 0, so no place sends anything{lacks}: was supply written as a"
             " negative number?"
         ]
-    column = net.problem.place_table.heads.index("supply")
-    if not supply and any(not cell_at(place.cells, column) for place in net.problem.places):
+    column = problem.place_sheet.place("supply")
+    if not problem.supply and not all(cell_at(one.cells, column) for one in problem.places):
         return [
             "all supplies are empty or 0, so no place sends or takes anything: was one forgotten?"
         ]
@@ -141,60 +94,53 @@ def slips(net):
 
 def balance_sentence(problem):
     """The sentence that total supply and total demand differ."""
-    amount = problem.said.amount
-    supply, demand = balance_of(problem)
+    supply, demand = problem.supply, problem.demand
     more, less, cure = (
         ("supply", "demand", "--unused allow lets it stay")
         if supply > demand
         else ("demand", "supply", "--short allow lets it be short")
     )
     return (
-        f"{more} exceeds {less} by {amount(abs(supply - demand))}: the supplies add to"
-        f" {amount(supply)}, the demands to {amount(demand)}, and they must be equal ({cure})."
+        f"{more} exceeds {less} by {problem.said(abs(supply - demand))}: the supplies add to"
+        f" {problem.said(supply)}, the demands to {problem.said(demand)}, and they must be equal"
+        f" ({cure})."
     )
 
 
-def bottleneck_sentence(net, bottleneck):
+def bottleneck_sentence(problem, bottleneck):
     """The sentence that these places must send (or take) N, but can only M, over these routes."""
-    amount = net.problem.said.amount
-    places = list(dict.fromkeys(net.node_name(node) for node in bottleneck.nodes))
-    named = listed(places) + (" together" if len(places) > 1 else "")
-    must = f"{named} must {bottleneck.side} {amount(bottleneck.must)}"
+    places = [problem.places[number - 1].name for number in sorted(bottleneck.places)]
+    named, side = listed(places) + (" together" if len(places) > 1 else ""), bottleneck.side
+    must = f"{named} must {side} {problem.said(bottleneck.must)}"
     if bottleneck.forcing:
-        forcing = net.amounts(bottleneck.forcing, "least")
-        must += f" (with the least of {listed([route_text(net, *pair) for pair in forcing])})"
+        forcing = [route_text(problem, one, one.least) for one in bottleneck.forcing]
+        must += f" (with the least of {listed(forcing)})"
     if not bottleneck.limiting:
-        return (
-            f"{must}, and no route {'leads away' if bottleneck.side == 'send' else 'leads there'}."
-        )
-    over = listed([route_text(net, *pair) for pair in net.amounts(bottleneck.limiting, "most")])
-    short = amount(bottleneck.must - bottleneck.can)
+        return f"{must}, and no route {'leads away' if side == 'send' else 'leads there'}."
+    over = listed([route_text(problem, one, one.most) for one in bottleneck.limiting])
+    short = problem.said(bottleneck.must - bottleneck.can)
     return (
-        f"{must}, and can {bottleneck.side} only {amount(bottleneck.can)}, over {over}. Short by"
+        f"{must}, and can {side} only {problem.said(bottleneck.can)}, over {over}. Short by"
         f" {short}."
     )
 
 
-def route_text(net, k, number):
+def route_text(problem, crossing, amount):
     """A route, or the flow through a place, with an amount."""
-    name = (
-        f"through {net.ends(k)[0]}" if net.uses[k].kind == "through" else " -> ".join(net.ends(k))
-    )
-    return f"{name} ({net.problem.said.amount(number)})"
+    begin = "through " if crossing.kind == "through" else ""
+    return f"{begin}{' -> '.join(crossing.names)} ({problem.said(amount)})"
 
 
 def blocked_summary(blocked):
     """The lines that say why there is no plan."""
-    lines = ["No plan exists, as mcf found and mcfcheck accepted:"]
+    lines = ["No plan exists, proved:"]
     if blocked.is_unbalanced:
-        lines.append("  " + balance_sentence(blocked.net.problem))
+        lines.append("  " + balance_sentence(blocked.problem))
     if blocked.is_unbalanced and blocked.bottlenecks:
-        lines.append(
-            f"Even if that {'stays' if sum(blocked.net.supplies) > 0 else 'is short'}, no plan"
-            " exists, as mcf found and mcfcheck accepted:"
-        )
+        stays = "stays" if blocked.surplus > 0 else "is short"
+        lines.append(f"Even if that {stays}, no plan exists, proved:")
     return lines + [
-        "  " + bottleneck_sentence(blocked.eased, bottleneck)
+        "  " + bottleneck_sentence(blocked.problem, bottleneck)
         for bottleneck in blocked.bottlenecks[:TOLD_NAMES]
     ]
 
@@ -204,12 +150,9 @@ def flow_summary(plan):
     problem = plan.problem
     carrying = sum(1 for result in plan.routes if result.carries)
     full = sum(1 for result in plan.routes if result.free == 0)
-    passing = sum(result.through.cost for result in plan.places if result.through)
+    passing = sum(result.through.cost or 0 for result in plan.places if result.through)
     lines = [
-        (
-            "A least-cost plan, written by mcf and accepted by mcfcheck: cost"
-            f" {problem.said.total(plan.cost)}."
-        ),
+        f"A least-cost plan, proved: cost {problem.said(plan.cost)}.",
         (
             f"{count_of(len(problem.places), 'place', 'places')},"
             f" {count_of(len(problem.routes), 'route', 'routes')}:"
@@ -217,17 +160,14 @@ def flow_summary(plan):
             f" {full} {'is' if full == 1 else 'are'} full."
         ),
     ]
-    lines += unmet_lines(plan) + (
-        [f"Passing through places costs {problem.said.total(passing)} of that."] if passing else []
-    )
+    lines += unmet_lines(plan)
+    lines += [f"Passing through places costs {problem.said(passing)} of that."] if passing else []
     saving = savings_of(plan)
     if saving:
         lines.append("One more unit of room would save most on:")
     for ends, result in saving[:5]:
         at_most = "" if result.is_exact else "at most "
-        lines.append(
-            f"  {' -> '.join(ends)}: {at_most}{problem.said.text(plan.rate(result.saves))}"
-        )
+        lines.append(f"  {' -> '.join(ends)}: {at_most}{problem.said(result.saves)}")
     return lines
 
 
@@ -247,19 +187,16 @@ def savings_of(plan):
 
 def unmet_lines(plan):
     """Lines on what stays and what is missing."""
-    amount, policy, lines = plan.problem.said.amount, plan.net.policy, []
-    for is_supply, allowed in ((True, policy.unused), (False, policy.short)):
+    problem, lines = plan.problem, []
+    for is_supply, is_allowed in ((True, problem.unused), (False, problem.short)):
         found = plan.unmet(is_supply)
-        total = amount(sum(unmet for _, unmet in found))
-        where = listed([f"{place.name} {amount(unmet)}" for place, unmet in found])
-        if allowed and is_supply:
+        total = problem.said(sum(amount for _, amount in found))
+        where = listed([f"{place.name} {problem.said(amount)}" for place, amount in found])
+        if is_allowed and is_supply:
             lines.append(f"{total} stay at: {where}." if found else "Nothing stays.")
-        elif allowed:
-            cost = (
-                f", which costs {plan.problem.said.total(plan.penalties)} of that"
-                if policy.penalty
-                else ""
-            )
+        elif is_allowed:
+            cost = sum(amount for _, amount in found) * (problem.penalty or 0)
+            cost = f", which costs {problem.said(cost)} of that" if problem.penalty else ""
             lines.append(
                 f"{total} are missing at: {where}{cost}." if found else "Nothing is missing."
             )

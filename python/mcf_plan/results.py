@@ -2,49 +2,65 @@
 is one or the options request one."""
 import csv
 
-from .amounts import Figure
-from .tables import SEPARATORS, cell_at
+from .figures import Figure
+from .tables import SEPARATORS
 from .workbook import openpyxl_for, write_workbook
 
 FORMULA = ("=", "+", "-", "@", "\t", "\r")
+# The heads of results, in groups.
+FLOW_RESULTS = ("carries", "total", "free", "one_more_saves", "exact")
+PLACE_RESULTS = ("one_more_costs", "group")
+THROUGH_RESULTS = ("passes", "passing_costs", "free", "one_more_saves", "exact")
+GROUPS = (FLOW_RESULTS, PLACE_RESULTS, THROUGH_RESULTS)
+
+
+def kept(sheet, groups=GROUPS):
+    """The places of the columns that results keep: all except groups of earlier results, if the
+    table has a group completely."""
+    gone = {head for heads in groups if sheet.has(heads) for head in heads}
+    return [place for place, head in enumerate(sheet.heads) if head not in gone]
 
 
 class Results:
-    """The tables of a folder."""
+    """The tables of a folder. Each is written like the text of a table, which is a sheet of the
+    answer, too."""
 
     def __init__(self, folder, options, mark, tables):
-        self.folder, self.mark, self.guards_formulas = folder, mark or ".", options.guard_formulas
+        self.folder, self.mark, self.guards_formulas = folder, mark, options.guard_formulas
         self.sheets = [] if options.xlsx or any(table.book for table in tables) else None
 
-    def table(self, name, like, heads, rows):
+    def table(self, name, like, sheet, heads, rows):
         """Writes a table with the separator and the byte-order mark, if any, of another."""
-        rows = list(rows)
+        rows, separator = list(rows), like.separator(sheet)
         with open(
             self.folder / f"{name}.csv",
             "w",
             newline="",
-            encoding="utf-8-sig" if like.mark else "utf-8",
+            encoding="utf-8-sig" if like.has_mark else "utf-8",
         ) as output:
-            if like.separator not in SEPARATORS:
-                output.write(f"sep={like.separator}\n")
-            writer = csv.writer(output, delimiter=like.separator, lineterminator="\n")
+            if separator not in SEPARATORS:
+                output.write(f"sep={separator}\n")
+            writer = csv.writer(output, delimiter=separator, lineterminator="\n")
             writer.writerow(heads)
             writer.writerows([self.cell(value) for value in row] for row in rows)
         if self.sheets is not None:
             self.sheets.append((name, heads, rows))
 
-    def after(self, name, like, results, rows):
-        """Writes a table with the columns of another, followed by groups of results. Each row has
-        the cells of both."""
-        places = like.kept(*results)
-        heads = [like.titles[place] for place in places] + [
-            head for group in results for head in group
-        ]
+    def after(self, name, like, sheet, groups, rows):
+        """Writes a table with the columns of another, followed by groups of results. Each row has a
+        line and the cells of both."""
+        places = kept(sheet, groups)
+        heads = [like.title(sheet.titles[place]) for place in places]
+        heads += [head for group in groups for head in group]
         self.table(
             name,
             like,
+            sheet,
             heads,
-            ([cell_at(cells, place) for place in places] + more for cells, more in rows),
+            (
+                [like.cell(line, cells, place) for place in places] + more
+                for line, cells, more in rows
+            ),
         )
 
     def cell(self, value):

@@ -3,9 +3,7 @@ import collections
 import functools
 import os
 
-from .caption import Figures
-from .flownet import Use
-from .report import balance_of
+from .caption import shown_number
 
 # With more than ALL_ROUTES routes, a picture leaves out those that carry nothing. If no plan exists
 # and there are more than NEAR places, it has only those that block and their neighbours.
@@ -13,6 +11,8 @@ ALL_ROUTES, NEAR = 90, 60
 # The greatest length of a name in a box, and the lengths of the beginning and the end of a cut
 # name.
 LONGEST, BEGIN, END = 24, 12, 11
+# What marks a route in the picture, or a place.
+KEYS = {"route": "route", "back": "route", "through": "through", "hub": "hub"}
 # A place: its name, the text of the name in its box, a note there, whether it sends, takes or
 # passes on, and its spot on a map. A route: its two places by numbers from 0, its width, its kind
 # (a word of COLOURS), its label and its title.
@@ -28,20 +28,20 @@ Scene = collections.namedtuple(
 def plan_scene(plan, caption):
     """The picture of a plan. It has all routes if there are few, and otherwise those that carry
     something or are shut."""
-    problem, figures = plan.problem, Figures(plan.problem)
+    problem, number_of = plan.problem, functools.partial(shown_number, plan.problem)
     widest, links = max((abs(result.carries) for result in plan.routes), default=0), []
     for number, (route, result) in enumerate(zip(problem.routes, plan.routes)):
         if len(problem.routes) <= ALL_ROUTES or result.carries or route.most == 0:
             kind = "full" if plan.is_full(number) else "flowing" if result.carries else "idle"
             links.append(plan_link(problem, route, result, kind, widest))
     left_out = len(problem.routes) - len(links)
-    heading = f"A least-cost plan: cost {figures.total(plan.cost, caption.currency)}" + (
+    heading = f"A least-cost plan: cost {number_of(plan.cost, caption.currency)}" + (
         f" ({left_out} idle routes aren't drawn)" if left_out else ""
     )
     shorts = short_names([place.name for place in problem.places])
     nodes = [
         node_of(problem, *each)
-        for each in zip(problem.places, shorts, (result.unmet for result in plan.places))
+        for each in zip(problem.places, shorts, (one.stays + one.missing for one in plan.places))
     ]
     return Scene(
         heading,
@@ -49,7 +49,7 @@ def plan_scene(plan, caption):
         links,
         [],
         {
-            "flowing": f"as wide as it carries (widest {figures.amount(widest, caption.unit)})",
+            "flowing": f"as wide as it carries (widest {number_of(widest, caption.unit)})",
             "full": "full",
         },
         caption,
@@ -58,52 +58,44 @@ def plan_scene(plan, caption):
 
 def plan_link(problem, route, result, kind, widest):
     """A route in the picture of a plan. A route that is used backward points that way."""
-    turned, figures = route.both and result.carries < 0, Figures(problem)
+    turned, number_of = route.both and result.carries < 0, functools.partial(shown_number, problem)
     carries = abs(result.carries) if turned else result.carries
     (tail, head), names = (route.tail, route.head)[:: -1 if turned else 1], problem.ends(route)[
         :: -1 if turned else 1
     ]
     title = (
-        f"{' -> '.join(names)}: {figures.amount(carries)} of {limits_text(problem, route)}, cost"
-        f" {figures.total(result.cost)}"
+        f"{' -> '.join(names)}: {number_of(carries)} of {limits_text(problem, route)}, cost"
+        f" {number_of(result.cost)}"
     )
-    width = 1.4 + 7.6 * abs(carries) / widest if carries else 1
-    return Link(tail - 1, head - 1, width, kind, figures.amount(carries) if carries else "", title)
+    width = 1.4 + 7.6 * float(abs(carries)) / float(widest) if carries else 1
+    return Link(tail - 1, head - 1, width, kind, number_of(carries) if carries else "", title)
 
 
 def blocked_scene(blocked, caption):
     """The picture if no plan exists. It shows the bottlenecks; if there are many places, it shows
     only those that block and their neighbours."""
-    net, problem = blocked.eased, blocked.net.problem
-    amount = Figures(problem).amount
-    marked = {
-        net.uses[k]: kind
-        for bottleneck in blocked.bottlenecks
-        for kind, arcs in (("forces", bottleneck.forcing), ("limits", bottleneck.limiting))
-        for k in arcs
-    }
-    groups = [
-        {net.place_of[node - 1] for node in bottleneck.nodes} for bottleneck in blocked.bottlenecks
-    ]
+    problem, amount = blocked.problem, functools.partial(shown_number, blocked.problem)
+    marked = {}
+    for bottleneck in blocked.bottlenecks:
+        for kind, found in (("forces", bottleneck.forcing), ("limits", bottleneck.limiting)):
+            marked.update({(KEYS[one.kind], one.line): kind for one in found})
+    groups = [{number - 1 for number in one.places} for one in blocked.bottlenecks]
     links = []
-    for k, route in enumerate(problem.routes):
-        kind = marked.get(Use("route", k)) or marked.get(Use("route", k, -1), "other")
+    for route in problem.routes:
+        kind = marked.get(("route", route.line), "other")
         label = {
             "limits": f"≤ {amount(route.most)}",
             "forces": f"≥ {amount(route.least)}",
             "other": "",
         }[kind]
         title = f"{' -> '.join(problem.ends(route))}: {limits_text(problem, route)}"
-        links.append(
-            Link(
-                route.tail - 1, route.head - 1, 1.2 if kind == "other" else 2.6, kind, label, title
-            )
-        )
+        width = 1.2 if kind == "other" else 2.6
+        links.append(Link(route.tail - 1, route.head - 1, width, kind, label, title))
     heading = blocked_heading(blocked, caption.unit)
     shorts = short_names([place.name for place in problem.places])
     nodes = [
-        limited(node_of(problem, place, short), Use("through", number) in marked, place, amount)
-        for number, (place, short) in enumerate(zip(problem.places, shorts))
+        limited(node_of(problem, place, short), ("through", place.line) in marked, place, amount)
+        for place, short in zip(problem.places, shorts)
     ]
     notes = {"limits": "limits them"} if marked else {}
     scene = Scene(heading, nodes, links, groups, notes, caption)
@@ -112,10 +104,9 @@ def blocked_scene(blocked, caption):
 
 def blocked_heading(blocked, unit):
     """The reason why no plan exists, in one line."""
-    amount = functools.partial(Figures(blocked.net.problem).amount, unit=unit)
+    problem, amount = blocked.problem, functools.partial(shown_number, blocked.problem, unit=unit)
     if blocked.is_unbalanced:
-        supply, demand = balance_of(blocked.net.problem)
-        return f"No plan exists: supply {amount(supply)}, demand {amount(demand)}"
+        return f"No plan exists: supply {amount(problem.supply)}, demand {amount(problem.demand)}"
     return "No plan exists: " + ", ".join(
         f"short by {amount(bottleneck.must - bottleneck.can)}"
         for bottleneck in blocked.bottlenecks[:3]
@@ -160,7 +151,7 @@ def near_scene(scene):
 def node_of(problem, place, short, unmet=0):
     """A place for the picture."""
     kind = "sends" if place.supply > 0 else "takes" if place.supply < 0 else "passes"
-    amount = Figures(problem).amount
+    amount = functools.partial(shown_number, problem)
     note = f"{kind} {amount(abs(place.supply))}" if place.supply else ""
     word = "stays" if place.supply > 0 else "missing"
     return Node(
@@ -174,7 +165,7 @@ def node_of(problem, place, short, unmet=0):
 
 def limits_text(problem, route):
     """The least and the greatest amount of a route."""
-    least, most = map(Figures(problem).amount, (route.least, route.most))
+    least, most = (shown_number(problem, value) for value in (route.least, route.most))
     if route.both:
         return f"{most or 'any amount'}, either way"
     return f"{least} to {most}" if most else f"{least} or more"

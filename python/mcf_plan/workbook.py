@@ -3,45 +3,13 @@ each table."""
 import decimal
 import io
 
-from .amounts import Figure
-from .faults import At, bad_table, shown
-from .tables import Table, bytes_of, is_workbook
+from .faults import bad_table, shown
+from .figures import Figure
 
 
-def tables_of(paths, wanted, reading, faults):
-    """The tables of some files, each with its wanted heads. Tables without a file are sheets of the
-    workbook."""
-    found, books = [], {}
-    for path, heads in zip(list(paths) + [paths[-1]] * (len(wanted) - len(paths)), wanted):
-        data = bytes_of(path)
-        if is_workbook(data):
-            if path not in books:
-                books[path] = sheets_of(path, data)
-            found.append(sheet_with(path, books[path], heads, reading))
-        elif len(paths) < len(wanted):
-            raise bad_table(
-                f"{path}: this is no workbook with two sheets: name the table of routes, too"
-            )
-        else:
-            found.append(Table.of_text(path, data, heads, reading, faults))
-    titles = {title.casefold() for table in found for title in table.titles}
-    for head, own in reading.heads.items():
-        if own.casefold() not in titles:
-            note_lacking(found, head, own, faults)
-    return found
-
-
-def note_lacking(tables, head, own, faults):
-    """Notes if no table has a column that the options name, or if a line below the heads has it."""
-    table = next((table for table in tables if table.line_with([own])), tables[-1])
-    below, others = table.line_with([own]), [other.name for other in tables if other is not table]
-    where = (
-        f"; it is in line {below}, and heads have to be in the first line"
-        if below
-        else "".join(f", nor in {other}" for other in others)
-    )
-    text = f"there is no such column, which --map {head}={own} names{where}"
-    faults.add(At(table, table.head_line, own), "map", text, own)
+def is_workbook(data):
+    """Whether bytes begin like an Excel workbook or another zip archive."""
+    return data[:4] == b"PK\x03\x04"
 
 
 def openpyxl_for(path):
@@ -57,7 +25,7 @@ def openpyxl_for(path):
 
 
 def sheets_of(path, data):
-    """The sheets of a workbook: their titles with their records."""
+    """The sheets of a workbook: their titles with their rows."""
     openpyxl = openpyxl_for(path)
     try:
         values, formulas = (
@@ -69,16 +37,16 @@ def sheets_of(path, data):
             f"{path}: this can't be read as an Excel workbook: {' '.join(str(error).split())}"
         )
     return [
-        (sheet.title, records_of(f"{path}, sheet {sheet.title}", sheet, formulas[sheet.title]))
+        (sheet.title, rows_of(f"{path}, sheet {sheet.title}", sheet, formulas[sheet.title]))
         for sheet in values.worksheets
     ]
 
 
-def records_of(name, sheet, formulas):
-    """The records of a sheet that aren't blank, each with the number of its row."""
+def rows_of(name, sheet, formulas):
+    """The rows of a sheet, as texts and figures."""
     found = []
-    for (line, row), asked in zip(
-        enumerate(sheet.iter_rows(values_only=True), 1), formulas.iter_rows()
+    for line, (row, asked) in enumerate(
+        zip(sheet.iter_rows(values_only=True), formulas.iter_rows()), 1
     ):
         for value, cell in zip(row, asked):
             if value is None and cell.data_type == "f":
@@ -86,9 +54,7 @@ def records_of(name, sheet, formulas):
                     f"{name}, line {line}: a formula whose value isn't stored,"
                     f" {shown(str(cell.value))}: open the workbook in Excel and save it"
                 )
-        cells = [text_of_cell(value) for value in row]
-        if any(cells):
-            found.append((line, cells))
+        found.append([text_of_cell(value) for value in row])
     return found
 
 
@@ -101,23 +67,7 @@ def text_of_cell(value):
         return Figure(format(decimal.Decimal(format(value, ".15g")).normalize(), "f"))
     if isinstance(value, int) and not isinstance(value, bool):
         return Figure(value)
-    return str(value).replace(" 00:00:00", "").strip()
-
-
-def sheet_with(path, sheets, wanted, reading):
-    """The table of the sheet that has most of the wanted heads."""
-    own = {reading.heads.get(head, head).casefold() for head in wanted}
-    ranked = [
-        (len(own & {cell.casefold() for cell in records[0][1]}), -number)
-        for number, (_, records) in enumerate(sheets)
-        if records
-    ]
-    if not ranked:
-        raise bad_table(f"{path}: the workbook is empty")
-    title, records = sheets[-max(ranked)[1]]
-    table = Table(f"{path}, sheet {title}", records, reading)
-    table.book = path
-    return table
+    return " ".join(str(value).replace(" 00:00:00", "").splitlines()).strip()
 
 
 def write_workbook(path, sheets):

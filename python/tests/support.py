@@ -8,6 +8,9 @@ import tempfile
 import unittest
 
 from mcf_plan import cli
+from mcf_plan.answer import answer_to
+from mcf_plan.problem import NO_OPTIONS, Plan, Problem
+from mcf_plan.programs import program
 
 TOP = pathlib.Path(__file__).resolve().parents[2]
 PLANS = TOP / "examples" / "plans"
@@ -33,6 +36,30 @@ def rows_of(path, separator=","):
     """The rows of a table, as dicts by the heads of the columns."""
     with open(path, newline="", encoding="utf-8-sig") as table:
         return list(csv.DictReader(table, delimiter=separator))
+
+
+def plan_of(tables, *words):
+    """The plan of two tables, whose first rows have the heads, or None if no plan exists."""
+    texts = [io.StringIO() for _ in tables]
+    for text, rows in zip(texts, tables):
+        csv.writer(text).writerows(rows)
+    answer = answer_to(program("mcfplan"), ["flow", *words], [text.getvalue() for text in texts])
+    return Plan(Problem(answer, (None, None), NO_OPTIONS)) if answer.kind == "plan" else None
+
+
+def with_more(rows, number, head, units):
+    """A table of rows, of which a row has units more under a head."""
+    changed, place = [list(row) for row in rows], rows[0].index(head)
+    changed[number][place] = str(int(changed[number][place] or 0) + units)
+    return changed
+
+
+def last_limit(heads, row):
+    """The head of the last limit of a row, if its last step has a limit."""
+    limits = [head for head in heads if head.startswith("most")]
+    costs = [head for head in heads if head.startswith("cost")]
+    filled = [most for most, cost in zip(limits, costs) if row[heads.index(cost)]]
+    return filled[-1] if filled and row[heads.index(filled[-1])] else None
 
 
 def script(path, text):

@@ -90,7 +90,7 @@ class Noticed(unittest.TestCase):
             ("python3 scripts/words.py erase", "scripts/words.py has no erase"),
             ("sudo make everything", "make has no target everything"),
             ("bin/mcf solve --speed", "bin/mcf has no --speed"),
-            ("tools/mcf_plan flow a b --engine fast --none", "tools/mcf_plan has no --none"),
+            ("tools/mcf_plan pairs a --each who --none", "tools/mcf_plan has no --none"),
             ("N=1 python3 bench/run.py simplex --runs 3", ""),
             ("mcf_one a.min --engine scaling", ""),
             ("crates/NAME/edits/WHAT.edit", ""),

@@ -4,12 +4,12 @@ stores the present results.
 Each folder has tables and `expected/` with the results and messages. If the arguments aren't the
 usual ones, call.txt has them.
 """
-import copy
 import os
 import re
 
-from mcf_plan import flownet, model, solve, tables
-from support import COMPARED, PLANS, TOP, WithFolder, rows_of, run
+from mcf_plan.answer import answer_to
+from mcf_plan.programs import program
+from support import COMPARED, PLANS, TOP, WithFolder, plan_of, rows_of, run, with_more
 
 # Examples that the tests solve again with one unit more and one unit less.
 SOLVED_AGAIN = ("transport", "network", "degenerate")
@@ -28,60 +28,39 @@ class Examples(WithFolder):
 
     @staticmethod
     def read(name):
-        """The problem of an example."""
-        return model.Problem.read(
-            [PLANS / name / "places.csv", PLANS / name / "routes.csv"], tables.Reading()
-        )
-
-    def solved(self, problem, **changes):
-        """The plan of a problem, with other places or routes if given, or None if no plan
-        exists."""
-        changed = copy.copy(problem)
-        vars(changed).update(changes)
-        net = flownet.FlowNet(changed)
-        plan = solve.solve(solve.Programs(None), self.folder, net.instance())
-        return plan and flownet.FlowPlan(net, plan)
+        """The tables of an example."""
+        texts = [(PLANS / name / f"{word}.csv").read_text("utf-8") for word in ("places", "routes")]
+        sheets = answer_to(program("mcfplan"), ["flow"], texts).sheets.values()
+        return [[sheet.heads, *(cells for _, cells in sheet.rows)] for sheet in sheets]
 
     def test_one_more_unit_of_room(self):
         for name in SOLVED_AGAIN:
-            problem = self.read(name)
-            plan = self.solved(problem)
-            for number, (route, result) in enumerate(zip(problem.routes, plan.routes)):
+            places, routes = self.read(name)
+            plan = plan_of([places, routes])
+            for number, result in enumerate(plan.routes, 1):
                 if result.free:
                     continue
-                wider = (
-                    problem.routes[:number]
-                    + [
-                        route._replace(
-                            steps=route.steps[:-1]
-                            + (model.Step(route.steps[-1].most + 1, route.steps[-1].cost),)
-                        )
-                    ]
-                    + problem.routes[number + 1 :]
-                )
-                again = self.solved(problem, routes=wider)
-                with self.subTest(name=name, route=route):
+                again = plan_of([places, with_more(routes, number, "most", 1)])
+                with self.subTest(name=name, route=number):
                     self.assertLessEqual(plan.cost - again.cost, result.saves)
                     self.assertTrue(plan.cost - again.cost == result.saves or not result.is_exact)
 
     def test_one_more_unit_at_a_place(self):
         for name in SOLVED_AGAIN:
-            problem = self.read(name)
-            plan = self.solved(problem)
-            count = len(problem.places)
-            begin = min(range(count), key=lambda number: plan.places[number].price)
+            tables = self.read(name)
+            plan = plan_of(tables)
+            count = len(plan.places)
+            begin = min(range(count), key=lambda number: plan.places[number].costs)
             for end in range(0, count, 1 if count < 20 else 6):
                 for units in (1, -1):
                     with self.subTest(name=name, end=end, units=units):
-                        self.check_units(problem, plan, begin, end, units)
+                        self.check_units(tables, plan, begin, end, units)
 
-    def check_units(self, problem, plan, begin, end, units):
+    def check_units(self, tables, plan, begin, end, units):
         """Checks the figures on one more unit, and on units from one place to another."""
-        figure = plan.places[end].price - plan.places[begin].price
-        changed = list(problem.places)
-        changed[begin] = changed[begin]._replace(supply=changed[begin].supply + units)
-        changed[end] = changed[end]._replace(supply=changed[end].supply - units)
-        again = self.solved(problem, places=changed)
+        figure = plan.places[end].costs - plan.places[begin].costs
+        changed = with_more(tables[0], begin + 1, "supply", units)
+        again = plan_of([with_more(changed, end + 1, "supply", -units), tables[1]])
         self.assertTrue(again is None or again.cost - plan.cost >= units * figure)
         self.assertTrue(
             plan.places[begin].group != plan.places[end].group

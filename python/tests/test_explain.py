@@ -7,7 +7,7 @@ import subprocess
 import sys
 
 from mcf_explain import cli
-from mcf_plan.solve import Programs
+from mcf_plan.programs import program
 from support import TOP, WithFolder, script
 
 GOOD = "p min 3 2\nn 1 4\nn 3 -4\na 1 2 0 9 1\na 2 3 0 9 1\n"
@@ -43,7 +43,7 @@ class Explain(WithFolder):
 
     def explained(self, data):
         """The explanation of a text, and the status."""
-        lines, status = cli.explained("text", data, Programs(None))
+        lines, status = cli.explained("text", data, program("mcfcheck"))
         return "\n".join(lines), status
 
     def test_causes(self):
@@ -138,10 +138,9 @@ class Explain(WithFolder):
                 self.assertIn(status, (0, 2), said)
 
     def test_a_refusal_that_mcfcheck_does_not_accept(self):
-        script(self.folder / "mcf", "exit 3")
         script(self.folder / "mcfcheck", "echo rejected refusal; exit 1")
         for text in (GOOD, "x\n"):
-            lines, status = cli.explained("text", text.encode(), Programs(self.folder))
+            lines, status = cli.explained("text", text.encode(), program("mcfcheck", self.folder))
             self.assertEqual(status, 3)
             self.assertIn("MCF SEES IT OTHERWISE", lines[-1])
 

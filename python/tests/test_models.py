@@ -1,19 +1,16 @@
 """Compares plans from tables with all kinds of columns with glpsol, which gets the problem as a
 linear program, and with networkx."""
 import collections
-import copy
+import csv
 import importlib.util
+import io
 import random
 import re
 import shutil
 import subprocess
 import unittest
 
-from mcf_plan.flownet import FlowNet, FlowPlan, Policy
-from mcf_plan.model import Problem, Step
-from mcf_plan.solve import Programs, solve
-from mcf_plan.tables import Reading
-from support import WithFolder, rows_of
+from support import WithFolder, last_limit, plan_of, rows_of, with_more
 
 GLPSOL = shutil.which("glpsol")
 
@@ -168,46 +165,32 @@ class OneMoreUnit(WithFolder):
     """The saving by one more unit of room (capacity), of routes with steps and in both directions,
     and of places."""
 
-    def solved(self, problem, **changes):
-        """The plan of a problem, with other places or routes if given, or None if no plan
-        exists."""
-        changed = copy.copy(problem)
-        vars(changed).update(changes)
-        net = FlowNet(changed, Policy(unused=True, short=True, penalty=40))
-        plan = solve(Programs(None), self.folder, net.instance())
-        return plan and FlowPlan(net, plan)
+    WORDS = ("--unused", "allow", "--short", "allow", "--penalty", "40")
 
     def test_random_tables(self):
         seen = collections.Counter()
         for seed in range(100, 125):
-            places, routes = Case(seed).tables()
-            problem = Problem.read(
-                [self.put("places.csv", places), self.put("routes.csv", routes)], Reading()
-            )
-            problem.places = [place._replace(supply=3 * place.supply) for place in problem.places]
-            plan = self.solved(problem)
-            for result, again in self.wider(problem, plan) if plan else ():
+            tables = [list(csv.reader(io.StringIO(text))) for text in Case(seed).tables()]
+            for row in tables[0][1:]:
+                row[1] = str(3 * int(row[1]))
+            plan = plan_of(tables, *self.WORDS)
+            for result, again in self.wider(*tables, plan) if plan else ():
                 with self.subTest(seed=seed):
                     self.assertLessEqual(plan.cost - again.cost, result.saves)
                     self.assertTrue(plan.cost - again.cost == result.saves or not result.is_exact)
                     seen[result.is_exact, result.saves > 0] += 1
         self.assertTrue(seen[True, True] > 5 and seen[True, False] > 5, seen)
 
-    def wider(self, problem, plan):
+    def wider(self, places, routes, plan):
         """The results of plans with one more unit of room, for each limit."""
-        for number, (route, result) in enumerate(zip(problem.routes, plan.routes)):
-            if route.most is not None:
-                step = Step(route.steps[-1].most + 1, route.steps[-1].cost)
-                routes = [*problem.routes]
-                routes[number] = route._replace(steps=route.steps[:-1] + (step,))
-                yield result, self.solved(problem, routes=routes)
-        for number, (place, result) in enumerate(zip(problem.places, plan.places)):
-            if place.bounds and place.bounds.most is not None:
-                places = [*problem.places]
-                places[number] = place._replace(
-                    bounds=place.bounds._replace(most=place.bounds.most + 1)
-                )
-                yield result.through, self.solved(problem, places=places)
+        for number, result in enumerate(plan.routes, 1):
+            head = last_limit(routes[0], routes[number])
+            if head:
+                yield result, plan_of([places, with_more(routes, number, head, 1)], *self.WORDS)
+        for number, result in enumerate(plan.places, 1):
+            if result.through and places[number][3]:
+                wider = with_more(places, number, "most", 1)
+                yield result.through, plan_of([wider, routes], *self.WORDS)
 
 
 @unittest.skipUnless(GLPSOL, "glpsol isn't there: what tables may ask, compared with it")
@@ -306,10 +289,10 @@ class Columns(WithFolder):
             [("7", "29", ""), ("4", "20", "0")],
         )
         for cells, text in (
-            (",3,5,2,4,,", "column cost 2: '4' is below the cost of the step before"),
+            (",3,5,2,4,,", "column cost: the cost of a step is below the cost of the step before"),
             (",,5,2,6,,", "column most 2: the step before is without"),
             (",3,5,2,,,", "column cost 2: the number is empty"),
-            (",3,5,-2,6,,", "column most 2: '-2' is below 0"),
+            (",3,5,-2,6,,", "column most: a step is below 0"),
         ):
             self.assertIn(
                 text,
@@ -378,8 +361,8 @@ class Columns(WithFolder):
                 text, self.flow("name,supply\nA,0\nB,0\n", f"from,to,most,cost,both\n{cells}\n")[2]
             )
 
-    def test_a_step_that_mcf_refuses(self):
+    def test_a_step_beyond_the_limits(self):
         told = self.flow(
             "name,supply\nA,0\n", "from,to,most,cost,most 2,cost 2\nA,A,1,1,1,1000000000000001\n"
         )[2]
-        self.assertIn("routes.csv, line 2, column cost: a cost beyond what mcf takes", told)
+        self.assertIn("routes.csv, line 2, column cost: this is beyond the limits", told)

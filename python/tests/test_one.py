@@ -8,7 +8,7 @@ import signal
 import subprocess
 import time
 
-from mcf_plan.solve import Programs
+from mcf_plan.programs import program
 from support import TOP, WithFolder, script
 
 TOOL = str(TOP / "tools" / "mcf_one")
@@ -22,7 +22,7 @@ class One(WithFolder):
         """Runs the script. Returns its status and its output."""
         environment = {
             **os.environ,
-            "MCF_BIN": os.path.dirname(Programs(None).solver),
+            "MCF_BIN": os.path.dirname(program("mcf")),
             **{name: str(value) for name, value in variables.items()},
         }
         done = subprocess.run(
@@ -92,8 +92,8 @@ class One(WithFolder):
             folder.mkdir(parents=True)
             tools.mkdir(exist_ok=True)
             self.tool = shutil.copy(TOOL, tools)
-            for program in (Programs(None).solver, Programs(None).checker):
-                shutil.copy(program, folder)
+            for name in ("mcf", "mcfcheck"):
+                shutil.copy(program(name), folder)
             self.assertEqual(
                 self.run_one(path, MCF_BIN="", PATH="/usr/bin:/bin"),
                 (0, f"0 {path} accepted flow 15\n"),
@@ -106,7 +106,7 @@ class One(WithFolder):
 
     def test_an_answer_that_is_rejected(self):
         script(self.folder / "mcf", "echo s 14")
-        shutil.copy(Programs(None).checker, self.folder / "mcfcheck")
+        shutil.copy(program("mcfcheck"), self.folder / "mcfcheck")
         path = self.put("a.min", FLOW)
         self.assertEqual(self.run_one(path, MCF_BIN=self.folder), (3, f"3 {path} rejected arc 1\n"))
         self.assertEqual(
@@ -146,9 +146,7 @@ class One(WithFolder):
         for number, name in enumerate(names):
             self.put(name, FLOW if number % 4 else FLOW.replace("4 5", "2 5"))
         log = self.folder / "log.csv"
-        environment = dict(
-            os.environ, MCF_BIN=os.path.dirname(Programs(None).solver), MCF_LOG=str(log)
-        )
+        environment = dict(os.environ, MCF_BIN=os.path.dirname(program("mcf")), MCF_LOG=str(log))
         subprocess.run(
             ["xargs", "-r", "-0", "-n", "1", "-P", "8", TOOL],
             input="\0".join(str(self.folder / name) for name in names).encode(),

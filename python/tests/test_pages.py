@@ -112,8 +112,8 @@ class Pages(WithFolder):
             ),
         ):
             self.assertIn(part, text)
-        for name in ("instance.min", "answer.ans"):
-            self.assertIn(hashlib.sha256((self.out / name).read_bytes()).hexdigest(), text)
+        answer = (self.out / "answer.csv").read_bytes()
+        self.assertIn(hashlib.sha256(answer).hexdigest(), text)
 
     def test_numbers_as_the_tables_have_them(self):
         self.flow("name;supply\nA;12500\nB;-12500\n", "from;to;most;cost\nA;B;;1,25\n")

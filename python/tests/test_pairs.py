@@ -47,13 +47,16 @@ class Pairs(WithFolder):
     def test_a_name_on_both_sides(self):
         self.assertEqual(self.pairs("who,what,cost\nA,A,1\n")[0], 0)
 
-    def test_a_refused_cost(self):
+    def test_a_cost_beyond_the_limits(self):
         for costs, begins in (
             (
                 "who,what,cost\n\nA,X,1000000000000001\n",
-                "costs.csv, line 3, column cost: a cost beyond",
+                "costs.csv, line 3, column cost: '1000000000000001' is beyond",
             ),
-            (",X,Y\nA,1,1000000000000001\n", "costs.csv, line 2, column 3: a cost beyond"),
+            (
+                ",X,Y\nA,1,1000000000000001\n",
+                "costs.csv, line 2, column 3: '1000000000000001' is beyond",
+            ),
         ):
             status, _, told = self.pairs(costs)
             self.assertEqual(status, 2)
@@ -107,9 +110,7 @@ class Each(WithFolder):
     def test_the_greatest_value(self):
         status, said, _ = self.pairs(",X,Y\nA,1,2.5\nB,3,3.5\n", "--maximise")
         self.assertEqual(status, 0)
-        self.assertIn(
-            "Pairs of the greatest value, written by mcf and accepted by mcfcheck: value 5.5.", said
-        )
+        self.assertIn("Pairs of the greatest value, proved: value 5.5.", said)
         self.assertEqual((self.out / "pairs.csv").read_text(), "who,what,cost\nA,Y,2.5\nB,X,3\n")
 
 

@@ -1,18 +1,19 @@
-"""Tests with programs that are missing, fail, or print wrong answers."""
-import shutil
+"""Tests with a program that is missing, fails, or prints what is no answer."""
+import re
 
-from mcf_plan import solve
-from mcf_plan.solve import Programs as Found
+from mcf_plan.answer import answer_to
+from mcf_plan.programs import program
 from support import COMPARED, PLACES, ROUTES, WithFolder, script
+
+ANSWER = 'echo \'"answer","{}"\'; exit {}'
 
 
 class Programs(WithFolder):
-    """Programs that are missing, fail, or print wrong answers."""
+    """A program that is missing, fails, or prints what is no answer."""
 
-    def judged(self, solver, checker):
-        """The status and output of the tool with these two programs."""
-        script(self.folder / "mcf", solver)
-        script(self.folder / "mcfcheck", checker)
+    def told(self, text):
+        """The output of the tool with this program."""
+        script(self.folder / "mcfplan", text)
         status, said, told = self.flow(PLACES, ROUTES, "--programs", self.folder)
         self.assertEqual((status, said), (3, ""))
         self.assertEqual([path for path in COMPARED if (self.out / path).exists()], [])
@@ -21,65 +22,37 @@ class Programs(WithFolder):
     def test_missing(self):
         status, _, told = self.flow(PLACES, ROUTES, "--programs", self.folder)
         self.assertEqual(status, 3)
-        self.assertIn("the program mcf isn't in", told)
+        self.assertIn("the program mcfplan isn't in", told)
 
     def test_no_answer(self):
-        self.assertIn(
-            "mcf: out of memory", self.judged("echo 'mcf: out of memory' >&2; exit 3", "exit 0")
-        )
-        self.assertIn("status -9", self.judged("kill -9 $$", "exit 0"))
+        text = "mcfplan: out of memory"
+        self.assertIn(text, self.told(f"echo '{text}' >&2; exit 3"))
+        self.assertIn("status -9", self.told("kill -9 $$"))
 
-    def test_no_verdict(self):
-        self.assertIn("no verdict (status 3): why", self.judged("echo s 0", "echo why >&2; exit 3"))
-        self.assertIn("no verdict", self.judged("echo s 0", "exit 0"))
+    def test_an_answer_that_is_none(self):
+        for text in ("", "echo", "echo s 171", ANSWER.format("plan", 0), "printf '\\377'"):
+            self.assertIn("can't be read", self.told(text), text)
 
-    def test_a_rejected_answer(self):
-        self.assertIn(
-            "MCFCHECK SAYS NO: rejected cost", self.judged("echo s 0", "echo rejected cost; exit 1")
-        )
+    def test_an_answer_of_another_status(self):
+        for kind, status in (("plan", 1), ("plan", 2), ("no plan", 0), ("faults", 0)):
+            text = f"mcfplan ended with status {status}, and its answer can't be read"
+            self.assertIn(text, self.told(ANSWER.format(kind, status)))
 
-    def test_programs_that_disagree(self):
-        self.assertIn("accepted a blocked", self.judged("echo s 0", "echo accepted blocked 1"))
-
-    def test_a_refused_total(self):
-        script(self.folder / "mcf", "echo r 9 total; exit 2")
-        script(self.folder / "mcfcheck", "echo accepted refusal 9 total")
-        status, _, told = self.flow(PLACES, ROUTES, "--programs", self.folder)
-        self.assertEqual(status, 2)
-        self.assertIn(
-            (
-                "routes.csv, line 4, column cost: with this route, costs times amounts add to more"
-                " than mcf takes (mcf: total)"
-            ),
-            told,
-        )
-
-    def test_a_wrong_answer_is_found_by_the_true_checker(self):
-        shutil.copy(Found(None).checker, self.folder / "mcfcheck")
-        script(self.folder / "mcf", "echo s 171; echo f 1 2 15; echo f 1 3 15; echo f 3 2 2")
+    def test_figures_that_are_too_great_are_empty(self):
+        answer = answer_to(program("mcfplan"), ["flow"], [PLACES, ROUTES]).data.decode()
+        answer = re.sub(r'("route"(?:,"[^"]*"){4}),.*', r'\1,"","","",""', answer)
+        answer = re.sub(r'("place"(?:,"[^"]*"){4}),.*', r'\1,"","","","","","",""', answer)
+        script(self.folder / "mcfplan", f"cat {self.put('answer', answer)}")
         status, said, told = self.flow(PLACES, ROUTES, "--programs", self.folder)
-        self.assertEqual((status, said), (3, ""))
-        self.assertIn("MCFCHECK SAYS NO: rejected node", told)
+        self.assertEqual((status, told), (0, ""))
+        self.assertIn("cost 171.\n3 places, 3 routes: 3 carry something, 0 are full.\n", said)
+        self.assertIn("Mill,Wien,0,15,4,15,,,,\n", (self.out / "flows.csv").read_text())
+        self.assertIn("Wien,-18,,\n", (self.out / "prices.csv").read_text())
 
-    def test_a_plan_goes_to_fast(self):
-        words = self.folder / "words"
+    def test_the_answer_is_kept_byte_for_byte(self):
         script(
-            self.folder / "mcf",
-            (
-                f"[ $# = 2 ] || echo \"$2 $3\" >> '{words}'\n"
-                f"for file; do :; done; exec '{Found(None).solver}' solve \"$file\""
-            ),
+            self.folder / "mcfplan", f"exec {program('mcfplan')} \"$@\" | tee {self.folder}/kept"
         )
-        shutil.copy(Found(None).checker, self.folder / "mcfcheck")
         self.assertEqual(self.flow(PLACES, ROUTES, "--programs", self.folder)[0], 0)
-        self.assertEqual(words.read_text(), "--engine fast\n")
-
-    def test_which_engine_a_problem_goes_to(self):
-        for line, options in (
-            ("p min 3 3", ["--engine", "fast"]),
-            (f"p min {2**14 + 1} {2**17}", ["--engine", "fast"]),
-            (f"p asn {2**17} {2**18}", []),
-        ):
-            instance = solve.Instance("min")
-            instance.add(["c a remark", line])
-            self.assertEqual(instance.options(), options, line)
+        kept = (self.folder / "kept").read_bytes()
+        self.assertEqual((self.out / "answer.csv").read_bytes(), kept)

@@ -3,14 +3,15 @@ or not at all."""
 import os
 import pty
 import resource
+import shutil
 import signal
 import subprocess
 import sys
 import time
 from unittest import mock
 
-from mcf_plan import flownet
-from mcf_plan.solve import Programs
+from mcf_plan import commands
+from mcf_plan.programs import program
 from support import PLACES, ROUTES, TOP, WithFolder, script
 
 TOOL = [sys.executable, str(TOP / "tools" / "mcf_plan")]
@@ -61,8 +62,7 @@ class Statuses(WithFolder):
         self.assertIn(b"the summary can't be written", done.stderr)
 
     def test_signals(self):
-        script(self.folder / "mcf", "sleep 60")
-        script(self.folder / "mcfcheck", "exit 0")
+        script(self.folder / "mcfplan", "sleep 60")
         for number, status in ((signal.SIGINT, 130), (signal.SIGTERM, 143)):
             with self.subTest(number=number), subprocess.Popen(
                 self.words("--programs", str(self.folder)), stderr=subprocess.PIPE
@@ -92,13 +92,12 @@ class Statuses(WithFolder):
 
     def test_an_interrupt_that_is_ignored_stays_so(self):
         words = self.words()
-        script(self.folder / "mcf", f'kill -INT $PPID; exec {Programs(None).solver} "$@"')
-        script(self.folder / "mcfcheck", f'exec {Programs(None).checker} "$@"')
+        script(self.folder / "mcfplan", f'kill -INT $PPID; exec {program("mcfplan")} "$@"')
         words = ["sh", "-c", "trap '' INT; exec \"$@\"", "sh", *words, "--programs", self.folder]
         self.assertEqual(subprocess.run(words, stdout=subprocess.PIPE).returncode, 0)
 
     def test_any_other_fault_is_told_in_one_line(self):
-        with mock.patch.object(flownet.FlowNet, "instance", side_effect=TypeError("one\ntwo")):
+        with mock.patch.object(commands, "Problem", side_effect=TypeError("one\ntwo")):
             status, said, told = self.flow(PLACES, ROUTES)
         self.assertEqual(
             (status, said, told),
@@ -107,15 +106,14 @@ class Statuses(WithFolder):
         self.assertEqual(self.left(), [])
 
     def test_a_sign_of_life_on_a_terminal(self):
-        script(self.folder / "mcf", "sleep 1.5; exit 3")
-        script(self.folder / "mcfcheck", "exit 0")
+        script(self.folder / "mcfplan", "sleep 1.5; exit 3")
         ours, theirs = pty.openpty()
         with subprocess.Popen(self.words("--programs", str(self.folder)), stderr=theirs) as process:
             process.wait(20)
         os.close(theirs)
         told = os.read(ours, 10_000).decode()
         os.close(ours)
-        self.assertIn("mcf_plan: mcf solves .. 1 s", told)
+        self.assertIn("mcf_plan: mcfplan plans .. 1 s", told)
 
 
 class Folders(WithFolder):
@@ -131,12 +129,12 @@ class Folders(WithFolder):
 
     def test_a_folder_of_others_with_names_of_results_is_left_alone(self):
         self.out.mkdir()
-        for others in ({"report.html": "mine"}, {"report.html": "mine", "plan.json": "{}"}):
+        for others in ({"report.html": "mine"}, {"report.html": "mine", "answer.csv": "{}"}):
             for name, text in others.items():
                 (self.out / name).write_text(text)
             status, said, told = self.flow(PLACES, ROUTES)
             self.assertEqual((status, said), (2, ""))
-            self.assertIn("and no plan.json of this tool, by which it would be an earlier", told)
+            self.assertIn("and no answer.csv of this tool, by which it would be an earlier", told)
             self.assertEqual({path.name for path in self.out.iterdir()}, set(others))
             self.assertEqual((self.out / "report.html").read_text(), "mine")
 
@@ -146,12 +144,18 @@ class Folders(WithFolder):
         self.assertEqual(self.flow(PLACES, ROUTES.replace("20", "2"))[0], 1)
         self.assertEqual(self.pairs(",X\nA,1\n")[0], 0)
         self.assertEqual(self.flow(PLACES, ROUTES)[0], 0)
+        shutil.rmtree(self.out)
+        self.out.mkdir()
+        record = '{\n"format": 2,\n"kind": "flow",\n"instance": "instance.min",\n'
+        for name, text in {"plan.json": record, "answer.ans": "s 1\n"}.items():
+            (self.out / name).write_text(text)
+        self.assertEqual(self.flow(PLACES, ROUTES)[0], 0)
+        self.assertFalse((self.out / "plan.json").exists())
 
     def test_a_run_that_fails_leaves_the_results_of_the_one_before(self):
         self.flow(PLACES, ROUTES)
         before = {path.name: path.read_bytes() for path in self.out.iterdir()}
-        script(self.folder / "mcf", "exit 3")
-        script(self.folder / "mcfcheck", "exit 3")
+        script(self.folder / "mcfplan", "exit 3")
         self.assertEqual(self.flow(PLACES, ROUTES, "--programs", self.folder)[0], 3)
         self.assertEqual({path.name: path.read_bytes() for path in self.out.iterdir()}, before)
 

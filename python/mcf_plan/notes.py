@@ -1,0 +1,87 @@
+"""Notes on how the tables were read: the columns that are carried along, and numbers that may be
+read in two ways."""
+import re
+
+from .answer import cell_at
+from .faults import shown
+from .figures import figure, value_of
+from .problem import SPOT_HEADS
+from .results import kept
+from .words import listed
+
+# The most carried columns to name.
+NAMED = 24
+KNOWN = {
+    "places": ("name", "supply", "least", "most", "cost"),
+    "routes": ("from", "to", "least", "most", "cost", "both"),
+    "costs": ("who", "what", "cost", "takes", "needs"),
+}
+NUMBERS = ("supply", "least", "most", "cost")
+# A number with one mark and three digits after it: the mark may separate thousands or decimals.
+EITHER = re.compile("[^0-9,.]*[1-9][0-9]{0,2}[.,][0-9]{3}")
+
+
+def known_heads(word, sheet):
+    """The heads of a table that are read."""
+    found, step = list(KNOWN[word]), 2
+    while word == "routes" and f"most {step}" in sheet.heads:
+        found += [f"most {step}", f"cost {step}"]
+        step += 1
+    return found + (list(SPOT_HEADS) if word == "places" and sheet.has(SPOT_HEADS) else [])
+
+
+def carried(word, table, sheet):
+    """The unused columns of a table, which are carried along to the results. Columns of earlier
+    results aren't among them, because the tool writes them again."""
+    return [
+        shown(table.title(sheet.titles[place]))[1:-1] or f"column {place + 1}"
+        for place in kept(sheet)
+        if sheet.heads[place] not in known_heads(word, sheet)
+        and (sheet.titles[place] or any(cell_at(cells, place) for _, cells in sheet.rows))
+    ]
+
+
+def carried_lines(words, tables, sheets):
+    """A line on the columns that are carried along, if there are any."""
+    columns = [name for one in zip(words, tables, sheets) for name in carried(*one)]
+    names = listed(list(dict.fromkeys(columns)), NAMED)
+    return [f"Columns carried along, not used: {names}."] if names else []
+
+
+def reading_lines(cells, problem, decimal):
+    """A line on the first cell that may be read in two ways, if there is one, and on what decides:
+    an option, or the first cell that shows the mark. Cells come with their tables and lines."""
+    either, shows, mark = None, None, problem.mark
+    for table, line, cell in cells:
+        if EITHER.fullmatch(cell):
+            either = either or (table, line, cell)
+        elif mark in cell or cell.count("." if mark == "," else ",") > 1:
+            shows = shows or (table, line, cell)
+    if not either:
+        return []
+    (table, line, cell), told = either, ", as --decimal says" if decimal else ""
+    if shows and not decimal:
+        told = (
+            f", since {shown(shows[2])} ({shows[0].name}, line {shows[1]}) has decimals after"
+            f" {shown(mark)}"
+        )
+    value = figure(value_of(cell, mark))
+    return [f"{shown(cell)} ({table.name}, line {line}) is read as {value}{told}."]
+
+
+def number_cells(table, sheet):
+    """The cells of a table of places or routes that are numbers."""
+    places = [place for place, head in enumerate(sheet.heads) if head.split(" ")[0] in NUMBERS]
+    for line, cells in sheet.rows:
+        for place in places:
+            if (line, place) not in table.figures:
+                yield table, line, cell_at(cells, place)
+
+
+def notes_of(problem):
+    """The notes on the tables of places and routes."""
+    tables = problem.place_table, problem.route_table
+    sheets = problem.place_sheet, problem.route_sheet
+    cells = [cell for one in zip(tables, sheets) for cell in number_cells(*one)]
+    lines = carried_lines(("places", "routes"), tables, sheets)
+    return lines + reading_lines(cells, problem, problem.options.decimal)

@@ -1,0 +1,177 @@
+"""The places and the routes of an answer, from the rows of its tables and from its results."""
+import argparse
+import collections
+
+from .answer import cell_at
+from .faults import At, Faults, shown
+from .figures import NO_LIMIT, Figure, coordinate_of, number_in, said, value_of
+
+SPOT_HEADS = ("x", "y")
+BOUND_HEADS = ("least", "most", "cost")
+NO = ("", "no", "n", "0", "false", "nein")
+STAYS, MISSING, THROUGH = "(stays)", "(missing)", "(through)"
+# The options of a plan that is read again.
+NO_OPTIONS = argparse.Namespace(unused=False, short=False, penalty=None)
+
+# A place. `bounds` limits the flow through it (its inflow and its supply) or is None; `line` and
+# `cells` are those of its table.
+Place = collections.namedtuple("Place", "name supply spot bounds line cells")
+# The least and the most flow through a place, and the cost of each unit there. A most of None means
+# no limit.
+Bounds = collections.namedtuple("Bounds", "least most cost")
+# A part of a route's flow: at most `most` units at this cost each. Costs rise from step to step.
+Step = collections.namedtuple("Step", "most cost")
+# The result of a route, or of the flow through a place: the flow and its cost; the residual
+# capacity (None without a limit); how much one more unit of capacity saves, and whether that is
+# exact. The result of a place: what one more unit costs there, the group in which that is exact,
+# how much stays there and is missing, and the RouteResult of the flow through it, if it has bounds.
+RouteResult = collections.namedtuple("RouteResult", "carries cost free saves is_exact")
+PlaceResult = collections.namedtuple("PlaceResult", "costs group stays missing through")
+
+
+class Route(collections.namedtuple("Route", "tail head least steps both line cells")):
+    """A route between two places, which are numbered from 1. `both` allows both directions. `line`
+    and `cells` are those of its table."""
+
+    @property
+    def most(self):
+        """The capacity of the route. None means no limit."""
+        return None if self.steps[-1].most is None else sum(step.most for step in self.steps)
+
+
+class Problem:
+    """The places and the routes of an answer. The cells of their numbers are numbers, since
+    `mcfplan` has read them."""
+
+    def __init__(self, answer, tables, options):
+        self.answer, self.options, self.mark = answer, options, answer.mark
+        self.place_table, self.route_table = tables
+        self.place_sheet, self.route_sheet = answer.sheets["places"], answer.sheets["routes"]
+        self.supply, self.demand = (number_in(answer.one(word)) for word in ("supply", "demand"))
+        self.unused, self.short = options.unused, options.short
+        self.penalty = value_of(options.penalty, self.mark) if options.penalty else None
+        faults = Faults()
+        self.places = [self.place(*row, faults) for row in self.place_sheet.rows]
+        faults.end()
+        self.numbers = {place.name: number for number, place in enumerate(self.places, 1)}
+        self.routes = [self.route(*row) for row in self.route_sheet.rows]
+
+    def said(self, value):
+        """A value in a sentence."""
+        return said(value, self.mark)
+
+    def number(self, sheet, cells, head):
+        """The number under a head, 0 if the cell is empty."""
+        return value_of(cell_at(cells, sheet.place(head)) or "0", self.mark)
+
+    def limit(self, sheet, cells, head):
+        """The number under a head, or None if it says that there is no limit."""
+        cell = cell_at(cells, sheet.place(head))
+        return None if cell.casefold() in NO_LIMIT else value_of(cell, self.mark)
+
+    def place(self, line, cells, faults):
+        """The place of a row."""
+        sheet = self.place_sheet
+        bounds = None
+        if any(cell_at(cells, sheet.place(head)) for head in BOUND_HEADS):
+            most = self.limit(sheet, cells, "most")
+            least, cost = (self.number(sheet, cells, head) for head in ("least", "cost"))
+            bounds = Bounds(least, most, cost)
+        return Place(
+            cell_at(cells, sheet.place("name")),
+            self.number(sheet, cells, "supply"),
+            self.spot(line, cells, faults),
+            bounds,
+            line,
+            cells,
+        )
+
+    def spot(self, line, cells, faults):
+        """The position of a place, if the table has positions."""
+        if not self.place_sheet.has(SPOT_HEADS):
+            return None
+        found = []
+        for head in SPOT_HEADS:
+            cell = cell_at(cells, self.place_sheet.place(head))
+            found.append(coordinate_of(cell))
+            if found[-1] is None:
+                text = (
+                    f"{shown(cell)} is no number (either all places have x and y, or leave the"
+                    " columns out)"
+                )
+                faults.add(At(self.place_table.name, line, head), "no spot", text, cell)
+        return tuple(found)
+
+    def route(self, line, cells):
+        """The route of a row."""
+        sheet = self.route_sheet
+        ends = [self.numbers[cell_at(cells, sheet.place(head))] for head in ("from", "to")]
+        both = cell_at(cells, sheet.place("both")).casefold() not in NO
+        steps = self.steps(sheet, cells)
+        return Route(*ends, self.number(sheet, cells, "least"), steps, both, line, cells)
+
+    def steps(self, sheet, cells):
+        """The steps of a route: the first one, and those with filled cells."""
+        found, heads = [], ("most", "cost")
+        while not found or any(cell_at(cells, sheet.place(head)) for head in heads):
+            found.append(
+                Step(self.limit(sheet, cells, heads[0]), self.number(sheet, cells, heads[1]))
+            )
+            heads = tuple(f"{head} {len(found) + 1}" for head in ("most", "cost"))
+        return tuple(found)
+
+    def ends(self, route):
+        """The names of a route's ends."""
+        return self.places[route.tail - 1].name, self.places[route.head - 1].name
+
+
+class Plan:
+    """The results of a plan for each route and each place."""
+
+    def __init__(self, problem):
+        self.problem, rows = problem, problem.answer.rows
+        self.cost = number_in(problem.answer.one("cost"))
+        backs = {cells[0]: route_result(cells[3:]) for cells in rows["back"]}
+        self.routes = [
+            both_ways(route_result(cells[3:]), backs.get(cells[0])) for cells in rows["route"]
+        ]
+        groups = {}
+        self.places = [place_result(cells[2:], groups) for cells in rows["place"]]
+
+    def is_full(self, number):
+        """Whether a route carries its whole capacity, and more than 0."""
+        return self.routes[number].free == 0 and self.routes[number].carries != 0
+
+    def unmet(self, is_supply):
+        """The places where something stays (or is missing), with the amounts."""
+        found = zip(self.problem.places, self.places)
+        amounts = ((place, one.stays if is_supply else one.missing) for place, one in found)
+        return [(place, amount) for place, amount in amounts if amount]
+
+
+def route_result(cells):
+    """The results of a route, from cells of an answer."""
+    return RouteResult(*map(number_in, cells[:4]), cells[4] == "yes")
+
+
+def both_ways(there, back):
+    """The results of a route both ways whose two directions an answer tells one by one."""
+    if not back:
+        return there
+    carries = there.carries - back.carries
+    last = max((there, back), key=lambda one: one.saves or 0)
+    return RouteResult(
+        carries,
+        None if None in (there.cost, back.cost) else there.cost + back.cost,
+        None if there.free is None else there.free + there.carries - abs(carries),
+        last.saves,
+        last.is_exact,
+    )
+
+
+def place_result(cells, groups):
+    """The results of a place. Groups get numbers in the order in which places show them."""
+    stays, missing, costs = map(number_in, cells[:3])
+    group = Figure(groups.setdefault(cells[3], len(groups) + 1)) if cells[3] else ""
+    through = route_result(cells[4:]) if cells[4] else None
+    return PlaceResult(costs, group, stays, missing, through)
