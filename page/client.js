@@ -9,6 +9,14 @@ const bytesOf = (text) => (
   typeof text === 'string' ? new TextEncoder().encode(text) : text.slice()
 );
 
+// This function adds the answer of a result as text.
+/** @type {(result: Judged) => Result} */
+const withText = (result) => ({
+  ...result,
+  bytes: result.answer,
+  answer: result.answer && new TextDecoder().decode(result.answer),
+});
+
 export class Client {
   // `source` is the source of the worker; `module` is the module in gzip and base64.
   /**
@@ -65,10 +73,14 @@ export class Client {
   // This method takes a text or its bytes. The result has the answer as text and as bytes.
   /** @type {(text: string | Uint8Array, engine: string) => Promise<Result>} */
   async solve(text, engine) {
-    const bytes = bytesOf(text), result = await this.ask({ bytes, engine }, bytes.buffer);
-    return result.answer
-      ? { ...result, bytes: result.answer, answer: new TextDecoder().decode(result.answer) }
-      : result;
+    const bytes = bytesOf(text);
+    return withText(await this.ask({ bytes, engine }, bytes.buffer));
+  }
+
+  // This method plans the texts of tables, as bytes.
+  /** @type {(texts: Uint8Array[], options: TableOptions) => Promise<Result>} */
+  async plan(texts, options) {
+    return withText(await this.ask({ texts, options }, ...texts.map(({ buffer }) => buffer)));
   }
 
   /** @type {(text: string | Uint8Array, answer: string | Uint8Array) => Promise<Verdict>} */

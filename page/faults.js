@@ -16,9 +16,9 @@ export class BadTable extends Error {
   }
 }
 
-// This function locates a cell by its table, its line and its column; the column is a head, or a
-// number from 1. Without a column, it locates a whole line.
-/** @type {(table: import('./tables.js').Table, line: number, column?: string | number) => Where} */
+// This function locates a cell by the name of its table, its line and its column; the column is a
+// head, or a number from 1. Without a column, it locates a whole line, and with line 0 the table.
+/** @type {(table: string, line: number, column?: string) => Where} */
 export const at = (table, line, column = '') => ({ table, line, column });
 
 // A character that can't be printed, or that looks like a blank but isn't one.
@@ -43,28 +43,16 @@ export class Faults {
   // This method notes a fault in a table. Faults of one kind share one line.
   /** @type {(where: Where, kind: string, text: string, cell?: string) => void} */
   add({ table, line, column }, kind, text, cell = '') {
-    const key = JSON.stringify([table.name, kind, typeof column === 'string' ? column : null]);
+    const key = JSON.stringify([table, kind, /^[0-9]+$/.test(column) ? '' : column]);
     if (!this.kinds.has(key)) {
-      this.kinds.set(key, {
-        table,
-        kind,
-        count: 0,
-        more: new Map(),
-        text: `${table.name}, line ${line}${column ? `, column ${column}` : ''}: ${text}`,
-      });
+      const where = `${table}${line ? `, line ${line}` : ''}${column ? `, column ${column}` : ''}`;
+      this.kinds.set(key, { text: `${where}: ${text}`, count: 0, more: new Map() });
     }
     const found = this.kinds.get(key);
     found.count++;
     if (found.count > 1 && found.more.size < TOLD_CELLS && !found.more.has(cell)) {
       found.more.set(cell, line);
     }
-  }
-
-  /** @type {(table: import('./tables.js').Table, kind: string) => boolean} */
-  has(table, kind) {
-    return [...this.kinds.values()].some((found) =>
-      found.table.name === table.name && found.kind === kind
-    );
   }
 
   end() {

@@ -3,7 +3,7 @@
 // title, columns, a count, and row(k), which returns the kind and the cells of the k-th row as
 // texts. A column has a head, its meaning, whether it holds numbers and, if its cells may be
 // changed, the head of the input.
-import { ZERO, compare, decimalText, decimalsOf, scaled, valueOf } from './amounts.js';
+import { ZERO, compare, decimalText, decimalsOf, exactOf, scaled } from './amounts.js';
 import { el, grouped } from './view.js';
 
 /**
@@ -244,9 +244,12 @@ export function totalsOf(sheet, order, lines) {
   ));
 }
 
+/** @type {(text: string) => Exact | null} */
+const figureOf = (text) => (/^-?[0-9]+(\.[0-9]+)?$/.test(text) ? exactOf(text) : null);
+
 /** @type {(texts: string[]) => string} */
 function sumOf(texts) {
-  const numbers = texts.map((text) => valueOf(text, '.') || ZERO), decimals = decimalsOf(numbers);
+  const numbers = texts.map((text) => figureOf(text) || ZERO), decimals = decimalsOf(numbers);
   return decimalText(numbers.reduce((sum, number) => sum + scaled(number, decimals), 0n), decimals);
 }
 
@@ -289,6 +292,6 @@ function byWorth(a, b) {
 
 /** @type {(text: string) => Worth | null} */
 function numberOf(text) {
-  const exact = valueOf(text, '.');
+  const exact = figureOf(text);
   return exact && { near: Number(text), exact };
 }

@@ -83,7 +83,7 @@ export class Instance {
     const asked = this.numbers([MARKS.indexOf(decimal), Number(unused), Number(short), 0], 32);
     this.view().setBigUint64(Number(asked) + 16, named.at, true);
     this.view().setBigUint64(Number(asked) + 24, BigInt(named.size), true);
-    return this.written(0, 4096 + 6 * (places.size + routes.size), (at, room) =>
+    return this.written(0, 4096 + 12 * (places.size + routes.size), (at, room) =>
       this.exports.mcf_plan_flow(
         places.at,
         BigInt(places.size),
@@ -106,7 +106,7 @@ export class Instance {
    */
   pair(costs, { decimal = '', each = '', maximise = false } = {}) {
     const asked = this.numbers([MARKS.indexOf(decimal), EACH.indexOf(each), Number(maximise)]);
-    return this.written(0, 4096 + 6 * costs.size, (at, room) =>
+    return this.written(0, 4096 + 12 * costs.size, (at, room) =>
       this.exports.mcf_plan_pairs(
         costs.at,
         BigInt(costs.size),

@@ -1,11 +1,12 @@
 // @ts-check
-// Networks in whole numbers, their texts, and the sets of nodes that block every flow. Nodes have
-// numbers from 1, arcs from 0.
+// Networks in whole numbers, and the sets of nodes that block every flow. Nodes have
+// numbers from 1.
 
+/** @template {Arc} A */
 export class Network {
   /**
    * @param {bigint[]} supplies
-   * @param {Arc[]} arcs
+   * @param {A[]} arcs
    */
   constructor(supplies, arcs) {
     this.supplies = supplies;
@@ -33,35 +34,32 @@ export class Network {
   // This method computes what a set of nodes must send and can send (or take). It must send its
   // supplies and the least amounts of the entering arcs. It can send the capacities of the leaving
   // arcs. For a set that takes, entering and leaving arcs are exchanged.
-  /** @type {(side: SendOrTake, nodes: Set<number>) => Bottleneck} */
+  /** @type {(side: SendOrTake, nodes: Set<number>) => Bottleneck<A>} */
   bottleneck(side, nodes) {
-    /** @type {number[]} */
-    const leaving = [];
-    /** @type {number[]} */
-    const entering = [];
-    this.arcs.forEach((arc, k) => {
-      if (nodes.has(arc.tail) && !nodes.has(arc.head)) leaving.push(k);
-      if (!nodes.has(arc.tail) && nodes.has(arc.head)) entering.push(k);
-    });
-    const [sign, limiting, forcing] = side === 'send'
-      ? [1n, leaving, entering]
-      : [-1n, entering, leaving];
+    const isSend = side === 'send';
+    const leads = (/** @type {number} */ from, /** @type {number} */ to) =>
+      nodes.has(from) && !nodes.has(to);
+    const limiting = this.arcs.filter(({ tail, head }) =>
+      isSend ? leads(tail, head) : leads(head, tail)
+    );
+    const forcing = this.arcs.filter(({ tail, head, least }) =>
+      least && (isSend ? leads(head, tail) : leads(tail, head))
+    );
     const sorted = [...nodes].sort((a, b) => a - b);
-    const must = sign * sorted.reduce((sum, node) => sum + this.supplies[node - 1], 0n)
-      + forcing.reduce((sum, k) => sum + this.arcs[k].least, 0n);
+    const supply = sorted.reduce((sum, node) => sum + this.supplies[node - 1], 0n);
     return {
       side,
       nodes: sorted,
-      must,
-      can: limiting.reduce((sum, k) => sum + this.arcs[k].most, 0n),
-      forcing: forcing.filter((k) => this.arcs[k].least),
+      must: (isSend ? supply : -supply) + forcing.reduce((sum, { least }) => sum + least, 0n),
+      can: limiting.reduce((sum, { most }) => sum + (most || 0n), 0n),
+      forcing,
       limiting,
     };
   }
 
   // This method splits a blocking set into its bottlenecks. No arc joins two parts, so at least one
   // part blocks by itself.
-  /** @type {(side: SendOrTake, nodes: Set<number>) => Bottleneck[]} */
+  /** @type {(side: SendOrTake, nodes: Set<number>) => Bottleneck<A>[]} */
   blockingParts(side, nodes) {
     return partsOf(nodes, this.arcs)
       .map((part) => this.bottleneck(side, part))
@@ -71,7 +69,7 @@ export class Network {
 
 // This function returns the connected parts of a set of nodes, joined by the arcs within it, in the
 // order of their least nodes.
-/** @type {(nodes: Iterable<number>, arcs: Arc[]) => Set<number>[]} */
+/** @type {(nodes: Iterable<number>, arcs: Ends[]) => Set<number>[]} */
 export function partsOf(nodes, arcs) {
   const neighbours = new Map([...nodes].sort((a, b) => a - b).map((node) => [node, []]));
   const seen = new Set();
@@ -92,30 +90,8 @@ export function partsOf(nodes, arcs) {
   return parts;
 }
 
-// The text of an instance. For each line it knows the table, the line and the columns that each
-// word of a refusal refers to.
-export class Lines {
-  /** @param {'min' | 'asn'} suffix */
-  constructor(suffix) {
-    this.name = `instance.${suffix}`;
-    /** @type {string[]} */
-    this.lines = [];
-    /** @type {(Origin | null)[]} */
-    this.origins = [];
-  }
-
-  /** @type {(lines: string[], origins?: (Origin | null)[]) => void} */
-  add(lines, origins = []) {
-    for (const line of lines) this.lines.push(line);
-    for (const origin of origins) this.origins.push(origin);
-    while (this.origins.length < this.lines.length) this.origins.push(null);
-  }
-
-  text() { return `${this.lines.join('\n')}\n`; }
-}
-
 // This function reads the network of a DIMACS text without faults.
-/** @type {(text: string) => Network & { isAssignment: boolean }} */
+/** @type {(text: string) => Network<Arc> & { isAssignment: boolean }} */
 export function networkOf(text) {
   const supplies = [], arcs = [];
   let persons = false;

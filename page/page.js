@@ -9,10 +9,9 @@ import { runFlow, runPairs, runText } from './running.js';
 import { changesShown } from './sheets.js';
 import { textOf } from './tables.js';
 import { el, grouped, pictureOf, saver } from './view.js';
-import { pageWords } from './words.js';
 
 /**
- * @typedef {import('./flownet.js').FlowPlan} FlowPlan
+ * @typedef {import('./plan.js').FlowPlan} FlowPlan
  * @typedef {import('./view.js').Part} Part
  * @typedef {{ parts: Part[], sheets: Sheet[] }} Changes
  */
@@ -239,10 +238,19 @@ function replaceResult(...parts) {
 
 /** @type {(text: string, className?: string | null) => HTMLElement} */
 const paragraph = (text, className = null) =>
-  el('p', className ? { class: className } : {}, pageWords(text));
+  el('p', className ? { class: className } : {}, text);
 
-// This function shows the title, the headline, the date, the tables, and that the answer was
-// checked.
+// This function says why the answer can be believed.
+/** @type {(result: Result) => string} */
+const sealOf = ({ verdict }) => (
+  verdict
+    ? `✓ ${verdict}: the proved checker in this page says so about this answer.`
+    : '✓ Proved code in this page found this answer: all of it is proved, from the text of the '
+      + 'tables to its last figure.'
+);
+
+// This function shows the title, the headline, the date, the tables, and why the answer can be
+// believed.
 /** @type {(shown: CaptionedRun) => Part[]} */
 const headOf = ({ isPlan, headline: [words, figure], mark, caption, result }) => [
   el(
@@ -253,16 +261,12 @@ const headOf = ({ isPlan, headline: [words, figure], mark, caption, result }) =>
     grouped(figure, mark)
   ),
   el('p', { class: 'soft' }, caption.source),
-  el(
-    'p',
-    { class: 'soft', id: 'seal' },
-    `✓ ${result.verdict}: the proved checker in this page says so about this answer.`
-  ),
+  el('p', { class: 'soft', id: 'seal' }, sealOf(result)),
 ];
 
 /** @type {(shown: CaptionedRun, change: Change | null, before: FlowPlan | null) => void} */
 function show(shown, change, before) {
-  const { result, instance, mark, caption } = shown;
+  const { result, mark, caption } = shown;
   const settings = { mark, change: changed };
   const drawn = shown.scene && svgOf(shown.scene(caption));
   document.title = caption.title || 'Least-cost plans';
@@ -291,11 +295,12 @@ function show(shown, change, before) {
     shown.findings.map(findingOf),
     drawn && [el('h2', {}, 'Picture'), pictureOf(drawn)],
     grids.filter((grid) => !apart.includes(grid.element)).map((grid) => grid.element),
-    saves(shown, instance, drawn),
+    saves(shown, drawn),
     el(
       'p',
       { class: 'soft small' },
-      `Solved in ${ms(result.solving)}, checked in ${ms(result.judging)}, `
+      `Solved in ${ms(result.solving)}, `
+        + `${result.verdict ? `checked in ${ms(result.judging)}, ` : ''}`
         + `${(result.peak / 2 ** 20).toFixed(1)} MB at most.`
     )
   );
@@ -334,9 +339,11 @@ function changeParts(shown, { what, undo }, before) {
   return { parts: [paragraph(what), paragraph(text), back], sheets };
 }
 
-/** @type {(shown: Run, instance: Run['instance'], drawn: string | null) => HTMLElement} */
-function saves(shown, instance, drawn) {
-  const { problem } = shown.plan || {}, mark = problem ? problem.numbers.mark : shown.mark;
+/** @type {(shown: Run, drawn: string | null) => HTMLElement} */
+function saves({ result, instance, mark, tables }, drawn) {
+  const answer = instance
+    ? [saver(instance.name, () => instance.text), saver('answer.ans', () => result.bytes)]
+    : [saver('answer.csv', () => result.bytes, 'text/csv')];
   return el(
     'section',
     { class: 'saves' },
@@ -344,22 +351,21 @@ function saves(shown, instance, drawn) {
     el(
       'p',
       { class: 'soft' },
-      `mcfcheck ${instance.name} answer.ans checks this answer on another machine.`
+      instance
+        ? `mcfcheck ${instance.name} answer.ans checks this answer on another machine.`
+        : 'The file answer.csv has the answer as proved code wrote it, with the tables.'
     ),
     el(
       'div',
       { class: 'tools' },
-      saver(instance.name, () => instance.text),
-      saver('answer.ans', () => shown.result.bytes),
-      shown
-        .tables()
-        .map((table) =>
-          saver(
-            `${table.name}.csv`,
-            () => csvOf({ ...table, like: { ...table.like, mark: true } }, mark),
-            'text/csv'
-          )
-        ),
+      answer,
+      tables().map((table) =>
+        saver(
+          `${table.name}.csv`,
+          () => csvOf({ ...table, like: { ...table.like, mark: true } }, mark),
+          'text/csv'
+        )
+      ),
       drawn ? saver('plan.svg', () => drawn, 'image/svg+xml') : '',
       el('button', { type: 'button', onclick: () => print() }, 'Print')
     )

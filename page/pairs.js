@@ -1,241 +1,299 @@
 // @ts-check
-// The network of persons and things, its plan, and who competes.
+// Persons and things: which pairs an answer chooses, or who competes.
+import { Said, Units, decimalsOf, exactOf, scaled, settledBy } from './amounts.js';
 import { TOLD_NAMES, countOf, listed } from './faults.js';
-import { Lines, Network } from './network.js';
-import { PAIR_HEADS } from './roster.js';
+import { carriedLines, carriedOf } from './heads.js';
+import { partsOf } from './network.js';
+import { NEEDED, readLine } from './sentences.js';
+import { Table, cellAt, fold } from './tables.js';
+import { words } from './words.js';
 
-/** @typedef {import('./roster.js').Roster} Roster */
+/**
+ * @typedef {import('./answer.js').Answer} Answer
+ * @typedef {import('./tables.js').TableText} TableText
+ */
 
-// The first nodes are the persons, then come the things. Arc k is the k-th pair. One more node is
-// the hub. An arc from the hub to each person carries how many things the person takes. An arc from
-// each thing to the hub carries how many persons the thing needs.
-export class RosterNet extends Network {
-  /** @param {Roster} roster */
-  constructor(roster) {
-    let { takes, needs } = roster;
-    // There are as many persons as things, none may have more than one, and everyone on one side
-    // needs one. So everyone on the other side gets one, too.
-    const isAssignment =
-      takes.length === needs.length
-      && [...takes, ...needs].every(([, most]) => most === 1n)
-      && [takes, needs].some((side) => side.every(([least]) => least === 1n));
-    if (isAssignment) takes = needs = takes.map(() => [1n, 1n]);
-    const persons = takes.length, hub = persons + needs.length + 1;
-    const arcs = roster.pairs.map((pair) => ({
-      tail: pair.who,
-      head: persons + pair.what,
-      least: 0n,
-      most: 1n,
-      cost: pair.cost,
-    }));
-    takes.forEach(([least, most], k) =>
-      arcs.push({ tail: hub, head: k + 1, least, most, cost: 0n })
-    );
-    needs.forEach(([least, most], k) =>
-      arcs.push({ tail: persons + k + 1, head: hub, least, most, cost: 0n })
-    );
-    super(new Array(hub).fill(0n), arcs);
-    this.roster = roster;
-    this.isAssignment = isAssignment;
-    this.persons = persons;
-    this.hub = hub;
-  }
+// The cells that forbid a pair.
+const FORBIDDEN = ['', 'x', '-', '–', '—'];
 
-  // This method writes the network as text, with the origin of each line. An assignment has its own
-  // form, without the hub.
-  instance() {
-    const { table, pairs, units } = this.roster;
-    const arcs = pairs.map((pair) => ({ table, line: pair.line, columns: { cost: pair.column } }));
-    const sizes = [{ table, line: table.headLine, columns: { size: 1 } }];
-    const made = new Lines(this.isAssignment ? 'asn' : 'min');
-    made.add([
-      'c nodes are the persons, then the things; the k-th arc is the k-th pair',
-      units.comment(),
-    ]);
-    if (this.isAssignment) {
-      made.add([`p asn ${2 * this.persons} ${arcs.length}`], sizes);
-      made.add(this.roster.persons.names.map((_, k) => `n ${k + 1}`));
-      made.add(
-        this.arcs.slice(0, arcs.length).map((arc) => `a ${arc.tail} ${arc.head} ${arc.cost}`),
-        arcs
-      );
-    } else {
-      const ranges = this.arcs
-        .slice(arcs.length)
-        .map((arc) => ({
-          table,
-          line: table.headLine,
-          columns: { bound: arc.tail === this.hub ? 'takes' : 'needs' },
-        }));
-      made.add(this.lines(), [...sizes, ...this.supplies.map(() => null), ...arcs, ...ranges]);
-    }
-    return made;
-  }
-
-  /** @type {(node: number) => string} */
-  name(node) {
-    return node <= this.persons
-      ? this.roster.persons.names[node - 1]
-      : this.roster.things.names[node - 1 - this.persons];
-  }
-
-  // This method adds to a bottleneck the adjacent things (or persons) whose own capacity is no
-  // greater than that of the pairs that lead to them.
-  /** @type {(found: Bottleneck) => Bottleneck} */
-  whole(found) {
-    const count = this.roster.pairs.length, outside = new Map(), nodes = new Set(found.nodes);
-    for (const k of found.limiting) {
-      if (k >= count) continue;
-      const node = found.side === 'send' ? this.arcs[k].head : this.arcs[k].tail;
-      outside.set(node, (outside.get(node) || 0n) + 1n);
-    }
-    for (const arc of this.arcs.slice(count)) {
-      const node = arc.head === this.hub ? arc.tail : arc.head;
-      if (outside.has(node) && arc.most <= outside.get(node)) nodes.add(node);
-    }
-    return this.bottleneck(found.side, nodes);
-  }
-
-  // This method returns the nodes that must be matched and the least number for each, the nodes
-  // that limit them and the most for each, and the limiting pairs.
+// What an answer says of a table of persons and things. The table is plain if it doesn't say how
+// many a person takes or a thing needs.
+export class Roster {
   /**
-   * @param {Bottleneck} found
-   * @returns {{ must: [number, bigint][], can: [number, bigint][], pairs: number[] }}
+   * @param {Answer} answer
+   * @param {TableText} text
+   * @param {Choices} choices
    */
-  sides({ forcing, limiting }) {
-    const count = this.roster.pairs.length;
-    /** @type {(k: number) => number} */
-    const node = (k) => (this.arcs[k].tail === this.hub ? this.arcs[k].head : this.arcs[k].tail);
-    return {
-      must: forcing.filter((k) => k >= count).map((k) => [node(k), this.arcs[k].least]),
-      can: limiting.filter((k) => k >= count).map((k) => [node(k), this.arcs[k].most]),
-      pairs: limiting.filter((k) => k < count),
-    };
+  constructor(answer, text, { reading, maximise }) {
+    this.answer = answer;
+    this.reading = reading;
+    this.maximise = maximise;
+    this.mark = answer.mark;
+    this.table = new Table(text, answer.tables.get('costs'));
+    this.isList = NEEDED.costs.filter((head) => this.table.heads.includes(head)).length > 1;
+    this.isPlain = !this.isFilled('takes') && !(this.isList && this.isFilled('needs'));
+    /** @type {Map<string, number>} */
+    this.persons = new Map();
+    /** @type {Map<string, number>} */
+    this.things = new Map();
+    /** @type {[who: string, what: string][]} */
+    this.allowed = [];
+    if (this.isList) this.readList();
+    else this.readMatrix();
+    const pairs = answer.rows('pair');
+    const costs = pairs.map((cells) => exactOf(cells[4])), cost = exactOf(answer.number('cost'));
+    this.units = new Units(0, decimalsOf([...costs, cost]));
+    this.said = new Said(this.units, this.mark);
+    this.cost = scaled(cost, this.units.costs);
+    const rows = new Map(this.table.rows.map((row) => [row.line, row.cells]));
+    /** @type {ChosenPair[]} */
+    this.pairs = pairs.map(([line, , who, what], k) => ({
+      who,
+      what,
+      cost: scaled(costs[k], this.units.costs),
+      cells: rows.get(Number(line)),
+    })).sort((a, b) =>
+      this.persons.get(a.who) - this.persons.get(b.who)
+      || this.things.get(a.what) - this.things.get(b.what)
+    );
   }
+
+  // This method reads the names of a list, and the pairs that it allows.
+  readList() {
+    const read = this.table.reader(NEEDED.costs);
+    for (const { cells } of this.table.rows) {
+      const [who, what, cost] = read(cells);
+      this.allow(who, what, cost);
+    }
+  }
+
+  // This method reads the names of a matrix, and the pairs that it allows.
+  readMatrix() {
+    const { rows, titles, heads } = this.table;
+    for (const { cells } of rows) {
+      if (fold(cells[0]) === 'needs') this.isPlain = this.isPlain && !cells.slice(1).some(Boolean);
+      else {
+        titles.forEach((what, place) => {
+          if (place && what && heads[place] !== 'takes') {
+            this.allow(cells[0], what, cellAt(cells, place));
+          }
+        });
+      }
+    }
+  }
+
+  // This method notes a person and a thing, and their pair if the cell of its cost doesn't forbid
+  // it.
+  /** @type {(who: string, what: string, cost: string) => void} */
+  allow(who, what, cost) {
+    if (!this.persons.has(who)) this.persons.set(who, this.persons.size);
+    if (!this.things.has(what)) this.things.set(what, this.things.size);
+    if (!FORBIDDEN.includes(fold(cost))) this.allowed.push([who, what]);
+  }
+
+  // This method says whether a cell below a head isn't empty.
+  /** @type {(head: string) => boolean} */
+  isFilled(head) {
+    const read = this.table.reader([head]);
+    return this.table.rows.some(({ cells }) => read(cells)[0]);
+  }
+
+  // This method returns lines on how the table was read. A matrix has no unused columns.
+  told() {
+    const known = [...NEEDED.costs, 'takes', 'needs'];
+    return [
+      ...(this.isList ? carriedLines(carriedOf(this.table, known)) : []),
+      ...readLine(settledBy(this.costCells(), this.mark), this.mark, this.reading),
+    ];
+  }
+
+  // This method returns the cells of costs, row by row.
+  * costCells() {
+    const { table } = this, cost = table.heads.indexOf('cost');
+    for (const { line, cells } of table.rows) {
+      for (const place of this.isList ? [cost] : cells.map((_, k) => k).slice(1)) {
+        yield { table, line, cell: cellAt(cells, place) };
+      }
+    }
+  }
+
+  // This method returns the competitions of an answer: of those that it names, or of all others,
+  // whichever are fewer. What no pair connects is told by itself, if it competes by itself.
+  //
+  // The others compete, too, if there are as many persons as things, and one for each: then all of
+  // both sides must be in a pair.
+  /** @type {() => Rivals[]} */
+  rivals() {
+    const { answer, persons, things } = this;
+    const side = /** @type {SendOrTake} */ (answer.number('side'));
+    const [mine, yours] = ['person', 'thing'].map((word) =>
+      new Map(answer.rows(word).map(([, name, number]) => [name, BigInt(number)]))
+    );
+    /** @type {Record<string, Rivals[]>} */
+    const choices = { [side]: this.parts(side, mine, yours) };
+    if (this.isPlain && persons.size === things.size) {
+      /** @type {(all: Map<string, number>, told: Map<string, bigint>) => Map<string, bigint>} */
+      const rest = (all, told) =>
+        new Map([...all.keys()].filter((name) => !told.has(name)).map((name) => [name, 1n]));
+      const other = side === 'send' ? 'take' : 'send';
+      choices[other] = this.parts(other, rest(persons, mine), rest(things, yours));
+    }
+    const count = (/** @type {Rivals[]} */ found) => found.reduce(
+      (sum, one) => sum + one.musts.length + limiting(one).rivals.length,
+      0
+    );
+    const { send = [], take = [] } = choices;
+    return !send.length || (take.length && count(take) < count(send)) ? take : send;
+  }
+
+  // This method returns the competitions among persons and things, which come with their numbers.
+  /**
+   * @param {SendOrTake} side
+   * @param {Map<string, bigint>} persons
+   * @param {Map<string, bigint>} things
+   * @returns {Rivals[]}
+   */
+  parts(side, persons, things) {
+    const all = [...persons, ...things], places = [...things.keys()];
+    const number = new Map(places.map((name, k) => [name, persons.size + k + 1]));
+    const own = new Map([...persons.keys()].map((name, k) => [name, k + 1]));
+    const ends = this.allowed
+      .filter(([who, what]) => own.has(who) && number.has(what))
+      .map(([who, what]) => ({ tail: own.get(who), head: number.get(what) }));
+    return partsOf(all.map((_, k) => k + 1), ends)
+      .map((part) => this.rivalry(side, all, persons.size, part))
+      .filter(({ must, can }) => must > can);
+  }
+
+  // This method returns the competition of those with these numbers, persons first.
+  /**
+   * @param {SendOrTake} side
+   * @param {[string, bigint][]} all
+   * @param {number} count
+   * @param {Set<number>} part
+   * @returns {Rivals}
+   */
+  rivalry(side, all, count, part) {
+    const numbers = [...part].sort((a, b) => a - b), isSend = side === 'send';
+    /** @type {(isPerson: boolean) => Rival[]} */
+    const of = (isPerson) => numbers
+      .filter((k) => (k <= count) === isPerson)
+      .map((k) => ({ name: all[k - 1][0], number: all[k - 1][1] }));
+    const musts = of(isSend).filter(({ number }) => number), cans = of(!isSend);
+    const names = new Set(of(isSend).map(({ name }) => name));
+    const pairs = this.pairs.filter(({ who, what }) => names.has(isSend ? who : what));
+    const sum = (/** @type {Rival[]} */ rivals) =>
+      rivals.reduce((total, { number }) => total + number, 0n);
+    return { side, musts, cans, pairs, must: sum(musts), can: sum(cans) + BigInt(pairs.length) };
+  }
+}
+
+// This function returns who limits a competition: those with the greatest number of each, and
+// pairs, which count one each. Several pairs with the same one count together.
+/** @type {(found: Rivals) => { rivals: Rival[], pairs: ChosenPair[] }} */
+function limiting({ side, cans, pairs }) {
+  const end = side === 'send' ? 'what' : 'who', rivals = [...cans];
+  const names = new Set(pairs.map((pair) => pair[end]));
+  const alone = [];
+  for (const name of names) {
+    const same = pairs.filter((pair) => pair[end] === name);
+    if (same.length > 1) rivals.push({ name, number: BigInt(same.length) });
+    else alone.push(same[0]);
+  }
+  return { rivals, pairs: alone };
 }
 
 // This function says that persons compete for too few things, or that things compete for too few
 // persons.
-/** @type {(net: RosterNet, found: Bottleneck) => string} */
-function rivalsSentence(net, found) {
-  const { must, can, pairs } = net.sides(found);
-  const names = must.map(([node]) => net.name(node));
-  const others = can.map(([node]) => net.name(node));
-  const isSend = found.side === 'send';
-  if (!can.length && !pairs.length) {
+/** @type {(found: Rivals) => string} */
+export function rivalsSentence(found) {
+  const { side, musts, must, can } = found, { rivals, pairs } = limiting(found);
+  const names = musts.map(({ name }) => name), others = rivals.map(({ name }) => name);
+  const isSend = side === 'send';
+  if (!can) {
     return isSend ? `${listed(names)} can get nothing.` : `Nobody may do ${listed(names)}.`;
   }
-  if (!pairs.length && [...must, ...can].every(([, number]) => number === 1n)) {
+  if (!pairs.length && [...musts, ...rivals].every(({ number }) => number === 1n)) {
     return isSend
-      ? `${must.length} persons compete for ${countOf(can.length, 'thing', 'things')}: `
+      ? `${musts.length} persons compete for ${countOf(rivals.length, 'thing', 'things')}: `
         + `${listed(names)} can only get ${listed(others)}.`
-      : `${must.length} things compete for ${countOf(can.length, 'person', 'persons')}: `
+      : `${musts.length} things compete for ${countOf(rivals.length, 'person', 'persons')}: `
         + `only ${listed(others)} may do ${listed(names)}.`;
   }
-  const parts = [...can.map(([node, number]) => `${net.name(node)} (${number})`),
-    ...pairs.map((k) => `${net.name(net.arcs[k].tail)} with ${net.name(net.arcs[k].head)}`)];
+  const parts = [
+    ...rivals.map(({ name, number }) => `${name} (${number})`),
+    ...pairs.map(({ who, what }) => `${who} with ${what}`),
+  ];
   const verbs = isSend
     ? ['must take', 'can take']
-    : [must.length > 1 ? 'need' : 'needs', 'can get'];
-  return `${listed(names)} ${verbs[0]} ${found.must}${must.length > 1 ? ' together' : ''}, `
-    + `and ${verbs[1]} only ${found.can}: ${listed(parts)}. Short by ${found.must - found.can}.`;
+    : [musts.length > 1 ? 'need' : 'needs', 'can get'];
+  return `${listed(names)} ${verbs[0]} ${must}${musts.length > 1 ? ' together' : ''}, `
+    + `and ${verbs[1]} only ${can}: ${listed(parts)}. Short by ${must - can}.`;
 }
 
-// This function lists the bottlenecks. In each, column must adds up to what persons must take (or
-// things need), and column can to what they can get.
-/** @type {(net: RosterNet, bottlenecks: Bottleneck[]) => SavedTable} */
-export function rivalsTable(net, bottlenecks) {
-  const rows = bottlenecks.flatMap((found, k) => {
-    const { must, can, pairs } = net.sides(found);
+// This function returns the table of those that compete. In each part, column must adds up to what
+// must be taken (or given), and column can to what can be.
+/** @type {(roster: Roster, rivals: Rivals[]) => SavedTable} */
+export function rivalsTable(roster, rivals) {
+  const rows = rivals.flatMap((found, k) => {
     const kinds = found.side === 'send' ? ['person', 'thing'] : ['thing', 'person'];
-    const count = String(k + 1);
+    const count = String(k + 1), limits = limiting(found);
     return [
-      ...must.map(([node, number]) => [count, kinds[0], net.name(node), number, '']),
-      ...can.map(([node, number]) => [count, kinds[1], net.name(node), '', number]),
-      ...pairs.map((pair) => [
-        count,
-        'pair',
-        `${net.name(net.arcs[pair].tail)}, ${net.name(net.arcs[pair].head)}`,
-        '',
-        '1',
-      ]),
+      ...found.musts.map(({ name, number }) => [count, kinds[0], name, number, '']),
+      ...limits.rivals.map(({ name, number }) => [count, kinds[1], name, '', number]),
+      ...limits.pairs.map(({ who, what }) => [count, 'pair', `${who}, ${what}`, '', '1']),
     ];
   });
   return {
     name: 'bottleneck',
-    like: net.roster.table,
+    like: roster.table,
     heads: ['bottleneck', 'kind', 'name', 'must', 'can'],
     rows,
     figures: [0, 3, 4],
   };
 }
 
-// This function returns the chosen pairs by person. If the input is a list, it keeps the lines of
-// the list.
-/** @type {(roster: Roster, chosen: Pair[]) => SavedTable} */
-export function pairsTable(roster, chosen) {
-  const { table, persons, things, units } = roster;
-  if (roster.isList) {
-    return {
-      name: 'pairs',
-      like: table,
-      heads: table.titles,
-      rows: chosen.map((pair) => pair.cells),
-      figures: [],
-    };
+// This function returns the chosen pairs. If the input is a list, it keeps the lines of the list.
+/** @type {(roster: Roster) => SavedTable} */
+export function pairsTable({ table, pairs, units, isList }) {
+  if (isList) {
+    const rows = pairs.map(({ cells }) => cells);
+    return { name: 'pairs', like: table, heads: table.titles, rows, figures: [] };
   }
-  const rows = chosen.map((pair) => [
-    persons.names[pair.who - 1],
-    things.names[pair.what - 1],
-    units.rate(pair.cost),
-  ]);
-  return { name: 'pairs', like: table, heads: PAIR_HEADS, rows, figures: [2] };
+  const rows = pairs.map(({ who, what, cost }) => [who, what, units.rate(cost)]);
+  return { name: 'pairs', like: table, heads: NEEDED.costs, rows, figures: [2] };
 }
 
-// This function returns the pairs that a plan chose, by person.
-/** @type {(roster: Roster, plan: Plan) => Pair[]} */
-export function chosenOf(roster, { flows }) {
-  return roster.pairs.filter((_, k) => flows[k]).sort((a, b) => a.who - b.who || a.what - b.what);
-}
-
-/** @type {(roster: Roster, chosen: Pair[], cost: bigint) => string[]} */
-export function pairsSummary(roster, chosen, cost) {
-  const [which, word] = roster.units.sign < 0n
+/** @type {(roster: Roster) => string[]} */
+export function pairsSummary(roster) {
+  const { pairs, maximise } = roster;
+  const [which, word] = maximise
     ? ['Pairs of the greatest value', 'value']
     : ['Least-cost pairs', 'cost'];
   const lines = [
-    `${which}, written by mcf and accepted by mcfcheck: ${word} ${roster.said.total(cost)}.`,
-    `${countOf(roster.persons.names.length, 'person', 'persons')}, `
-      + `${countOf(roster.things.names.length, 'thing', 'things')}: `
-      + `${countOf(chosen.length, 'pair', 'pairs')}.`,
+    `${which}, ${words().found}: ${word} ${roster.said.total(roster.cost)}.`,
+    `${countOf(roster.persons.size, 'person', 'persons')}, `
+      + `${countOf(roster.things.size, 'thing', 'things')}: `
+      + `${countOf(pairs.length, 'pair', 'pairs')}.`,
   ];
-  /** @type {[text: string, side: { names: string[] }, end: 'who' | 'what'][]} */
-  const sides = [
-    ['Without a thing', roster.persons, 'who'],
-    ['Left over', roster.things, 'what'],
-  ];
-  for (const [text, { names }, end] of sides) {
-    const taken = new Set(chosen.map((pair) => pair[end]));
-    const left = names.filter((_, k) => !taken.has(k + 1));
+  /** @type {[text: string, names: Map<string, number>, end: 'who' | 'what'][]} */
+  const sides = [['Without a thing', roster.persons, 'who'], ['Left over', roster.things, 'what']];
+  for (const [text, names, end] of sides) {
+    const taken = new Set(pairs.map((pair) => pair[end]));
+    const left = [...names.keys()].filter((name) => !taken.has(name));
     if (left.length) lines.push(`${text}: ${listed(left)}.`);
   }
   return lines;
 }
 
 // This function explains why no such pairs exist.
-/** @type {(net: RosterNet, bottlenecks: Bottleneck[]) => string[]} */
-export function rivalsLines(net, bottlenecks) {
-  const { takes, needs } = net.roster;
-  const lines = ['No such pairs exist, as mcf found and mcfcheck accepted:'];
-  for (const found of bottlenecks.slice(0, TOLD_NAMES)) {
-    lines.push(`  ${rivalsSentence(net, found)}`);
-  }
-  if (
-    takes.length > needs.length
-    && takes.every(([least]) => least === 1n)
-    && needs.every(([, most]) => most === 1n)
-  ) {
-    lines.push('With --each what each thing would get a person, and persons may be left over.');
+/** @type {(roster: Roster, rivals: Rivals[]) => string[]} */
+export function rivalsLines(roster, rivals) {
+  const lines = [`No such pairs exist, ${words().none}:`];
+  for (const found of rivals.slice(0, TOLD_NAMES)) lines.push(`  ${rivalsSentence(found)}`);
+  const isSend = roster.answer.number('side') === 'send';
+  if (isSend && roster.isPlain && roster.persons.size > roster.things.size) {
+    lines.push(`${words().each}, and persons may be left over.`);
   }
   return lines;
 }

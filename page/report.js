@@ -1,14 +1,16 @@
 // @ts-check
 // The sentences and tables about a flow, as mcf_plan writes them.
-import { MISSING, STAYS, THROUGH } from './flownet.js';
+import { balanceOf } from './blocked.js';
 import { TOLD_NAMES, countOf, listed } from './faults.js';
 import { FLOW_RESULTS, PLACE_RESULTS, THROUGH_RESULTS } from './heads.js';
-import { SEPARATORS, cellAt } from './tables.js';
+import { MISSING, STAYS, THROUGH } from './plan.js';
+import { SEPARATORS, cellAt, lineOf } from './tables.js';
+import { words } from './words.js';
 
 /**
- * @typedef {import('./flownet.js').FlowNet} FlowNet
- * @typedef {import('./flownet.js').FlowPlan} FlowPlan
+ * @typedef {import('./blocked.js').Blocked} Blocked
  * @typedef {import('./model.js').Problem} Problem
+ * @typedef {import('./plan.js').FlowPlan} FlowPlan
  */
 
 // This function returns a table with the columns of another table and then groups of results. The
@@ -62,7 +64,7 @@ function cellsOf(plan, { carries, cost, free, saves, isExact }) {
     units.amount(carries),
     units.total(cost),
     units.amount(free),
-    plan.rate(saves),
+    units.rate(saves),
     isExact ? 'yes' : 'no',
   ];
 }
@@ -78,7 +80,7 @@ export function pricesTable(plan) {
     return [
       place.cells,
       [
-        plan.rate(price),
+        plan.problem.units.rate(price),
         String(group),
         ...(!hasBounds ? [] : through ? cellsOf(plan, through) : ['', '', '', '', '']),
       ],
@@ -94,42 +96,42 @@ export function pricesTable(plan) {
 
 // This function lists the bottlenecks. In each, column must adds up to what must be sent (or
 // taken), and column can to what can be.
-/** @type {(net: FlowNet, bottlenecks: Bottleneck[]) => SavedTable} */
-export function bottleneckTable(net, bottlenecks) {
-  const said = (/** @type {bigint} */ number) => net.problem.units.amount(number);
+/** @type {(blocked: Blocked) => SavedTable} */
+export function bottleneckTable(blocked) {
+  const { problem, network } = blocked;
+  const said = (/** @type {bigint} */ number) => problem.units.amount(number);
   /** @type {string[][]} */
   const rows = [];
-  bottlenecks.forEach((found, k) => {
-    const sign = found.side === 'send' ? 1n : -1n;
-    const supplies = new Map();
-    const begin = [String(k + 1), found.side];
-    for (const node of found.nodes) supplies.set(
-      net.nodeName(node), (supplies.get(net.nodeName(node)) || 0n) + sign * net.supplies[node - 1]
-    );
+  blocked.findings().forEach(({ side, nodes, forcing, limiting }, k) => {
+    const sign = side === 'send' ? 1n : -1n, begin = [String(k + 1), side], supplies = new Map();
+    for (const node of nodes) {
+      const name = blocked.nodeName(node);
+      supplies.set(name, (supplies.get(name) || 0n) + sign * network.supplies[node - 1]);
+    }
     for (const [name, supply] of supplies) {
       rows.push([...begin, 'place', name, '', '', said(supply), '']);
     }
-    for (const [arc, least] of net.amounts(found.forcing, 'least')) {
-      rows.push([...begin, ...arcCells(net, arc), said(least), '']);
+    for (const joint of forcing) {
+      rows.push([...begin, ...jointCells(blocked, joint), said(joint.least), '']);
     }
-    for (const [arc, most] of net.amounts(found.limiting, 'most')) {
-      rows.push([...begin, ...arcCells(net, arc), '', said(most)]);
+    for (const joint of limiting) {
+      rows.push([...begin, ...jointCells(blocked, joint), '', said(joint.most)]);
     }
   });
   return {
     name: 'bottleneck',
-    like: net.problem.routeTable,
+    like: problem.routeTable,
     heads: ['bottleneck', 'side', 'kind', 'name', 'from', 'to', 'must', 'can'],
     rows,
     figures: [0, 6, 7],
   };
 }
 
-/** @type {(net: FlowNet, k: number) => string[]} */
-const arcCells = (net, k) => (
-  net.uses[k].kind === 'through'
-    ? ['through', net.ends(k)[0], '', '']
-    : ['route', '', ...net.ends(k)]
+/** @type {(blocked: Blocked, joint: Joint) => string[]} */
+const jointCells = (blocked, joint) => (
+  joint.kind === 'through'
+    ? ['through', blocked.ends(joint)[0], '', '']
+    : ['route', '', ...blocked.ends(joint)]
 );
 
 // This function writes a table as CSV, with the separator and the byte-order mark of the table
@@ -139,33 +141,17 @@ const arcCells = (net, k) => (
  * @param {string | null} [mark]
  */
 export function csvOf({ heads, rows, like, figures }, mark) {
-  const quoted = (/** @type {string} */ value) => (
-    /["\n\r]/.test(value) || value.includes(like.separator)
-      ? `"${value.replaceAll('"', '""')}"`
-      : value
+  const texts = (/** @type {Csv['rows'][0]} */ row) => row.map((value, k) =>
+    figures.includes(k) ? String(value).replace('.', mark || '.') : String(value)
   );
-  const text = (/** @type {Csv['rows'][0]} */ row) =>
-    row
-      .map((value, k) =>
-        quoted(figures.includes(k) ? String(value).replace('.', mark || '.') : String(value))
-      )
-      .join(like.separator);
   const named = SEPARATORS.includes(like.separator) ? '' : `sep=${like.separator}\n`;
-  const lines = [heads.map(quoted).join(like.separator), ...rows.map(text)];
+  const lines = [heads, ...rows.map(texts)].map((cells) => lineOf(cells, like.separator));
   return `${like.mark ? '\ufeff' : ''}${named}${lines.join('\n')}\n`;
 }
 
-// This function returns the sum of the supplies and the sum of the demands.
-/** @type {(problem: Problem) => bigint[]} */
-export function balanceOf({ places }) {
-  return [1n, -1n].map((sign) =>
-    places.reduce((sum, place) => (sign * place.supply > 0n ? sum + sign * place.supply : sum), 0n)
-  );
-}
-
 // This function lists likely mistakes in tables that can be read.
-/** @type {(net: FlowNet) => string[]} */
-export function slips({ problem, policy }) {
+/** @type {(problem: Problem, policy: Policy) => string[]} */
+export function slips(problem, policy) {
   const [supply, demand] = balanceOf(problem), { places, placeTable } = problem;
   if (supply && !demand) {
     const stays = policy.unused ? ', and all that is sent stays' : '';
@@ -193,8 +179,9 @@ export function slips({ problem, policy }) {
 export function balanceSentence(problem) {
   const [supply, demand] = balanceOf(problem);
   const said = (/** @type {bigint} */ number) => problem.said.amount(number);
-  const [more, less, cure] = supply > demand ? ['supply', 'demand', '--unused allow lets it stay']
-    : ['demand', 'supply', '--short allow lets it be short'];
+  const [more, less, cure] = supply > demand
+    ? ['supply', 'demand', words().unused]
+    : ['demand', 'supply', words().short];
   const gap = supply > demand ? supply - demand : demand - supply;
   return `${more} exceeds ${less} by ${said(gap)}: the supplies add to ${said(supply)}, `
     + `the demands to ${said(demand)}, and they must be equal (${cure}).`;
@@ -202,38 +189,39 @@ export function balanceSentence(problem) {
 
 // This function says that these places must send (or take) N and can only M, over these routes:
 // short by N - M.
-/** @type {(net: FlowNet, found: Bottleneck) => string} */
-export function bottleneckSentence(net, found) {
-  const said = (/** @type {bigint} */ number) => net.problem.said.amount(number);
-  const places = [...new Set(found.nodes.map((node) => net.nodeName(node)))];
-  const routeName = (/** @type {number} */ k) =>
-    net.uses[k].kind === 'through' ? `through ${net.ends(k)[0]}` : net.ends(k).join(' -> ');
-  /** @type {(arcs: number[], bound: 'least' | 'most') => string} */
-  const routes = (arcs, bound) =>
-    listed(net.amounts(arcs, bound).map(([k, number]) => `${routeName(k)} (${said(number)})`));
+/** @type {(blocked: Blocked, found: Bottleneck) => string} */
+export function bottleneckSentence(blocked, found) {
+  const said = (/** @type {bigint} */ number) => blocked.problem.said.amount(number);
+  const places = [...new Set(found.nodes.map((node) => blocked.nodeName(node)))];
+  const jointName = (/** @type {Joint} */ joint) => {
+    const ends = blocked.ends(joint);
+    return joint.kind === 'through' ? `through ${ends[0]}` : ends.join(' -> ');
+  };
+  /** @type {(joints: Joint[], bound: 'least' | 'most') => string} */
+  const joined = (joints, bound) =>
+    listed(joints.map((joint) => `${jointName(joint)} (${said(joint[bound])})`));
   const who = `${listed(places)}${places.length > 1 ? ' together' : ''}`;
   let must = `${who} must ${found.side} ${said(found.must)}`;
-  if (found.forcing.length) must += ` (with the least of ${routes(found.forcing, 'least')})`;
+  if (found.forcing.length) must += ` (with the least of ${joined(found.forcing, 'least')})`;
   if (!found.limiting.length) {
     return `${must}, and no route ${found.side === 'send' ? 'leads away' : 'leads there'}.`;
   }
   return `${must}, and can ${found.side} only ${said(found.can)}, `
-    + `over ${routes(found.limiting, 'most')}. Short by ${said(found.must - found.can)}.`;
+    + `over ${joined(found.limiting, 'most')}. Short by ${said(found.must - found.can)}.`;
 }
 
 // This function explains why there is no plan.
 /** @type {(blocked: Blocked) => string[]} */
-export function blockedSummary({ net, eased, isUnbalanced, bottlenecks }) {
-  const lines = ['No plan exists, as mcf found and mcfcheck accepted:'];
-  if (isUnbalanced) lines.push(`  ${balanceSentence(net.problem)}`);
-  if (isUnbalanced && bottlenecks.length) {
-    const eases = net.total() > 0n ? 'stays' : 'is short';
-    lines.push(`Even if that ${eases}, no plan exists, as mcf found and mcfcheck accepted:`);
+export function blockedSummary(blocked) {
+  const { problem, surplus, bottlenecks } = blocked;
+  const lines = [`No plan exists, ${words().none}:`];
+  if (surplus) lines.push(`  ${balanceSentence(problem)}`);
+  if (surplus && bottlenecks.length) {
+    const eases = surplus > 0n ? 'stays' : 'is short';
+    lines.push(`Even if that ${eases}, no plan exists, ${words().none}:`);
   }
-  return [
-    ...lines,
-    ...bottlenecks.slice(0, TOLD_NAMES).map((found) => `  ${bottleneckSentence(eased, found)}`),
-  ];
+  const told = bottlenecks.slice(0, TOLD_NAMES);
+  return [...lines, ...told.map((found) => `  ${bottleneckSentence(blocked, found)}`)];
 }
 
 // This function says what a person wants to know first about a plan.
@@ -243,13 +231,13 @@ export function flowSummary(plan) {
   const carrying = plan.routes.filter((result) => result.carries).length;
   const full = plan.routes.filter((result) => result.free === 0n).length;
   const passing = plan.places.reduce(
-    (sum, { through }) => (through ? sum + through.cost : sum),
+    (sum, { through }) => (through ? sum + (through.cost || 0n) : sum),
     0n
   );
   const saving = savingsOf(plan);
   const cost = problem.said.total(plan.cost);
   const lines = [
-    `A least-cost plan, written by mcf and accepted by mcfcheck: cost ${cost}.`,
+    `A least-cost plan, ${words().found}: cost ${cost}.`,
     `${countOf(problem.places.length, 'place', 'places')}, `
       + `${countOf(problem.routes.length, 'route', 'routes')}: `
       + `${carrying} ${carrying === 1 ? 'carries' : 'carry'} something, `
@@ -268,7 +256,7 @@ export function flowSummary(plan) {
 
 /** @type {(plan: FlowPlan, result: RouteResult) => string} */
 export const savedText = (plan, { saves, isExact }) =>
-  `${isExact ? '' : 'at most '}${plan.problem.said.text(plan.rate(saves))}`;
+  `${isExact ? '' : 'at most '}${plan.problem.said.text(plan.problem.units.rate(saves))}`;
 
 // This function returns the routes and the places where more capacity saves costs, the greatest
 // saving first.
@@ -293,7 +281,7 @@ export function savingsOf(plan) {
 /** @type {(plan: FlowPlan) => string[]} */
 function unmetLines(plan) {
   const said = (/** @type {bigint} */ number) => plan.problem.said.amount(number);
-  const { policy } = plan.net;
+  const { policy } = plan;
   const lines = [];
   for (const isSupply of [true, false]) {
     if (!policy[isSupply ? 'unused' : 'short']) continue;

@@ -1,6 +1,7 @@
 // @ts-check
-// This file runs the page from input to result: it reads tables or a text, solves them, and
-// describes the answer. It shows nothing of an answer that was not accepted.
+// This file runs the page from input to result: it has the module answer tables or a text, and
+// describes the answer. The answer to tables is proved; that to a text is shown only if the checker
+// accepts it.
 import {
   blockedShown,
   pairsBlocked,
@@ -9,44 +10,96 @@ import {
   textBlocked,
   textShown,
 } from './sheets.js';
-import { FlowNet, FlowPlan } from './flownet.js';
+import { Answer } from './answer.js';
+import { Blocked, surplusOf } from './blocked.js';
+import { Faults } from './faults.js';
 import { Problem } from './model.js';
 import { networkOf } from './network.js';
-import { RosterNet, chosenOf } from './pairs.js';
-import { Roster } from './roster.js';
-import { NoAnswer, blockedOf, bottlenecksOf, linesOf, planOf, solve } from './solving.js';
+import { Roster } from './pairs.js';
+import { FlowPlan } from './plan.js';
+import { Teller } from './sentences.js';
+import { NoAnswer, bottlenecksOf, linesOf, planOf } from './solving.js';
+import { textsOf } from './tables.js';
 import { CODES } from './words.js';
 
 // For a text of more bytes than TABLES, the page shows only the cost and no tables. For more arcs
 // than SEARCHED, it shows the set that the answer names.
 const TABLES = 3e7, SEARCHED = 100000;
 
-/** @type {(solver: Solver, sources: Source[], choices: Choices) => Promise<Run>} */
-export async function runFlow(solver, sources, { reading, policy, engine }) {
-  const problem = new Problem(sources, reading);
-  const net = new FlowNet(problem, policy);
-  const instance = net.instance();
-  const { text, result, plan } = await solve(solver, instance, net, engine);
-  if (!plan) {
-    return {
-      ...blockedShown(await blockedOf(solver, text, net)),
-      result,
-      instance: { name: instance.name, text },
-    };
+/** @typedef {import('./tables.js').TableText} TableText */
+
+// This function has the module answer texts, which have these words in answers, and throws a
+// BadTable for faults.
+/**
+ * @param {Solver} solver
+ * @param {Record<string, TableText>} texts
+ * @param {Reading} reading
+ * @param {TableOptions} options
+ * @param {Faults} [faults] what is wrong with the texts
+ * @returns {Promise<{ found: Answer, result: Result }>}
+ */
+async function answered(solver, texts, reading, options, faults = new Faults()) {
+  const decimal = reading.decimal || '', bytes = Object.values(texts).map((text) => text.bytes());
+  const result = await solver.plan(bytes, { decimal, ...options });
+  if (!['flow', 'blocked', 'refused'].includes(result.status)) {
+    throw new NoAnswer(result.status, result.why);
   }
-  const found = new FlowPlan(net, plan);
-  return { ...planShown(found), plan: found, result, instance: { name: instance.name, text } };
+  const found = new Answer(result.answer);
+  new Teller(texts, reading, faults).tell(found.rows('fault'));
+  faults.end();
+  return { found, result };
+}
+
+// This function answers tables of places and routes: with a plan, or with what blocks every plan.
+/**
+ * @param {Solver} solver
+ * @param {Source[]} sources
+ * @param {Choices} choices
+ * @returns {Promise<{ problem: Problem, plan?: FlowPlan, blocked?: Blocked, result: Result }>}
+ */
+export async function flowOf(solver, sources, { reading, policy }) {
+  const faults = new Faults(), [places, routes] = textsOf(sources, reading, faults);
+  const texts = { places, routes };
+  const { found, result } = await answered(solver, texts, reading, { ...policy }, faults);
+  const problem = new Problem(found, [places, routes], reading);
+  if (result.status === 'flow') {
+    return { problem, plan: new FlowPlan(problem, policy, found), result };
+  }
+  const surplus = surplusOf(problem, policy);
+  let eased = null;
+  if (surplus) {
+    const unused = policy.unused || surplus > 0n, short = policy.short || surplus < 0n;
+    const { found: answer } = await answered(solver, texts, reading, { unused, short });
+    eased = { policy: { unused, short }, answer };
+  }
+  return { problem, blocked: new Blocked(problem, policy, found, eased), result };
+}
+
+// This function answers a table of persons and things.
+/**
+ * @param {Solver} solver
+ * @param {Source} source
+ * @param {Choices} choices
+ * @returns {Promise<{ roster: Roster, result: Result }>}
+ */
+export async function pairsOf(solver, source, choices) {
+  const { reading, each, maximise } = choices;
+  const faults = new Faults(), [costs] = textsOf([source], reading, faults);
+  const asked = { each: each || '', maximise };
+  const { found, result } = await answered(solver, { costs }, reading, asked, faults);
+  return { roster: new Roster(found, costs, choices), result };
+}
+
+/** @type {(solver: Solver, sources: Source[], choices: Choices) => Promise<Run>} */
+export async function runFlow(solver, sources, choices) {
+  const { plan, blocked, result } = await flowOf(solver, sources, choices);
+  return plan ? { ...planShown(plan), plan, result } : { ...blockedShown(blocked), result };
 }
 
 /** @type {(solver: Solver, source: Source, choices: Choices) => Promise<Run>} */
-export async function runPairs(solver, source, { reading, each, maximise, engine }) {
-  const roster = new Roster(source, reading, each, maximise);
-  const net = new RosterNet(roster);
-  const instance = net.instance();
-  const { text, result, plan } = await solve(solver, instance, net, engine);
-  const shown = plan ? pairsShown(roster, chosenOf(roster, plan), plan.cost)
-    : pairsBlocked(net, await bottlenecksOf(solver, text, net, net.hub, (one) => net.whole(one)));
-  return { ...shown, result, instance: { name: instance.name, text } };
+export async function runPairs(solver, source, choices) {
+  const { roster, result } = await pairsOf(solver, source, choices);
+  return { ...result.status === 'flow' ? pairsShown(roster) : pairsBlocked(roster), result };
 }
 
 // This function returns the result of a text without tables.
@@ -101,7 +154,7 @@ export async function runText(solver, bytes, { engine }) {
   const network = networkOf(new TextDecoder().decode(bytes));
   if (network.isAssignment) instance.name = 'instance.asn';
   const shown = result.status === 'flow' ? textShown(network, planOf(result.answer, network.arcs))
-    : textBlocked(network, await blockersOf(solver, bytes, result.answer, network));
+    : textBlocked(await blockersOf(solver, bytes, result.answer, network));
   return { ...shown, result, instance };
 }
 
@@ -111,8 +164,8 @@ export async function runText(solver, bytes, { engine }) {
  * @param {Solver} solver
  * @param {Uint8Array} bytes
  * @param {string} answer
- * @param {import('./network.js').Network} network
- * @returns {Promise<Bottleneck[]>}
+ * @param {import('./network.js').Network<Arc>} network
+ * @returns {Promise<Bottleneck<Arc>[]>}
  */
 async function blockersOf(solver, bytes, answer, network) {
   const total = network.supplies.reduce((sum, supply) => sum + supply, 0n);

@@ -4,12 +4,13 @@
 // has its ends from 0, a width, a kind, a label and a title. Groups are sets of nodes that form
 // bottlenecks.
 import { size } from './model.js';
-import { balanceOf } from './report.js';
+import { balanceOf } from './blocked.js';
 import { grouped } from './view.js';
 
 /**
- * @typedef {import('./flownet.js').FlowPlan} FlowPlan
+ * @typedef {import('./blocked.js').Blocked} Blocked
  * @typedef {import('./model.js').Problem} Problem
+ * @typedef {import('./plan.js').FlowPlan} FlowPlan
  * @typedef {object} Figures
  * @property {(number: bigint | null) => string} amount
  * @property {(number: bigint) => string} total
@@ -85,7 +86,7 @@ function linkOf(plan, k, widest) {
 // neighbours.
 /** @type {(blocked: Blocked, caption: Caption) => Scene} */
 export function blockedScene(blocked, caption) {
-  const net = blocked.eased, { problem } = net, { amount: said } = figuresOf(problem);
+  const { problem, network } = blocked, { amount: said } = figuresOf(problem);
   const marked = markedOf(blocked);
   /** @type {SceneLink[]} */
   const links = problem.routes.map((route, number) => {
@@ -106,7 +107,7 @@ export function blockedScene(blocked, caption) {
     return { ...node, note: [node.note, limit].filter(Boolean).join(', ') };
   });
   const groups = blocked.bottlenecks.map((found) =>
-    new Set(found.nodes.map((node) => net.placeOf[node - 1]))
+    new Set(found.nodes.map((node) => network.placeOf[node - 1]))
   );
   const scene = {
     heading: `No plan exists: ${whyBlocked(blocked)}`,
@@ -119,25 +120,25 @@ export function blockedScene(blocked, caption) {
   return nodes.length > NEAR && groups.length ? nearScene(scene) : scene;
 }
 
-// This function marks the arcs that force or limit a bottleneck, by their kind, number and sign.
+// This function marks what forces or limits a bottleneck, by its kind, number and sign.
 /** @type {(blocked: Blocked) => Map<string, 'forces' | 'limits'>} */
-function markedOf({ eased, bottlenecks }) {
+function markedOf({ bottlenecks }) {
   /** @type {Map<string, 'forces' | 'limits'>} */
   const marked = new Map();
-  /** @type {(use: Use) => string} */
+  /** @type {(joint: Joint) => string} */
   const key = ({ kind, number, sign }) => `${kind} ${number} ${sign}`;
-  for (const found of bottlenecks) {
-    for (const k of found.forcing) marked.set(key(eased.uses[k]), 'forces');
-    for (const k of found.limiting) marked.set(key(eased.uses[k]), 'limits');
+  for (const { forcing, limiting } of bottlenecks) {
+    for (const joint of forcing) marked.set(key(joint), 'forces');
+    for (const joint of limiting) marked.set(key(joint), 'limits');
   }
   return marked;
 }
 
 // This function says in a few words why no plan exists.
 /** @type {(blocked: Blocked) => string} */
-export function whyBlocked({ net: { problem }, isUnbalanced, bottlenecks }) {
+export function whyBlocked({ problem, surplus, bottlenecks }) {
   const { amount } = figuresOf(problem), [supply, demand] = balanceOf(problem);
-  if (isUnbalanced) return `supply ${amount(supply)}, demand ${amount(demand)}`;
+  if (surplus) return `supply ${amount(supply)}, demand ${amount(demand)}`;
   return bottlenecks
     .slice(0, 3)
     .map((found) => `short by ${amount(found.must - found.can)}`)

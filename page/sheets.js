@@ -1,9 +1,9 @@
 // @ts-check
 // This file turns an answer into what the page shows: a headline, lead sentences, facts, findings,
 // a scene, and tables to look at and to save.
-import { pairsSummary, pairsTable, rivalsLines, rivalsTable } from './pairs.js';
+import { balanceOf } from './blocked.js';
+import { pairsSummary, pairsTable, rivalsLines, rivalsSentence, rivalsTable } from './pairs.js';
 import {
-  balanceOf,
   bottleneckSentence,
   bottleneckTable,
   flowSummary,
@@ -14,17 +14,15 @@ import {
 } from './report.js';
 import { listed } from './faults.js';
 import { size } from './model.js';
-import { allBottlenecks } from './solving.js';
 import { cellAt } from './tables.js';
 import { blockedScene, planScene, whyBlocked } from './scene.js';
 
 /**
- * @typedef {import('./flownet.js').FlowNet} FlowNet
- * @typedef {import('./flownet.js').FlowPlan} FlowPlan
+ * @typedef {import('./blocked.js').Blocked} Blocked
  * @typedef {import('./model.js').Problem} Problem
- * @typedef {import('./network.js').Network} Network
- * @typedef {import('./pairs.js').RosterNet} RosterNet
- * @typedef {import('./roster.js').Roster} Roster
+ * @typedef {import('./network.js').Network<Arc>} Network
+ * @typedef {import('./pairs.js').Roster} Roster
+ * @typedef {import('./plan.js').FlowPlan} FlowPlan
  * @typedef {import('./tables.js').Table} Table
  * @typedef {{ all: string, byPlace: string }} Delivered
  */
@@ -76,7 +74,7 @@ export function planShown(plan) {
     headline: ['Least cost: ', units.total(plan.cost)],
     mark: said.mark,
     lead: [
-      ...warnings(plan.net),
+      ...warnings(problem, plan.policy),
       'No plan for these tables costs less.',
       ...flowSummary(plan).slice(2).filter((line) => /stay|missing|Passing/.test(line)),
       ...problem.told()
@@ -89,17 +87,18 @@ export function planShown(plan) {
   };
 }
 
-/** @type {(net: FlowNet) => string[]} */
-const warnings = (net) => slips(net).map((line) => `Warning: ${line}`);
+/** @type {(problem: Problem, policy: Policy) => string[]} */
+const warnings = (problem, policy) => slips(problem, policy).map((line) => `Warning: ${line}`);
 
 /** @type {(plan: FlowPlan) => Sheet[]} */
 function savingsSheet(plan) {
+  const { units } = plan.problem;
   /** @type {SheetRow[]} */
   const rows = savingsOf(plan)
     .slice(0, 50)
     .map(({ ends, result }) => ({
       kind: 'full',
-      cells: [...ends, result.isExact ? 'exactly' : 'at most', plan.rate(result.saves)],
+      cells: [...ends, result.isExact ? 'exactly' : 'at most', units.rate(result.saves)],
     }));
   return rows.length
     ? [
@@ -164,13 +163,13 @@ function routesSheet(plan) {
         units.amount(carries),
         units.total(cost),
         share,
-        saves ? plan.rate(saves) : '',
+        saves ? units.rate(saves) : '',
         saves ? (isExact ? 'exactly' : 'at most') : '',
         ...own.map((place) => cellAt(route.cells, place)),
       ],
     };
   };
-  const total = units.total(plan.routes.reduce((sum, { cost }) => sum + cost, 0n));
+  const total = units.total(plan.routes.reduce((sum, { cost }) => sum + (cost || 0n), 0n));
   const totals = columns.map(({ head }) => (head === 'total' ? total : ''));
   return {
     title: 'Routes',
@@ -219,20 +218,20 @@ function placesSheet(plan) {
   const { units, placeTable } = problem;
   const own = ownColumns(placeTable);
   const hasBounds = problem.places.some(({ bounds }) => bounds);
-  const hasUnmet = plan.net.hub !== null;
+  const hasUnmet = Boolean(plan.policy.unused || plan.policy.short);
   /** @type {Sheet['row']} */
   const row = (k) => {
     const place = problem.places[k], { price, group, unmet, through } = plan.places[k];
     const passing = through ? [
       units.amount(through.carries), units.amount(place.bounds.most), units.total(through.cost),
-      through.saves ? plan.rate(through.saves) : '',
+      through.saves ? units.rate(through.saves) : '',
     ] : ['', '', '', ''];
     return {
       kind: '',
       cells: [
         place.name,
         units.amount(place.supply),
-        plan.rate(price),
+        units.rate(price),
         String(group),
         ...(hasUnmet ? [unmet ? units.amount(unmet) : ''] : []),
         ...(hasBounds ? passing : []),
@@ -252,11 +251,11 @@ function placesSheet(plan) {
 
 /** @type {(blocked: Blocked) => Shown} */
 export function blockedShown(blocked) {
-  const { problem } = blocked.net;
+  const { problem } = blocked;
   const said = (/** @type {bigint} */ amount) => problem.said.amount(amount);
   const [supply, demand] = balanceOf(problem);
-  const findings = blocked.bottlenecks.map((found) => bottleneckFinding(blocked.eased, found));
-  if (blocked.isUnbalanced) {
+  const findings = blocked.bottlenecks.map((found) => bottleneckFinding(blocked, found));
+  if (blocked.surplus) {
     const eased = supply > demand ? 'supplies may stay' : 'demands may be unmet';
     findings.unshift({
       figures: [
@@ -273,7 +272,7 @@ export function blockedShown(blocked) {
     headline: ['No plan exists: ', whyBlocked(blocked)],
     mark: problem.said.mark,
     lead: [
-      ...warnings(blocked.net),
+      ...warnings(problem, blocked.policy),
       'Whatever way amounts go, these places must send or take more than the routes around them '
         + 'carry.',
       ...problem.told(),
@@ -282,13 +281,13 @@ export function blockedShown(blocked) {
     findings,
     scene: (caption) => blockedScene(blocked, caption),
     sheets: [...limitingSheet(blocked), ...inputSheets(problem)],
-    tables: () => [bottleneckTable(blocked.eased, allBottlenecks(blocked))],
+    tables: () => [bottleneckTable(blocked)],
   };
 }
 
+// This function returns what a set must and can send or take, and the difference.
 /**
- * This function returns what a set must and can send or take, and the difference.
- * @param {Bottleneck} found
+ * @param {{ must: bigint, can: bigint }} found
  * @param {(amount: bigint) => string} [said]
  */
 const shortfallOf = ({ must, can }, said = String) => [
@@ -297,34 +296,35 @@ const shortfallOf = ({ must, can }, said = String) => [
   ['short by', said(must - can)],
 ];
 
-/** @type {(net: FlowNet, found: Bottleneck) => Finding} */
-function bottleneckFinding(net, found) {
-  const said = (/** @type {bigint} */ amount) => net.problem.said.amount(amount);
+/** @type {(blocked: Blocked, found: Bottleneck) => Finding} */
+function bottleneckFinding(blocked, found) {
+  const said = (/** @type {bigint} */ amount) => blocked.problem.said.amount(amount);
   const short = said(found.must - found.can);
-  const routes = net.amounts(found.limiting, 'most').map(([k]) => net.ends(k).join(' -> '));
+  const routes = found.limiting.map((joint) => blocked.ends(joint).join(' -> '));
   const raise = routes.length
     ? `Give ${listed(routes)} ${short} more room${routes.length > 1 ? ' together' : ''}, or`
     : 'Give them a route, or';
   return {
     figures: shortfallOf(found, said),
-    sentence: bottleneckSentence(net, found),
+    sentence: bottleneckSentence(blocked, found),
     cure: `${raise} move ${short} of ${found.side === 'take' ? 'demand' : 'supply'} elsewhere.`,
   };
 }
 
 /** @type {(blocked: Blocked) => Sheet[]} */
 function limitingSheet(blocked) {
-  const net = blocked.eased;
-  const { units } = net.problem;
+  const { units } = blocked.problem;
   /** @type {SheetRow[]} */
   const rows = [];
-  blocked.bottlenecks.forEach((found, k) => {
-    for (const [arc, most] of net.amounts(found.limiting, 'most')) rows.push(
-      { kind: 'full', cells: [`${k + 1}.`, ...net.ends(arc), units.amount(most), ''] }
-    );
-    for (const [arc, least] of net.amounts(found.forcing, 'least')) rows.push(
-      { kind: '', cells: [`${k + 1}.`, ...net.ends(arc), '', units.amount(least)] }
-    );
+  blocked.bottlenecks.forEach(({ limiting, forcing }, k) => {
+    for (const joint of limiting) {
+      const cells = [`${k + 1}.`, ...blocked.ends(joint), units.amount(joint.most), ''];
+      rows.push({ kind: 'full', cells });
+    }
+    for (const joint of forcing) {
+      const cells = [`${k + 1}.`, ...blocked.ends(joint), '', units.amount(joint.least)];
+      rows.push({ kind: '', cells });
+    }
   });
   return rows.length
     ? [
@@ -389,57 +389,47 @@ function inputSheets(problem) {
 
 // ---- Persons and things
 
-/** @type {(roster: Roster, chosen: Pair[], cost: bigint) => Shown} */
-export function pairsShown(roster, chosen, cost) {
-  const { persons, things, units } = roster;
-  const word = units.sign < 0n ? 'Greatest value: ' : 'Least cost: ';
+/** @type {(roster: Roster) => Shown} */
+export function pairsShown(roster) {
+  const { units, maximise, pairs } = roster;
   /** @type {SheetRow[]} */
-  const rows = chosen.map((pair) => ({
-    kind: '',
-    cells: [persons.names[pair.who - 1], things.names[pair.what - 1], units.rate(pair.cost)],
-  }));
+  const rows = pairs.map(({ who, what, cost }) => (
+    { kind: '', cells: [who, what, units.rate(cost)] }
+  ));
   return {
     isPlan: true,
-    headline: [word, units.total(cost)],
+    headline: [maximise ? 'Greatest value: ' : 'Least cost: ', units.total(roster.cost)],
     mark: roster.said.mark,
-    lead: [...pairsSummary(roster, chosen, cost).slice(2), ...roster.told()],
+    lead: [...pairsSummary(roster).slice(2), ...roster.told()],
     facts: [
-      [persons.names.length, 'persons'],
-      [things.names.length, 'things'],
-      [chosen.length, 'pairs'],
+      [roster.persons.size, 'persons'],
+      [roster.things.size, 'things'],
+      [pairs.length, 'pairs'],
     ],
     findings: [],
     scene: null,
     sheets: [
-      sheetOf(
-        'Pairs',
-        [column('who'), column('what'), number(units.sign < 0n ? 'value' : 'cost')],
-        rows
-      ),
+      sheetOf('Pairs', [column('who'), column('what'), number(maximise ? 'value' : 'cost')], rows),
     ],
-    tables: () => [pairsTable(roster, chosen)],
+    tables: () => [pairsTable(roster)],
   };
 }
 
-/** @type {(net: RosterNet, bottlenecks: Bottleneck[]) => Shown} */
-export function pairsBlocked(net, bottlenecks) {
-  const lines = rivalsLines(net, bottlenecks);
-  const found = lines.slice(1, 1 + bottlenecks.length).map((line) => line.trim());
-  const findings = found.map((sentence, k) => ({
-    figures: shortfallOf(bottlenecks[k]),
-    sentence,
-    cure: '',
-  }));
+/** @type {(roster: Roster) => Shown} */
+export function pairsBlocked(roster) {
+  const rivals = roster.rivals(), lines = rivalsLines(roster, rivals);
   return {
     isPlan: false,
     headline: ['No such pairs exist', ''],
-    mark: net.roster.said.mark,
-    lead: [...lines.slice(1 + found.length), ...net.roster.told()],
+    mark: roster.said.mark,
+    lead: [...lines.filter((line, k) => k && !line.startsWith(' ')), ...roster.told()],
     facts: [],
-    findings,
+    findings: rivals.map((found) => (
+      { figures: shortfallOf(found), sentence: rivalsSentence(found), cure: '' }
+    )),
     scene: null,
     sheets: [],
-    tables: () => [rivalsTable(net, bottlenecks)],
+    tables: () => [rivalsTable(roster, rivals)],
   };
 }
 
@@ -497,11 +487,11 @@ export function textShown(network, plan) {
   };
 }
 
-/** @type {(network: Network, bottlenecks: Bottleneck[]) => Shown} */
-export function textBlocked(network, bottlenecks) {
+/** @type {(bottlenecks: Bottleneck<Arc>[]) => Shown} */
+export function textBlocked(bottlenecks) {
   const name = (/** @type {Arc} */ { tail, head, most }) => `${tail} -> ${head} (${most})`;
-  const over = (/** @type {Bottleneck} */ { limiting }) =>
-    limiting.length ? `, over ${listed(limiting.map((k) => name(network.arcs[k])))}` : '';
+  const over = (/** @type {Bottleneck<Arc>} */ { limiting }) =>
+    limiting.length ? `, over ${listed(limiting.map(name))}` : '';
   const findings = bottlenecks.map((found) => ({
     figures: shortfallOf(found),
     cure: '',
@@ -511,14 +501,9 @@ export function textBlocked(network, bottlenecks) {
   }));
   /** @type {SheetRow[]} */
   const rows = bottlenecks.flatMap((found, k) =>
-    found.limiting.map((arc) => ({
+    found.limiting.map(({ tail, head, most }) => ({
       kind: 'full',
-      cells: [
-        `${k + 1}.`,
-        String(network.arcs[arc].tail),
-        String(network.arcs[arc].head),
-        String(network.arcs[arc].most),
-      ],
+      cells: [`${k + 1}.`, String(tail), String(head), String(most)],
     }))
   );
   return {

@@ -3,14 +3,12 @@
 import fs from 'node:fs';
 import path from 'node:path';
 import { fileURLToPath } from 'node:url';
-import { FlowNet, FlowPlan } from './flownet.js';
 import { laidOut, levelsOf } from './layout.js';
-import { Problem } from './model.js';
 import { svgOf } from './picture.js';
+import { flowOf } from './running.js';
 import { blockedScene, planScene, shortNames } from './scene.js';
-import { blockedOf, solve } from './solving.js';
 import { loaded } from './test_module.mjs';
-import { solverOf } from './test_plans.mjs';
+import { asked, solverOf } from './test_plans.mjs';
 
 const plans = path.join(path.dirname(fileURLToPath(import.meta.url)), '..', 'examples', 'plans');
 const count = (text, part) => text.split(part).length - 1;
@@ -18,12 +16,8 @@ const count = (text, part) => text.split(part).length - 1;
 const CAPTION = { title: 'Week <7>', source: '2026-11-27: places.csv, routes.csv' };
 
 async function sceneOf(solver, sources) {
-  const problem = new Problem(sources);
-  const net = new FlowNet(problem);
-  const { text, plan } = await solve(solver, net.instance(), net);
-  return plan
-    ? planScene(new FlowPlan(net, plan), CAPTION)
-    : blockedScene(await blockedOf(solver, text, net), CAPTION);
+  const { plan, blocked } = await flowOf(solver, sources, asked([]));
+  return plan ? planScene(plan, CAPTION) : blockedScene(blocked, CAPTION);
 }
 
 function drawn(expect, name, scene) {

@@ -1,20 +1,12 @@
-// This file runs the plans of examples/plans through the page's reading, solving, words and tables,
-// and compares them with what mcf_plan says and writes.
+// This file runs the plans of examples/plans through the page, and compares what it says and its
+// tables with what mcf_plan says and writes.
 import fs from 'node:fs';
 import path from 'node:path';
 import { fileURLToPath } from 'node:url';
 import { BadTable } from './faults.js';
-import { FlowNet, FlowPlan } from './flownet.js';
-import { Problem } from './model.js';
 import { accepts, judged } from './module.js';
-import {
-  RosterNet,
-  chosenOf,
-  pairsSummary,
-  pairsTable,
-  rivalsLines,
-  rivalsTable,
-} from './pairs.js';
+import { pairsSummary, pairsTable, rivalsLines, rivalsTable } from './pairs.js';
+import { planned } from './planned.js';
 import {
   blockedSummary,
   bottleneckTable,
@@ -24,76 +16,38 @@ import {
   pricesTable,
   slips,
 } from './report.js';
-import { Roster } from './roster.js';
-import { allBottlenecks, blockedOf, bottlenecksOf, solve } from './solving.js';
+import { flowOf, pairsOf } from './running.js';
 import { loaded } from './test_module.mjs';
+import { speakAs } from './words.js';
 
 const plans = path.join(path.dirname(fileURLToPath(import.meta.url)), '..', 'examples', 'plans');
 
+// The words of mcf_plan.
+export const TOOL = {
+  found: 'proved',
+  none: 'proved',
+  encoding: 'or say --encoding windows-1252',
+  choose: 'say --decimal , or --decimal . (what stands before decimals)',
+  orChoose: 'or say --decimal',
+  chosen: 'as --decimal says',
+  own: (head) => `where a head has another name, say so: --map ${head}=NAME`,
+  names: (head, own) => `which --map ${head}=${own} names`,
+  unused: '--unused allow lets it stay',
+  short: '--short allow lets it be short',
+  each: 'With --each what each thing would get a person',
+  limits: 'LIMITS in `man mcf`',
+};
+
 // This function returns a solver that runs the module in this process.
 export function solverOf(module) {
-  const bytes = (text) => new TextEncoder().encode(text);
+  const bytes = (text) => (typeof text === 'string' ? new TextEncoder().encode(text) : text);
+  const withText = (result) => (
+    { ...result, answer: result.answer && new TextDecoder().decode(result.answer) }
+  );
   return {
-    solve: async (text, engine) => {
-      const result = judged(module, bytes(text), engine);
-      return { ...result, answer: result.answer && new TextDecoder().decode(result.answer) };
-    },
+    plan: async (texts, options) => withText(planned(module, texts, options)),
+    solve: async (text, engine) => withText(judged(module, bytes(text), engine)),
     check: async (text, answer) => accepts(module, bytes(text), bytes(answer)),
-  };
-}
-
-// This function returns what the page says about a flow, and its tables.
-async function flow(solver, sources, { reading, policy }) {
-  const problem = new Problem(sources, reading);
-  const net = new FlowNet(problem, policy);
-  const { text, plan } = await solve(solver, net.instance(), net);
-  if (plan) {
-    const found = new FlowPlan(net, plan);
-    return {
-      said: [
-        ...slips(net).map((line) => `mcf_plan: warning: ${line}`),
-        ...flowSummary(found),
-        ...problem.told(),
-      ],
-      status: 0,
-      mark: problem.numbers.mark,
-      tables: [flowsTable(found), pricesTable(found)],
-    };
-  }
-  const blocked = await blockedOf(solver, text, net);
-  return {
-    said: [
-      ...slips(net).map((line) => `mcf_plan: warning: ${line}`),
-      ...blockedSummary(blocked),
-      ...problem.told(),
-    ],
-    status: 1,
-    mark: problem.numbers.mark,
-    tables: [bottleneckTable(blocked.eased, allBottlenecks(blocked))],
-  };
-}
-
-// This function returns the same for pairs.
-async function roster(solver, source, { reading, each, maximise }) {
-  const read = new Roster(source, reading, each, maximise);
-  const net = new RosterNet(read);
-  const { text, plan } = await solve(solver, net.instance(), net);
-  const { mark } = read.numbers;
-  if (plan) {
-    const chosen = chosenOf(read, plan);
-    return {
-      said: [...pairsSummary(read, chosen, plan.cost), ...read.told()],
-      status: 0,
-      mark,
-      tables: [pairsTable(read, chosen)],
-    };
-  }
-  const found = await bottlenecksOf(solver, text, net, net.hub, (one) => net.whole(one));
-  return {
-    said: [...rivalsLines(net, found), ...read.told()],
-    status: 1,
-    mark,
-    tables: [rivalsTable(net, found)],
   };
 }
 
@@ -116,12 +70,40 @@ export function asked(words) {
   return found;
 }
 
+// This function returns what the page says about a flow, and its tables.
+async function flow(solver, sources, choices) {
+  const { problem, plan, blocked } = await flowOf(solver, sources, choices);
+  return {
+    said: [
+      ...slips(problem, choices.policy).map((line) => `mcf_plan: warning: ${line}`),
+      ...(plan ? flowSummary(plan) : blockedSummary(blocked)),
+      ...problem.told(),
+    ],
+    status: plan ? 0 : 1,
+    mark: problem.mark,
+    tables: plan ? [flowsTable(plan), pricesTable(plan)] : [bottleneckTable(blocked)],
+  };
+}
+
+// This function returns the same for pairs.
+async function pairs(solver, source, choices) {
+  const { roster, result } = await pairsOf(solver, source, choices);
+  const rivals = result.status === 'flow' ? null : roster.rivals();
+  return {
+    said: [...(rivals ? rivalsLines(roster, rivals) : pairsSummary(roster)), ...roster.told()],
+    status: rivals ? 1 : 0,
+    mark: roster.mark,
+    tables: [rivals ? rivalsTable(roster, rivals) : pairsTable(roster)],
+  };
+}
+
 // This function returns what the page says about tables, in mcf_plan's words.
 export async function told(kind, solver, sources, choices) {
+  speakAs(TOOL);
   try {
     const found = kind === 'flow'
       ? await flow(solver, sources, choices)
-      : await roster(solver, sources[0], choices);
+      : await pairs(solver, sources[0], choices);
     return { ...found, said: `${found.said.join('\n')}\n` };
   } catch (error) {
     if (!(error instanceof BadTable)) throw error;
@@ -130,21 +112,7 @@ export async function told(kind, solver, sources, choices) {
       status: 2,
       tables: [],
     };
-  }
-}
-
-// The page doesn't show a set that the checker rejects.
-async function unaccepted(expect, solver) {
-  const sources = ['places.csv', 'routes.csv'].map((name) => ({
-    name,
-    bytes: fs.readFileSync(path.join(plans, 'blocked', name)),
-  }));
-  const denying = { ...solver, check: async () => ({ accepted: false, line: 'rejected set' }) };
-  const status = await told('flow', denying, sources, asked([])).then(
-    () => 'told',
-    (error) => error.status
-  );
-  expect(status === 'rejected', `a set that isn't accepted: ${status}`);
+  } finally { speakAs(null); }
 }
 
 // The tables that the page writes can be read again, even with heads that JavaScript knows and with
@@ -167,7 +135,6 @@ async function written(expect, solver) {
 
 export default async function test(expect) {
   const solver = solverOf(loaded());
-  await unaccepted(expect, solver);
   await written(expect, solver);
   for (const name of fs.readdirSync(plans)
     .filter((one) => fs.existsSync(path.join(plans, one, 'expected')))) {

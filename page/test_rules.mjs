@@ -5,7 +5,7 @@ import path from 'node:path';
 import { fileURLToPath } from 'node:url';
 import { loaded } from './test_module.mjs';
 import { asked, solverOf, told } from './test_plans.mjs';
-import { pageWords } from './words.js';
+import { runFlow, runPairs } from './running.js';
 
 const list = path.join(
   path.dirname(fileURLToPath(import.meta.url)),
@@ -14,6 +14,18 @@ const list = path.join(
   'tests',
   'rules.json'
 );
+
+// This function returns what the page shows of a rule's tables, in its own words.
+async function shownOf(rule, solver, sources) {
+  const choices = asked(rule.options ?? []);
+  const run = 'costs' in rule
+    ? runPairs(solver, sources[0], choices)
+    : runFlow(solver, sources, choices);
+  return run.then(
+    ({ lead, findings }) => [...lead, ...findings.flatMap(Object.values)].join('\n'),
+    (error) => error.lines.join('\n')
+  );
+}
 
 export default async function test(expect) {
   const solver = solverOf(loaded());
@@ -35,7 +47,7 @@ export default async function test(expect) {
     );
     expect(status === rule.status, `status ${status}, and not ${rule.status}: ${said}`);
     for (const text of rule.says) expect(said.includes(text), `it says\n${said}and not ${text}`);
-    const own = said.split('\n').map((line) => pageWords(line)).join('\n');
+    const own = await shownOf(rule, solver, sources);
     expect(!/--\w|mcfcheck|\bman\b/.test(own), `these aren't words of the page: ${own}`);
   }
 }

@@ -1,25 +1,51 @@
-// This file tests what sheets and the lines around them say about plans, with given flows and
-// prices and without the module.
-import { FlowNet, FlowPlan } from './flownet.js';
+// This file tests what sheets and the lines around them say about plans, with given answers and
+// without the module.
 import { totalsOf } from './grid.js';
-import { Problem } from './model.js';
+import { flowOf } from './running.js';
 import { blockedShown, changesShown, planShown } from './sheets.js';
 
-// This function returns a plan for these tables that carries these amounts; all prices are 0.
-function planOf(places, routes, flows, policy = {}) {
-  const problem = new Problem([{ name: 'places', text: places }, { name: 'routes', text: routes }]);
-  const net = new FlowNet(problem, policy);
-  const cost = net.arcs.reduce((sum, arc, k) => sum + arc.cost * BigInt(flows[k]), 0n);
-  return new FlowPlan(net, { cost, flows: flows.map(BigInt), prices: net.supplies.map(() => 0n) });
+// This function returns the answer to tables whose routes carry these amounts; at the places, such
+// amounts stay or are missing. One more unit costs and saves nothing.
+function answerOf(kind, places, routes, { mark = '.', cost = '0', carries = [], unmet = [] }) {
+  const rows = [['answer', kind], ...(kind === 'plan' ? [['cost', cost]] : [['side', 'send']])];
+  const [placeRows, routeRows] = [places, routes].map((text) =>
+    text.trim().split('\n').map((line) => line.split(text.includes(';') ? ';' : ','))
+  );
+  carries.forEach(([carried, total], k) => {
+    const [tail, head] = routeRows[k + 1];
+    rows.push(['route', k + 2, tail, head, carried, total, '', '0', 'yes']);
+  });
+  placeRows.slice(1).forEach(([name], k) => {
+    const [stays = '0', missing = '0'] = unmet[k] || [];
+    rows.push(['place', k + 2, name, stays, missing, '0', '1', '', '', '', '', '']);
+  });
+  rows.push(['mark', mark]);
+  for (const [name, [heads, ...lines]] of [['places', placeRows], ['routes', routeRows]]) {
+    rows.push(['heads', name, 1, ...heads], ...lines.map((cells, k) => ['row', name, k + 2, ...cells]));
+  }
+  return rows
+    .map((row) => `${row.map((cell) => `"${String(cell).replaceAll('"', '""')}"`).join(',')}\n`)
+    .join('');
+}
+
+// This function returns what the page makes of such an answer.
+async function flow(kind, places, routes, figures, policy = {}) {
+  const answer = answerOf(kind, places, routes, figures);
+  const solver = { plan: async () => ({ status: kind === 'plan' ? 'flow' : 'blocked', answer }) };
+  const sources = [{ name: 'places', text: places }, { name: 'routes', text: routes }];
+  return flowOf(solver, sources, { reading: {}, policy });
 }
 
 // If two plans deliver different amounts, the page says so before their costs.
-function delivered(expect) {
+async function delivered(expect) {
   const places = 'name;supply\nA;2,5\nB;-1,5\nC;-1\n';
   const routes = 'from;to;most;cost\nA;B;;2\nA;C;;3\n';
-  const short = { unused: true, short: true };
-  const whole = planOf(places, routes, [15, 10]);
-  const part = planOf(places, routes, [15, 0, 10, 0, 10], short);
+  const plan = async (table, cost, carries, unmet) =>
+    (await flow('plan', table, routes, { mark: ',', cost, carries, unmet })).plan;
+  const whole = await plan(places, '6', [['1.5', '3'], ['1', '3']]);
+  const part = await plan(
+    places, '3', [['1.5', '3'], ['0', '0']], [['1', '0'], ['0', '0'], ['0', '1']]
+  );
   const said = (before, now) => changesShown(before, now).text;
   expect(
     said(whole, part).startsWith(
@@ -29,7 +55,8 @@ function delivered(expect) {
     said(whole, part)
   );
   expect(said(whole, whole).startsWith('Cost before 6, now 6;'), said(whole, whole));
-  const other = planOf(places.replace('-1,5', '-1').replace('C;-1', 'C;-1,5'), routes, [10, 15]);
+  const turned = places.replace('-1,5', '-1').replace('C;-1', 'C;-1,5');
+  const other = await plan(turned, '6.5', [['1', '2'], ['1.5', '4.5']]);
   expect(
     said(whole, other).startsWith('Both deliver 2,5 in all, but not the same at each place: mind'),
     said(whole, other)
@@ -37,11 +64,12 @@ function delivered(expect) {
 }
 
 // Costs that rise by steps have the tables' decimal mark, and another sign between steps.
-function steps(expect) {
+async function steps(expect) {
   const places = 'name;supply\nA;2,5\nB;-2,5\n';
   const routes = 'from;to;most;cost;most 2;cost 2\nA;B;2;3,92;;5,92\n';
-  const plan = planOf(places, routes, [20, 5]);
-  const blocked = { net: plan.net, eased: plan.net, isUnbalanced: false, bottlenecks: [] };
+  const figures = { mark: ',', cost: '10.8', carries: [['2.5', '10.8']] };
+  const { plan } = await flow('plan', places, routes, figures);
+  const { blocked } = await flow('no plan', places, routes, { mark: ',' });
   for (const { sheets } of [planShown(plan), blockedShown(blocked)]) {
     const cell = sheets.find(({ title }) => title === 'Routes').row(0).cells[4];
     expect(cell === '3,92 / 5,92', cell);
@@ -49,12 +77,13 @@ function steps(expect) {
 }
 
 // Totals below filtered rows count only these rows and say so. They are exact.
-function totals(expect) {
+async function totals(expect) {
   const places = 'name,supply\nA,30\nB,-30\n';
   const routes = 'from,to,most,cost\nA,B,10,0.1\nA,B,10,0.25\nA,B,10,12345678901234567890.5\n';
-  const sheet = planShown(planOf(places, routes, [10, 10, 10])).sheets.find(({ title }) =>
-    title === 'Routes'
-  );
+  const carries = [['10', '1'], ['10', '2.5'], ['10', '123456789012345678905']];
+  const cost = '123456789012345678908.5';
+  const { plan } = await flow('plan', places, routes, { cost, carries });
+  const sheet = planShown(plan).sheets.find(({ title }) => title === 'Routes');
   const total = (order) =>
     totalsOf(sheet, order, `${order.length} of 3 lines`).filter(Boolean).join('; ');
   expect(total([2, 0, 1]) === '123456789012345678908.5', total([2, 0, 1]));
@@ -64,11 +93,12 @@ function totals(expect) {
 }
 
 // The lead names likely mistakes, and the columns that are copied.
-function leads(expect) {
+async function leads(expect) {
   const places = 'name,supply,Region\nA,1,n\nB,1,s\n';
   const routes = 'from,to,most,cost,min lot\nA,B,,1,5\n';
-  const plan = planOf(places, routes, [0, 1, 1], { unused: true });
-  const blocked = { net: plan.net, eased: plan.net, isUnbalanced: false, bottlenecks: [] };
+  const unmet = [['1', '0'], ['1', '0']], policy = { unused: true };
+  const { plan } = await flow('plan', places, routes, { carries: [['0', '0']], unmet }, policy);
+  const { blocked } = await flow('no plan', places, routes, {}, policy);
   for (const { lead } of [planShown(plan), blockedShown(blocked)]) {
     expect(
       lead[0].startsWith(
@@ -80,9 +110,6 @@ function leads(expect) {
   }
 }
 
-export default function test(expect) {
-  leads(expect);
-  totals(expect);
-  steps(expect);
-  delivered(expect);
+export default async function test(expect) {
+  for (const part of [leads, totals, steps, delivered]) await part(expect);
 }

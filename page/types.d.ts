@@ -56,15 +56,13 @@ interface Row {
 
 /** Where a cell stands: its column by its head or by its number from 1; '' is the whole line. */
 interface Where {
-  table: import('./tables.js').Table;
+  table: string;
   line: number;
-  column: string | number;
+  column: string;
 }
 
 /** What is wrong with cells of one kind: the first in words, and some others with their lines. */
 interface Fault {
-  table: import('./tables.js').Table;
-  kind: string;
   text: string;
   count: number;
   more: Map<string, number>;
@@ -102,62 +100,86 @@ interface Route extends ReadRoute<bigint> {
   most: bigint | null;
 }
 
-/** A pair, by the numbers of its person and its thing from 1; one of a matrix has no cells. */
-interface Pair<A = bigint> {
-  who: number;
-  what: number;
-  cost: A;
-  line: number;
-  column: string | number;
+/** A pair that an answer names, and its row if the table is a list. */
+interface ChosenPair {
+  who: string;
+  what: string;
+  cost: bigint;
   cells?: string[];
 }
 
-/** How many one has, at least and at most. */
-type HowMany = [bigint, bigint];
-
-// ---- Networks, instances and answers
-
-/** An arc: its ends are nodes, which count from 1. */
-interface Arc {
-  tail: number;
-  head: number;
-  least: bigint;
-  most: bigint;
-  cost: bigint;
+/** One of those that compete, and how many it must or can have. */
+interface Rival {
+  name: string;
+  number: bigint;
 }
 
-/** What an arc is there for: a route or a place by its number from 0; -1 is a route's other way. */
-interface Use {
+/** Those that compete: who must, who can, and pairs, which count one each. */
+interface Rivals {
+  side: SendOrTake;
+  musts: Rival[];
+  cans: Rival[];
+  pairs: ChosenPair[];
+  must: bigint;
+  can: bigint;
+}
+
+/** The cell of a number, and where it stands. */
+interface NumberCell {
+  table: import('./tables.js').Table;
+  line: number;
+  cell: string;
+}
+
+/** A table as an answer repeats it. */
+interface AnsweredTable {
+  headLine: number;
+  titles: string[];
+  rows: Row[];
+}
+
+/** The words in which the page and mcf_plan differ. */
+interface Speech {
+  found: string;
+  none: string;
+  encoding: string;
+  choose: string;
+  orChoose: string;
+  chosen: string;
+  own(head: string): string;
+  names(head: string, own: string): string;
+  unused: string;
+  short: string;
+  each: string;
+  limits: string;
+}
+
+// ---- Networks and answers
+
+/** An arc: its ends are nodes, which count from 1. A most of null is no limit. */
+interface Arc extends Ends {
+  least: bigint;
+  most: bigint | null;
+  cost?: bigint;
+}
+
+/** What joins places: a route or a place by its number from 0; -1 is a route's other way. */
+interface Joint extends Arc {
   kind: 'route' | 'through' | 'stays' | 'missing';
   number: number;
   sign: number;
 }
 
-/** Where a line of an instance comes from, and its columns by the words of a refusal. */
-interface Origin {
-  table: import('./tables.js').Table;
-  line: number;
-  columns: Record<string, string | number>;
-}
-
 type SendOrTake = 'send' | 'take';
 
 /** A set of nodes that must send, or take, more than it can; with the arcs that make it so. */
-interface Bottleneck {
+interface Bottleneck<A = Joint> {
   side: SendOrTake;
   nodes: number[];
   must: bigint;
   can: bigint;
-  forcing: number[];
-  limiting: number[];
-}
-
-/** Why there is no plan. `eased` is `net`, or where supplies don't add to 0 what eases that. */
-interface Blocked {
-  net: import('./flownet.js').FlowNet;
-  eased: import('./flownet.js').FlowNet;
-  isUnbalanced: boolean;
-  bottlenecks: Bottleneck[];
+  forcing: A[];
+  limiting: A[];
 }
 
 /** What an accepted flow says: of each arc, and of each node. */
@@ -199,6 +221,11 @@ interface Judged {
   why?: string;
 }
 
+/** The answer to tables, as bytes. */
+interface Planned extends Judged {
+  answer: Uint8Array;
+}
+
 /** The same with the answer as a text, and as bytes. */
 interface Result extends Omit<Judged, 'answer'> {
   answer?: string;
@@ -210,8 +237,15 @@ interface Verdict {
   line: string;
 }
 
+/** What is asked of the module for tables. */
+interface TableOptions extends PlanOptions {
+  each?: string | null;
+  maximise?: boolean;
+}
+
 /** What solves: the page's client of its worker, or the module itself in tests. */
 interface Solver {
+  plan(texts: Uint8Array[], options: TableOptions): Promise<Result>;
   solve(text: string | Uint8Array, engine: string): Promise<Result>;
   check(text: string | Uint8Array, answer: string): Promise<Verdict>;
 }
@@ -326,11 +360,11 @@ interface Shown {
   tables(): SavedTable[];
 }
 
-/** The same, with what was solved. */
+/** The same, with the answer; and with the plan of tables, or the instance that a text is. */
 interface Run extends Shown {
-  plan?: import('./flownet.js').FlowPlan;
+  plan?: import('./plan.js').FlowPlan;
   result: Result;
-  instance: { name: string; text: string | Uint8Array };
+  instance?: { name: string; text: Uint8Array };
 }
 
 /** The same, with what stands above it. */

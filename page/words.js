@@ -1,39 +1,29 @@
 // @ts-check
-// This file translates the words of the command line's tool into those of the page: the page has
-// choices under Reading or Choices instead of options.
-/** @type {[RegExp, string][]} */
-const WORDS = [
-  [/written by mcf and accepted by mcfcheck/g, 'found and checked in this page by proved code'],
-  [
-    /as mcf found and mcfcheck accepted/g,
-    'as proved code found and checked in this page',
-  ],
-  [
-    /say --decimal , or --decimal \. \(what stands before decimals\)/g,
-    'choose the decimal mark under Reading',
-  ],
-  [/or say --decimal$/, 'or choose the decimal mark under Reading'],
-  [/as --decimal says/g, 'as chosen under Reading'],
-  [
-    /where a head has another name, say so: --map (\w+)=NAME/g,
-    'where a head has another name, write $1=NAME under Reading',
-  ],
-  [/which --map (.+) names/g, 'which $1 under Reading names'],
-  [/or say --encoding windows-1252/g, 'or choose Windows-1252 under Reading'],
-  [/\(--unused allow lets it stay\)/g, '(a choice lets it stay)'],
-  [/\(--short allow lets it be short\)/g, '(a choice lets it be short)'],
-  [
-    /With --each what each thing would/g,
-    'If you choose that each thing gets a person, each would',
-  ],
-  [
-    /; LIMITS in `man mcf` has what it takes/g,
-    '; supplies and amounts go up to 10^18, costs up to 10^15',
-  ],
-];
+// The words in which the page and mcf_plan differ: the page has choices where the tool has options.
+/** @type {Speech} */
+const OWN_WORDS = {
+  found: 'found in this page by proved code',
+  none: 'as proved code found in this page',
+  encoding: 'or choose Windows-1252 under Reading',
+  choose: 'choose the decimal mark under Reading',
+  orChoose: 'or choose the decimal mark under Reading',
+  chosen: 'as chosen under Reading',
+  own: (head) => `where a head has another name, write ${head}=NAME under Reading`,
+  names: (head, own) => `which ${head}=${own} under Reading names`,
+  unused: 'a choice lets it stay',
+  short: 'a choice lets it be short',
+  each: 'If you choose that each thing gets a person, each would get one',
+  limits: 'supplies and amounts go up to 10^18, costs up to 10^15',
+};
 
-/** @type {(line: string) => string} */
-export const pageWords = (line) => WORDS.reduce((text, [from, to]) => text.replace(from, to), line);
+let speech = OWN_WORDS;
+
+/** @type {() => Speech} */
+export const words = () => speech;
+
+// This function sets the words. The tests set those of mcf_plan, to compare the page with it.
+/** @type {(other: Speech | null) => void} */
+export function speakAs(other) { speech = other || OWN_WORDS; }
 
 // The meaning of each refusal code for a line of a DIMACS text.
 /** @type {Record<string, string>} */

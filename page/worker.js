@@ -1,7 +1,7 @@
 // @ts-check
-// The worker: it holds the compiled module, and solves and judges texts. It knows nothing about
-// tables.
+// The worker: it holds the compiled module, plans tables, and solves and judges texts.
 import { accepts, judged } from './module.js';
+import { planned } from './planned.js';
 
 // tsc's DOM library only has the calls of a window, not those of a worker.
 const worker = /** @type {any} */ (self);
@@ -17,7 +17,7 @@ async function unpack(text) {
   );
 }
 
-onmessage = async ({ data: { id, module, bytes, engine, answer } }) => {
+onmessage = async ({ data: { id, module, bytes, engine, answer, texts, options } }) => {
   try {
     if (module) {
       compiled = unpack(module);
@@ -29,7 +29,9 @@ onmessage = async ({ data: { id, module, bytes, engine, answer } }) => {
       postMessage({ id, result: accepts(await compiled, bytes, answer) });
       return;
     }
-    const result = judged(await compiled, bytes, engine);
+    const result = texts
+      ? planned(await compiled, texts, options)
+      : judged(await compiled, bytes, engine);
     worker.postMessage({ id, result }, result.answer ? [result.answer.buffer] : []);
   } catch (error) {
     postMessage({

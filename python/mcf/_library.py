@@ -381,7 +381,8 @@ def _written(function: Any, texts: Sequence[bytes], options: Any) -> Tuple[int, 
     lent = [word for text in texts for word in (text, len(text))]
     size = sum(map(len, texts))
     used = ctypes.c_size_t()
-    room = 4096 + 6 * size
+    # The answer to tables repeats them, and has a row for each of their rows.
+    room = 4096 + 12 * size
     while True:
         buffer = ctypes.create_string_buffer(room)
         words = (*lent, options, buffer, room, used)

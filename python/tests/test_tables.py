@@ -31,11 +31,10 @@ class Rules(WithFolder):
 
     def test_what_is_said(self):
         for rule in RULES:
-            expected = rule.get("tool", rule)
-            with self.subTest(says=expected["says"]):
+            with self.subTest(says=rule["says"]):
                 status, said = self.said_of(rule)
-                self.assertEqual(status, expected["status"], said)
-                for text in expected["says"]:
+                self.assertEqual(status, rule["status"], said)
+                for text in rule["says"]:
                     self.assertIn(text, said)
                 self.assertEqual(self.out.exists(), status != 2)
                 shutil.rmtree(self.out, ignore_errors=True)

@@ -129,7 +129,7 @@ pub fn solve(input: &[u8], choice: Choice) -> Result<(Kind, Vec<u8>), Error> {
 /// as the text of a third table, which the manual page of `mcfplan` describes. Its kind is `Flow`
 /// for a least-cost plan, `Blocked` if there is no plan, and `Refused` for faults of the tables.
 pub fn plan_flow(places: &[u8], routes: &[u8], options: PlanOptions) -> Result<(Kind, Vec<u8>), Error> {
-    let length = 4096 + 6 * (places.len() + routes.len());
+    let length = 4096 + 12 * (places.len() + routes.len());
     written(length, |room| raw::plan_flow(places, routes, &options, room))
 }
 
@@ -137,7 +137,7 @@ pub fn plan_flow(places: &[u8], routes: &[u8], options: PlanOptions) -> Result<(
 /// table, which the manual page of `mcfplan` describes. Its kind is `Flow` for a best choice,
 /// `Blocked` if there is none, and `Refused` for faults of the table.
 pub fn plan_pairs(costs: &[u8], options: PairOptions) -> Result<(Kind, Vec<u8>), Error> {
-    written(4096 + 6 * costs.len(), |room| raw::plan_pairs(costs, options, room))
+    written(4096 + 12 * costs.len(), |room| raw::plan_pairs(costs, options, room))
 }
 
 /// The verdict on an answer text for an instance text.

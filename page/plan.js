@@ -1,0 +1,95 @@
+// @ts-check
+// The results of a plan, from the rows of an answer.
+import { exactOf, scaled } from './amounts.js';
+import { size } from './model.js';
+
+/**
+ * @typedef {import('./answer.js').Answer} Answer
+ * @typedef {import('./model.js').Problem} Problem
+ */
+
+export const STAYS = '(stays)', MISSING = '(missing)', THROUGH = '(through)';
+
+// The results of a plan; null where a figure is beyond what figures take. For a route, or for what
+// passes through a place: the amount, its cost, the residual capacity (null: no limit), what one
+// more unit of capacity saves, and whether that saving is exact. For a place: what one more unit
+// costs there, the group within which that is exact, the amount that stays there or is missing,
+// and, if it has bounds, what passes through it.
+export class FlowPlan {
+  /**
+   * @param {Problem} problem
+   * @param {Policy} policy
+   * @param {Answer} answer
+   */
+  constructor(problem, policy, answer) {
+    this.problem = problem;
+    this.policy = policy;
+    const { units } = problem;
+    this.cost = scaled(exactOf(answer.number('cost')), units.amounts + units.costs);
+    const backs = new Map(
+      answer.rows('back').map((cells) => [cells[0], this.result(cells.slice(3))])
+    );
+    /** @type {RouteResult[]} */
+    this.routes = answer.rows('route').map((cells) => {
+      const there = this.result(cells.slice(3)), back = backs.get(cells[0]);
+      return back ? bothWays(there, back) : there;
+    });
+    /** @type {Map<string, number>} */
+    const groups = new Map();
+    /** @type {PlaceResult[]} */
+    this.places = answer.rows('place').map(([, , stays, missing, price, group, ...passes], k) => {
+      if (!groups.has(group)) groups.set(group, groups.size + 1);
+      return {
+        price: price ? this.rateOf(price) : null,
+        group: groups.get(group),
+        unmet: this.amountOf(stays) + this.amountOf(missing),
+        through: problem.places[k].bounds && this.result(passes),
+      };
+    });
+  }
+
+  /** @type {(text: string) => bigint} */
+  amountOf(text) { return scaled(exactOf(text), this.problem.units.amounts); }
+
+  /** @type {(text: string) => bigint} */
+  rateOf(text) { return scaled(exactOf(text), this.problem.units.costs); }
+
+  // This method returns what cells say of a route, or of what passes through a place.
+  /** @type {(cells: string[]) => RouteResult} */
+  result([carries, cost, free, saves, exact]) {
+    const { amounts, costs } = this.problem.units;
+    return {
+      carries: this.amountOf(carries),
+      cost: cost ? scaled(exactOf(cost), amounts + costs) : null,
+      free: free ? this.amountOf(free) : null,
+      saves: saves ? this.rateOf(saves) : null,
+      isExact: exact === 'yes',
+    };
+  }
+
+  // This method says whether a route carries its most, and that isn't 0.
+  /** @type {(number: number) => boolean} */
+  isFull(number) { return this.routes[number].free === 0n && this.routes[number].carries !== 0n; }
+
+  // This method returns the places where something stays (or is missing), with the amounts.
+  /** @type {(isSupply: boolean) => [place: Place, amount: bigint][]} */
+  unmet(isSupply) {
+    /** @type {[Place, bigint][]} */
+    const amounts = this.problem.places.map((place, k) => [place, this.places[k].unmet]);
+    return amounts.filter(([place, unmet]) => unmet && (place.supply > 0n) === isSupply);
+  }
+}
+
+// This function returns the results of a route both ways whose way back is told by itself: what
+// goes back counts as below 0, and one more unit of room saves what it saves on the better way.
+/** @type {(there: RouteResult, back: RouteResult) => RouteResult} */
+function bothWays(there, back) {
+  const better = back.saves > there.saves ? back : there, carries = there.carries - back.carries;
+  return {
+    carries,
+    cost: there.cost === null || back.cost === null ? null : there.cost + back.cost,
+    free: there.free === null ? null : there.free + there.carries - size(carries),
+    saves: better.saves,
+    isExact: better.isExact,
+  };
+}

@@ -1,0 +1,20 @@
+// @ts-check
+// This file calls the proved module for tables: two of places and routes, or one of persons and
+// things.
+import { Instance } from './module.js';
+
+// This function plans tables, given as bytes. The answer is the text of a table.
+/** @type {(module: WebAssembly.Module, texts: Uint8Array[], options: TableOptions) => Planned} */
+export function planned(module, texts, options) {
+  const instance = new Instance(module), lent = texts.map((text) => instance.lend(text));
+  const begun = performance.now();
+  const found = lent.length === 2
+    ? instance.plan(lent[0], lent[1], options)
+    : instance.pair(lent[0], options);
+  return {
+    status: found.status,
+    answer: instance.bytes(found.at, found.size).slice(),
+    solving: performance.now() - begun,
+    peak: Number(instance.exports.page_peak()),
+  };
+}
