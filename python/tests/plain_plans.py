@@ -1,6 +1,7 @@
-"""Plans in plain Python with fractions, by what the manual page of mcfplan says: random problems as
-tables, their least cost, and whether an answer's rows say a plan or a bottleneck."""
+"""Plans in plain Python with fractions, by what the manual page of mcfplan says: the least cost of
+a problem, whether an answer's rows say a plan or a bottleneck, and what figures of a plan say."""
 import collections
+import itertools
 from fractions import Fraction
 
 # A place: its supply, and the least, the most and the unit cost of what passes through it, or None.
@@ -10,7 +11,8 @@ Place = collections.namedtuple("Place", "name supply bounds")
 Route = collections.namedtuple("Route", "tail head least steps both")
 # Whether supplies may stay, whether demands may be missing, and the cost of each missing unit.
 Policy = collections.namedtuple("Policy", "unused short penalty")
-Arc = collections.namedtuple("Arc", "tail head low cap cost")
+# An arc, and the row of a plan that tells what more room there saves: a word, a number from 0.
+Arc = collections.namedtuple("Arc", "tail head low cap cost row", defaults=[None])
 
 # More than any plan of a random problem carries, and more than any costs.
 WIDE, GREAT = Fraction(10) ** 9, Fraction(10) ** 30
@@ -39,59 +41,82 @@ class Problem:
     def exit(self, place):
         return ("out", place) if self.places[place].bounds else ("in", place)
 
+    def home(self, place):
+        """Where a unit more of a place's supply comes in, or of its demand goes out."""
+        return self.entry(place) if self.places[place].supply > 0 else self.exit(place)
+
     def steps_of(self, route, least):
-        """The steps of a route as arcs. The least amount fills one after the other."""
+        """The steps of a route as bounds of arcs. The least amount fills one after the other."""
         for number, (most, cost) in enumerate(route.steps):
             is_last = number == len(route.steps) - 1
             low = least if is_last else min(least, most)
             least = max(Fraction(0), least - low)
             yield low, WIDE if most is None else most, cost
 
-    def arcs(self):
-        """The arcs of routes, of bounds, and of what stays or is missing."""
-        for route in self.routes:
-            ends = [(route.tail, route.head, route.least)]
+    def route_arcs(self):
+        """The arcs of routes: each step, in each direction."""
+        for number, route in enumerate(self.routes):
+            ways = [("route", route.tail, route.head, route.least)]
             if route.both:
-                ends.append((route.head, route.tail, Fraction(0)))
-            for tail, head, least in ends:
-                for low, cap, cost in self.steps_of(route, least):
-                    yield Arc(self.exit(tail), self.entry(head), low, cap, cost)
+                word = "back" if self.is_bounded(route) else "route"
+                ways.append((word, route.head, route.tail, Fraction(0)))
+            for word, tail, head, least in ways:
+                *steps, last = self.steps_of(route, least)
+                for step in steps:
+                    yield Arc(self.exit(tail), self.entry(head), *step)
+                yield Arc(self.exit(tail), self.entry(head), *last, (word, number))
+
+    def arcs(self, lack, missing=None):
+        """The arcs of routes, of bounds, and of what stays or is missing: each unit of that costs
+        `lack`, and no more than `missing` is missing, if that is a number."""
+        yield from self.route_arcs()
+        demand = sum(max(Fraction(0), -place.supply) for place in self.places)
+        yield Arc("sink", "source", demand, demand, 0)
+        yield Arc("source", "lack", 0, demand if missing is None else missing, lack)
         for number, place in enumerate(self.places):
             if place.bounds:
                 least, most, cost = place.bounds
                 most = WIDE if most is None else most
-                yield Arc(self.entry(number), self.exit(number), least, most, cost)
+                row = "place", number
+                yield Arc(self.entry(number), self.exit(number), least, most, cost, row)
             if place.supply > 0:
                 stays = place.supply if self.policy.unused else Fraction(0)
                 yield Arc("source", self.entry(number), place.supply - stays, place.supply, 0)
             if place.supply < 0:
-                short, penalty = -place.supply, self.policy.penalty
-                cost = GREAT if penalty is None else penalty
-                yield Arc(self.exit(number), "sink", Fraction(0), short, 0)
-                yield Arc("lack", self.exit(number), 0, short if self.policy.short else 0, cost)
-                yield Arc("source", "lack", 0, short if self.policy.short else 0, 0)
+                yield Arc(self.exit(number), "sink", Fraction(0), -place.supply, 0)
+                short = -place.supply if self.policy.short else 0
+                yield Arc("lack", self.exit(number), 0, short, 0)
 
     def least(self):
-        """The least cost and what is then missing, or None if there is no plan."""
-        demand = sum(max(Fraction(0), -place.supply) for place in self.places)
-        arcs = [*self.arcs(), Arc("sink", "source", demand, demand, 0)]
-        flow = feasible(arcs)
+        """The least cost and what is then missing, or None if there is no plan. Without a penalty
+        as little as possible is missing."""
+        penalty = self.policy.penalty
+        arcs = [*self.arcs(GREAT if penalty is None else penalty)]
+        flow = least_flow(arcs, [arc.low for arc in arcs])
         if flow is None:
             return None
-        cancel(arcs, flow)
-        penalty = self.policy.penalty
         missing = sum(x for arc, x in zip(arcs, flow) if arc.tail == "lack")
-        cost = sum(x * arc.cost for arc, x in zip(arcs, flow))
-        return cost - (GREAT * missing if penalty is None else 0), missing
+        return cost_of_flow(arcs, flow) - (GREAT * missing if penalty is None else 0), missing
 
 
-def feasible(arcs):
-    """A circulation within the bounds, or None: augmentations from what the least amounts leave
-    over to what they lack."""
+def cost_of_flow(arcs, flow):
+    return sum(x * arc.cost for arc, x in zip(arcs, flow))
+
+
+def least_flow(arcs, flow):
+    """A circulation of least cost within the bounds, from any amounts within them, or None."""
     if any(arc.low > arc.cap for arc in arcs):
         return None
-    flow = [arc.low for arc in arcs]
-    excess = collections.Counter()
+    flow = balanced(arcs, flow)
+    if flow is not None:
+        cancel(arcs, flow)
+    return flow
+
+
+def balanced(arcs, flow):
+    """A circulation within the bounds, or None: augmentations from what amounts leave over to what
+    they lack."""
+    flow, excess = [*flow], collections.Counter()
     for arc, x in zip(arcs, flow):
         excess[arc.head] += x
         excess[arc.tail] -= x
@@ -196,18 +221,22 @@ class Rows:
     def of_kind(self):
         return self.by_word["answer"][0][0]
 
+    def backs(self):
+        """The rows of ways back, by the number of their route from 0."""
+        lines = [cells[0] for cells in self.by_word["route"]]
+        return {lines.index(cells[0]): cells for cells in self.by_word["back"]}
+
 
 def ways_of(problem, rows):
     """Each route of the problem in each of its directions: its tail, its head, what it carries, the
     least that it has to, its steps, and whether its amount may be below 0."""
-    carries = [Fraction(cells[3]) for cells in rows.by_word["route"]]
-    lines = [cells[0] for cells in rows.by_word["route"]]
-    backs = {lines.index(cells[0]): Fraction(cells[3]) for cells in rows.by_word["back"]}
-    for number, (route, x) in enumerate(zip(problem.routes, carries)):
+    backs = rows.backs()
+    for number, (route, cells) in enumerate(zip(problem.routes, rows.by_word["route"])):
         is_signed = route.both and not problem.is_bounded(route)
-        yield route.tail, route.head, x, route.least, route.steps, is_signed
+        yield route.tail, route.head, Fraction(cells[3]), route.least, route.steps, is_signed
         if route.both and not is_signed:
-            yield route.head, route.tail, backs[number], Fraction(0), route.steps, False
+            back = Fraction(backs[number][3])
+            yield route.head, route.tail, back, Fraction(0), route.steps, False
 
 
 def why_no_plan(problem, rows):
@@ -268,3 +297,148 @@ def is_bottleneck(policy, rows):
     if rows.by_word["side"][0][0] == "send":
         return gives - wants + least > most + (gives if policy.unused else 0)
     return wants - gives + least > most + (wants if policy.short else 0)
+
+
+# ---- figures of a plan
+
+# What a row of a plan tells: the row, what its route carries or what passes through its place, at
+# which steps, the cost of that, how much more may, what one more unit of room saves, and whether
+# it saves just that.
+Figures = collections.namedtuple("Figures", "row amount steps cost free saves exact")
+
+
+def unit_of(problem):
+    """The greatest power of ten of which all amounts are multiples, and no more than 1."""
+    amounts = [place.supply for place in problem.places]
+    amounts += [most for route in problem.routes for most, _ in route.steps]
+    amounts += [route.least for route in problem.routes]
+    amounts += [amount for place in problem.places if place.bounds for amount in place.bounds[:2]]
+    unit = Fraction(1)
+    while any(amount % unit for amount in amounts if amount is not None):
+        unit /= 10
+    return unit
+
+
+def passing(problem, rows):
+    """What passes through each place: what arrives there, and what it gives."""
+    amounts = [max(place.supply, Fraction(0)) for place in problem.places]
+    for number, cells in enumerate(rows.by_word["place"]):
+        amounts[number] -= Fraction(cells[2])
+    for _, head, amount, *_ in ways_of(problem, rows):
+        amounts[head] += amount
+    return amounts
+
+
+def figures_of(row, amount, steps, cells):
+    """The figures in the last cells of a row. A cell is empty where nothing limits an amount."""
+    cost, free, saves, exact = cells[-4:]
+    free = Fraction(free) if free else None
+    return Figures(row, amount, steps, Fraction(cost), free, Fraction(saves), exact == "yes")
+
+
+def told_figures(problem, rows):
+    """The figures of routes, of ways back, and of places with bounds."""
+    for number, cells in enumerate(rows.by_word["route"]):
+        amount, steps = abs(Fraction(cells[3])), problem.routes[number].steps
+        yield figures_of(("route", number), amount, steps, cells)
+    for number, cells in rows.backs().items():
+        amount, steps = Fraction(cells[3]), problem.routes[number].steps
+        yield figures_of(("back", number), amount, steps, cells)
+    amounts = passing(problem, rows)
+    for number, cells in enumerate(rows.by_word["place"]):
+        if problem.places[number].bounds:
+            _, most, cost = problem.places[number].bounds
+            yield figures_of(("place", number), amounts[number], ((most, cost),), cells)
+
+
+def why_wrong_amounts(problem, rows):
+    """What is wrong with the costs of rows, with what is free, or with what passes; None if nothing
+    is."""
+    total = (problem.policy.penalty or 0) * rows.number("missing")
+    for told in told_figures(problem, rows):
+        total += told.cost
+        mosts = [most for most, _ in told.steps]
+        free = None if mosts[-1] is None else sum(mosts) - told.amount
+        if (told.cost, told.free) != (cost_of(told.steps, told.amount), free):
+            return f"{told.row} tells that {told.amount} costs {told.cost}, and {told.free} is free"
+    for number, (amount, cells) in enumerate(zip(passing(problem, rows), rows.by_word["place"])):
+        told = cells[6:]
+        if Fraction(told[0]) != amount if problem.places[number].bounds else any(told):
+            return f"place {number} passes {amount}, and {told} are told"
+    return None if total == rows.number("cost") else f"rows cost {total} together"
+
+
+class Margins:
+    """The least costs of a problem with one unit more, if no more may be missing than in a plan;
+    with a penalty, whatever is missing."""
+
+    def __init__(self, problem, rows):
+        penalty, self.unit = problem.policy.penalty, unit_of(problem)
+        missing = rows.number("missing") if penalty is None else None
+        self.arcs = [*problem.arcs(penalty or 0, missing)]
+        self.flow = least_flow(self.arcs, [arc.low for arc in self.arcs])
+
+    def cost(self, arcs, flow):
+        """The least cost of a circulation, from some amounts, or None."""
+        flow = least_flow(arcs, flow)
+        return None if flow is None else cost_of_flow(arcs, flow)
+
+    def with_room(self, row):
+        """The least cost with one more unit of room where a row tells what that saves."""
+        arcs = self.arcs
+        wider = [arc._replace(cap=arc.cap + self.unit) if arc.row == row else arc for arc in arcs]
+        return self.cost(wider, self.flow)
+
+    def with_unit(self, begin, end):
+        """The least cost if one more unit comes in at one node and is taken out at another, or
+        None."""
+        one = Arc(end, begin, self.unit, self.unit, Fraction(0))
+        return self.cost([*self.arcs, one], [*self.flow, self.unit])
+
+
+def is_joined(problem, rows, row):
+    """Whether both ends of a route are in one group, or None if groups of both aren't told."""
+    word, number = row
+    if word == "place":
+        return None
+    tail, head = problem.routes[number][:2] if word == "route" else problem.routes[number][1::-1]
+    is_told = problem.home(tail) == problem.exit(tail) and problem.home(head) == problem.entry(head)
+    groups = [cells[5] for cells in rows.by_word["place"]]
+    return groups[tail] == groups[head] if is_told else None
+
+
+def why_wrong_savings(problem, rows, margins):
+    """What is wrong with what is told of one more unit of room; None if nothing is."""
+    for told in told_figures(problem, rows):
+        saves = (rows.number("cost") - margins.with_room(told.row)) / margins.unit
+        if saves > told.saves or told.exact and saves != told.saves:
+            return f"{told.row} saves {saves}, and {told.saves} is told (exact: {told.exact})"
+        has_to_be = told.saves == 0 or is_joined(problem, rows, told.row)
+        if has_to_be is not None and told.exact != has_to_be:
+            return f"{told.row} isn't told to be exact where it has to be, or is elsewhere"
+    return None
+
+
+def why_wrong_prices(problem, rows, margins):
+    """What is wrong with what is told of one more unit from one place to another; None if nothing
+    is."""
+    told = [(Fraction(cells[4]), int(cells[5])) for cells in rows.by_word["place"]]
+    for begin, end in itertools.permutations(range(len(told)), 2):
+        rise, is_joined = told[end][0] - told[begin][0], told[begin][1] == told[end][1]
+        least = margins.with_unit(problem.home(begin), problem.home(end))
+        if least is None and not is_joined:
+            continue
+        costs = None if least is None else (least - rows.number("cost")) / margins.unit
+        if costs is None or costs < rise or is_joined and costs != rise:
+            return f"a unit from {begin} to {end} costs {costs}, and {rise} is told ({is_joined})"
+    return None
+
+
+def why_wrong_figures(problem, rows):
+    """What is wrong with the figures of a plan; None if nothing is."""
+    margins = Margins(problem, rows)
+    return (
+        why_wrong_amounts(problem, rows)
+        or why_wrong_savings(problem, rows, margins)
+        or why_wrong_prices(problem, rows, margins)
+    )

@@ -1,9 +1,17 @@
 """Random problems, and their tables in random notations."""
+import collections
 from fractions import Fraction
 
 from plain_plans import Place, Policy, Problem, Route
 
 NAMES = ("Mühle", "Ost, Tor 2", 'Werk "A"', "Graz", "x", "0", "Ham\u00adburg", "St. Pölten", "Öd;")
+
+# What problems are like: how many places and routes they have; how great supplies, rooms of steps,
+# and rooms of bounds may be; how many have bounds, and how many routes have costs of their own; and
+# whether dear routes both ways join the places in turn.
+Kind = collections.namedtuple("Kind", "places routes supply room through bounded own joined")
+LOOSE = Kind((1, 5), (0, 3), 9, 12, 30, 0.4, 0.4, False)
+TIGHT = Kind((2, 5), (6, 0), 12, 4, 9, 0.7, 0.9, True)
 
 
 class Notation:
@@ -74,39 +82,41 @@ def amount(rng, notation, low, high):
     return Fraction(rng.randint(low * scale, high * scale), scale)
 
 
-def random_places(rng, notation, count):
+def random_places(rng, notation, count, kind):
     """Places whose supplies balance in most cases."""
-    supplies = [amount(rng, notation, -9, 9) for _ in range(count)]
+    supplies = [amount(rng, notation, -kind.supply, kind.supply) for _ in range(count)]
     if rng.random() < 0.7:
         supplies[-1] -= sum(supplies)
-    bounded = rng.random() < 0.4
+    bounded = rng.random() < kind.bounded
     for name, supply in zip(rng.sample(NAMES, count), supplies):
         bounds = None
         if bounded and rng.random() < 0.6:
             least = amount(rng, notation, 0, 2)
-            most = None if rng.random() < 0.4 else least + amount(rng, notation, 0, 30)
+            most = None if rng.random() < 0.4 else least + amount(rng, notation, 0, kind.through)
             bounds = least, most, amount(rng, notation, -2, 3)
         yield Place(name, supply, bounds)
 
 
-def random_steps(rng, notation, first):
+def random_steps(rng, notation, first, kind):
     """Steps of rising cost; the last has no limit in some cases."""
     steps, cost = [], first
     for _ in range(rng.choice([1, 1, 1, 2, 3])):
-        steps.append((amount(rng, notation, 0, 12), cost))
+        steps.append((amount(rng, notation, 0, kind.room), cost))
         cost += amount(rng, notation, 0, 4)
     if rng.random() < 0.15:
         steps[-1] = None, steps[-1][1]
     return tuple(steps)
 
 
-def random_routes(rng, notation, count):
+def random_routes(rng, notation, count, kind):
     """Routes, some with least amounts, steps or both ways."""
-    for _ in range(rng.randint(1, 3 * count)):
+    most, most_by_place = kind.routes
+    for _ in range(rng.randint(1, most + most_by_place * count)):
         tail, head = rng.randrange(count), rng.randrange(count)
         both = rng.random() < 0.25
-        first = amount(rng, notation, 0 if both else -3, 9) if rng.random() < 0.4 else Fraction(3)
-        steps = random_steps(rng, notation, first)
+        low, has_own = 0 if both else -3, rng.random() < kind.own
+        first = amount(rng, notation, low, 9) if has_own else Fraction(3)
+        steps = random_steps(rng, notation, first, kind)
         room = sum(most for most, _ in steps if most is not None)
         least = Fraction(0)
         if not both and rng.random() < 0.2:
@@ -120,10 +130,21 @@ def random_policy(rng, notation):
     return Policy(unused, short, penalty)
 
 
-def random_problem(rng, notation):
-    count = rng.randint(1, 5)
-    places = [*random_places(rng, notation, count)]
-    return Problem(places, [*random_routes(rng, notation, count)], random_policy(rng, notation))
+def joining_routes(rng, notation, count, kind):
+    """Dear routes both ways between places in turn."""
+    for head in range(1, count):
+        room = amount(rng, notation, kind.supply, 2 * kind.supply)
+        step = room, amount(rng, notation, 6, 9)
+        yield Route(head - 1, head, Fraction(0), (step,), True)
+
+
+def random_problem(rng, notation, kind=LOOSE):
+    count = rng.randint(*kind.places)
+    places = [*random_places(rng, notation, count, kind)]
+    routes = [*random_routes(rng, notation, count, kind)]
+    if kind.joined:
+        routes += joining_routes(rng, notation, count, kind)
+    return Problem(places, routes, random_policy(rng, notation))
 
 
 def limit(rng, notation, most):

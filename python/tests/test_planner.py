@@ -9,12 +9,12 @@ import re
 import subprocess
 import unittest
 
-from plain_plans import Rows, is_bottleneck, why_no_plan
-from random_tables import Notation, random_problem, texts_of
+from plain_plans import Rows, is_bottleneck, told_figures, why_no_plan, why_wrong_figures
+from random_tables import TIGHT, Notation, random_problem, texts_of
 from support import TOP, WithFolder
 
 PROGRAM = pathlib.Path(os.environ.get("MCF_BIN") or TOP / "bin") / "mcfplan"
-CASES, PLAIN_CASES = 400, 600
+CASES, PLAIN_CASES, FIGURE_CASES = 400, 600, 150
 
 
 def amount(rng, mark, low, high):
@@ -272,6 +272,29 @@ class Plain(WithFolder):
                 if status == 1:
                     self.assertTrue(is_bottleneck(problem.policy, rows))
         self.assertLess(PLAIN_CASES / 10, min(statuses[status] for status in range(3)))
+
+    def planned_problem(self, rng):
+        """A random problem that has a plan, its texts, and the rows of its answer."""
+        while True:
+            notation = Notation(rng)
+            problem = random_problem(rng, notation, TIGHT)
+            texts = texts_of(rng, notation, problem)
+            status, rows = self.answer(problem, notation, texts)
+            if status == 0:
+                return problem, texts, rows
+
+    def test_random_figures(self):
+        rng, seen = random.Random(20261130), collections.Counter()
+        for case in range(FIGURE_CASES):
+            problem, texts, rows = self.planned_problem(rng)
+            with self.subTest(case=case, texts=texts, policy=problem.policy):
+                self.assertIsNone(why_no_plan(problem, rows))
+                self.assertIsNone(why_wrong_figures(problem, rows))
+                for told in told_figures(problem, rows):
+                    seen[told.row[0], told.saves > 0, told.exact] += 1
+        self.assertLess(FIGURE_CASES / 3, seen["route", True, True])
+        for word in ("route", "back", "place"):
+            self.assertLess(1, min(seen[word, True, True], seen[word, True, False]))
 
 
 if __name__ == "__main__":
