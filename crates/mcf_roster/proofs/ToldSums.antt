@@ -1,5 +1,5 @@
 -- What persons and things that compete add up to, by the numbers that are told of them.
-use Rattle.std.proofs.Common.{◌≡◌, ℕ, zero, suc, ◌+◌, ◌-◌, ◌<◌, Bool, true, false, List, [], ◌∷◌, get_or, length, map, refl, ap, sym, ◌∙◌, subst, arith, ℤ, pos, ◌+ℤ◌, ◌<ℤ◌}
+use Rattle.std.proofs.Common.{◌≡◌, ℕ, zero, suc, ◌+◌, ◌-◌, ◌<◌, Bool, true, false, List, [], ◌∷◌, get_or, length, map, refl, ap, arith, ℤ, pos, ◌+ℤ◌, ◌<ℤ◌}
 use Rattle.std.specs.Prelude.{if◌then◌else◌}
 use Rattle.std.specs.List.{filter}
 use Rattle.std.proofs.lemmas.Int.{ints}
@@ -8,13 +8,10 @@ use Rattle.mcf_flows.specs.declared.problem.Side.TheVariants.{Send, Take}
 use Rattle.mcf_flows.specs.Blocking.{in_table}
 use Rattle.mcf_flows.specs.Network.{IsNode, node_sum, when}
 use Rattle.mcf_flows.proofs.NodeSums.{node_sum-same}
-use Rattle.mcf_roster.specs.declared.amounts.Amounts.{Amounts}
 use Rattle.mcf_roster.specs.declared.pairs.Pair.{Pair}
 use Rattle.mcf_roster.specs.declared.pairs.Range.{Range}
-use Rattle.mcf_roster.specs.declared.told.Competition.{Competition}
 use Rattle.mcf_roster.specs.Amounts.{AreAmounts, bound, counts_more}
 use Rattle.mcf_roster.specs.Competitions.{IsCompetition}
-use Rattle.mcf_roster.specs.RosterAnswers.{HasNoChoice}
 use Rattle.mcf_roster.specs.Rosters.{Roster, range_at}
 use Rattle.mcf_roster.specs.ToldSums.{CompetitionsAddToMore, IsMore, told_count, told_sum}
 
