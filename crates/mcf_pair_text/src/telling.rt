@@ -223,13 +223,16 @@ fn text_of(alloc: Global, options: Options, answer: &PairAnswer) -> Result<PlanT
 
 /// Chooses pairs of persons and things by a table, as `plan_pairs` does, and returns the answer as
 /// the text of a table, whose rows begin with a word that says what they are: `answer` and its
-/// kind, which is `plan`, `no plan` or `faults`. Of a choice, `cost` with what it costs, or what it
-/// is worth, and for each chosen pair `pair`, its line, the number of its column in a matrix, the
-/// person, the thing and what it costs. Of persons and things that compete, `side`, for each person
-/// `person`, the line and the name, and for each thing `thing`, the line and the name. For each
-/// fault `fault`, `costs`, the line, the column, what is wrong, and the cell. At the end, unless
-/// the text is no table, `mark` with the mark before decimals that was settled, and the table:
-/// `heads` the row of the heads and `row` each further one, with `costs`, the line and all cells.
+/// kind, which is `plan`, `no plan` or `faults`. Of a plan and of none, `persons` and `things`
+/// with how many the table names. Of a choice, `cost` with what it costs, or what it is worth; for
+/// each chosen pair `pair`, its line, the number of its column in a matrix, the person, the thing
+/// and what it costs; for each person `person`, the line and the name, and for each thing `thing`,
+/// the same. Of persons and things that compete, `side`; for each person `person`, the line, the
+/// name and its least or its most, as the side counts it, and for each thing `thing`, the same;
+/// and `pair`, as for a choice, for each pair that counts one more. For each fault `fault`,
+/// `costs`, the line, the column, what is wrong, and the cell. At the end, unless the text is no
+/// table, `mark` with the mark before decimals that was settled, and the table: `heads` the row of
+/// the heads and `row` each further one, with `costs`, the line and all cells.
 ///
 /// # Errors
 ///
