@@ -8,6 +8,9 @@ const MINUS = /^[\u2010-\u2013\u2212\ufe63\uff0d](?=[.,]?[0-9])/;
 // A cell with one mark and three digits after it. The mark may stand between thousands or before
 // decimals.
 const EITHER = /^[+-]?[1-9][0-9]{0,2}[.,][0-9]{3}$/;
+// Other numbers: perhaps with a mark or blanks between thousands, and with one before decimals.
+const BETWEEN = "([.,])[0-9]{3}(?:\\1[0-9]{3})*|(?:[ '_\\u00a0\\u2009\\u202f\\u2019][0-9]{3})+";
+const MARKED = new RegExp(`^[+-]?(?:[0-9]*|[0-9]{1,3}(?:${BETWEEN}))(?:([.,])[0-9]+)?$`);
 const WHOLE = /^-?[0-9]+$/;
 /** @type {Exact} */
 export const ZERO = { digits: 0n, decimals: 0 };
@@ -15,6 +18,14 @@ export const ZERO = { digits: 0n, decimals: 0 };
 // This function replaces a printed minus with the minus of a keyboard.
 /** @type {(cell: string) => string} */
 export const plainMinus = (cell) => cell.replace(MINUS, '-');
+
+// This function returns the mark before decimals that a cell shows, or null.
+/** @type {(text: string) => string | null} */
+export function markIn(text) {
+  const cell = plainMinus(text), found = EITHER.test(cell) ? null : MARKED.exec(cell);
+  const [, thousands, mark] = found || [];
+  return thousands === mark ? null : mark || (thousands === '.' ? ',' : '.');
+}
 
 // This function returns the number that a text writes with a mark before its decimals: its sign,
 // its digits and that mark count, and all else only stands between thousands.
@@ -52,14 +63,9 @@ export function compare(one, two) {
 // that shows the mark; or nothing, if there is no such cell. Cells come with tables and lines.
 /** @type {(cells: Iterable<NumberCell>, mark: string | null) => NumberCell[]} */
 export function settledBy(cells, mark) {
-  let either = null, shows = null;
-  for (const one of mark ? cells : []) {
-    const cell = plainMinus(one.cell);
-    if (!either && EITHER.test(cell)) either = one;
-    else if (!shows && cell.includes(mark) && !EITHER.test(cell)) shows = one;
-    if (either && shows) break;
-  }
-  return either ? [either, shows] : [];
+  const all = mark ? [...cells] : [];
+  const either = all.find(({ cell }) => EITHER.test(plainMinus(cell)));
+  return either ? [either, all.find(({ cell }) => markIn(cell) === mark)] : [];
 }
 
 // This function writes a count of units, of which 10^decimals make one, as text without zeros at

@@ -12,9 +12,9 @@ import {
 } from './amounts.js';
 import { Faults } from './faults.js';
 import { carriedLines, carriedOf } from './heads.js';
-import { NEEDED, readLine } from './sentences.js';
+import { NEEDED, numberCells, readLine } from './sentences.js';
 import { SPOT_HEADS, spotsOf } from './spots.js';
-import { Table, cellAt, fold } from './tables.js';
+import { Table, fold } from './tables.js';
 
 const BOUND_HEADS = ['least', 'most', 'cost'];
 const YES = ['yes', 'y', 'x', '1', 'true', 'ja', 'j'];
@@ -48,26 +48,15 @@ export class Problem {
   // This method returns lines on how the tables were read.
   told() {
     const { placeTable, routeTable } = this, hasSpots = placeTable.has(SPOT_HEADS);
+    const cells = numberCells({ places: placeTable, routes: routeTable });
     const known = [...NEEDED.places, ...BOUND_HEADS, ...(hasSpots ? SPOT_HEADS : [])];
     return [
       ...carriedLines([
         ...carriedOf(placeTable, known),
         ...carriedOf(routeTable, [...NEEDED.routes, 'least', 'both'], true),
       ]),
-      ...readLine(settledBy(this.numberCells(), this.mark), this.mark, this.reading),
+      ...readLine(settledBy(cells, this.mark), this.mark, this.reading),
     ];
-  }
-
-  // This method returns the cells of numbers, row by row.
-  * numberCells() {
-    for (const table of [this.placeTable, this.routeTable]) {
-      const isNumber = (/** @type {string} */ head) =>
-        ['supply', ...BOUND_HEADS].includes(head.split(' ')[0]);
-      const places = table.heads.map((_, k) => k).filter((k) => isNumber(table.heads[k]));
-      for (const { line, cells } of table.rows) {
-        for (const place of places) yield { table, line, cell: cellAt(cells, place) };
-      }
-    }
   }
 
   // This method returns the names of a route's ends.

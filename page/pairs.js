@@ -4,7 +4,7 @@ import { Said, Units, decimalsOf, exactOf, scaled, settledBy } from './amounts.j
 import { TOLD_NAMES, countOf, listed } from './faults.js';
 import { carriedLines, carriedOf } from './heads.js';
 import { partsOf } from './network.js';
-import { NEEDED, readLine } from './sentences.js';
+import { NEEDED, isList, numberCells, readLine } from './sentences.js';
 import { Table, cellAt, fold } from './tables.js';
 import { words } from './words.js';
 
@@ -30,7 +30,7 @@ export class Roster {
     this.maximise = maximise;
     this.mark = answer.mark;
     this.table = new Table(text, answer.tables.get('costs'));
-    this.isList = NEEDED.costs.filter((head) => this.table.heads.includes(head)).length > 1;
+    this.isList = isList(this.table);
     this.isPlain = !this.isFilled('takes') && !(this.isList && this.isFilled('needs'));
     /** @type {Map<string, number>} */
     this.persons = new Map();
@@ -100,21 +100,11 @@ export class Roster {
 
   // This method returns lines on how the table was read. A matrix has no unused columns.
   told() {
-    const known = [...NEEDED.costs, 'takes', 'needs'];
+    const known = [...NEEDED.costs, 'takes', 'needs'], cells = numberCells({ costs: this.table });
     return [
       ...(this.isList ? carriedLines(carriedOf(this.table, known)) : []),
-      ...readLine(settledBy(this.costCells(), this.mark), this.mark, this.reading),
+      ...readLine(settledBy(cells, this.mark), this.mark, this.reading),
     ];
-  }
-
-  // This method returns the cells of costs, row by row.
-  * costCells() {
-    const { table } = this, cost = table.heads.indexOf('cost');
-    for (const { line, cells } of table.rows) {
-      for (const place of this.isList ? [cost] : cells.map((_, k) => k).slice(1)) {
-        yield { table, line, cell: cellAt(cells, place) };
-      }
-    }
   }
 
   // This method returns the competitions of an answer: of those that it names, or of all others,

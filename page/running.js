@@ -45,7 +45,7 @@ async function answered(solver, texts, reading, options, faults = new Faults()) 
     throw new NoAnswer(result.status, result.why);
   }
   const found = new Answer(result.answer);
-  new Teller(texts, reading, faults).tell(found.rows('fault'));
+  new Teller(texts, reading, faults).tell(found);
   faults.end();
   return { found, result };
 }

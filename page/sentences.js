@@ -1,12 +1,14 @@
 // @ts-check
 // The sentences about faults of tables, by the words of an answer.
-import { decimalText, exactOf } from './amounts.js';
-import { at, shown } from './faults.js';
+import { ZERO, compare, decimalText, exactOf, markIn } from './amounts.js';
+import { at, countOf, listed, shown } from './faults.js';
 import { nearTo } from './near.js';
-import { fold } from './tables.js';
+import { spotsOf } from './spots.js';
+import { LOOKED, Table, cellAt, escaped, fold } from './tables.js';
 import { words } from './words.js';
 
 /**
+ * @typedef {import('./answer.js').Answer} Answer
  * @typedef {import('./faults.js').Faults} Faults
  * @typedef {import('./tables.js').TableText} TableText
  */
@@ -24,17 +26,22 @@ const SENTENCES = {
   'quote not closed': "a quote that isn't closed",
   'text after a quote':
     'something after the closing quote (a quote within quotes is written twice)',
+  'no such column':
+    'there is no such column among {heads} (split at {separator}){below}; {like}the table needs '
+      + '{needed}; {own}',
+  nearly: 'there is no such column; is {meant} meant? Call it so, or otherwise',
+  'not read without': "it isn't read, since there is no column {meant}",
   'two such columns': 'there are two such columns',
   'both decimal marks':
-    '{cell} has another mark before decimals than a cell before it; write them in one way, '
+    'some decimals follow a point, others a comma: {other} and {cell}; write them in one way, '
       + '{orChoose}',
   'beyond the last head': 'a cell beyond the last head: {cell}',
   'empty name': 'the name is empty',
   'control character': 'the name {cell} has a line break or another control character',
-  'named twice': 'a thing {cell} is already in an earlier column',
-  'named twice: name': 'a place {cell} is already on an earlier line',
-  'named twice: what': 'this pair is already on an earlier line',
-  'named twice: 1': 'a person {cell} is already on an earlier line',
+  'named twice': 'a thing {cell} is already in column {place}',
+  'named twice: name': 'a place {cell} is already on line {first}',
+  'named twice: what': 'the pair of {pair} is already on line {first}',
+  'named twice: 1': 'a person {cell} is already on line {first}',
   'no such place': 'there is no place {cell}{near}',
   empty: 'the number is empty; write 0 for none',
   exponent: '{cell} is written with an exponent; write all its digits',
@@ -47,23 +54,34 @@ const SENTENCES = {
   'after a step without a limit': 'the step before is without a limit',
   'neither yes nor no': '{cell} is neither yes nor no',
   'falling cost':
-    'the cost of a step is below the cost of the step before: units that get cheaper with more of '
-      + 'them make no minimum-cost flow',
-  'below 0': 'a step is below 0, and steps add to the one before',
+    '{cell} is below the cost of the step before: units that get cheaper with more of them make '
+      + 'no minimum-cost flow',
+  'below 0': '{cell} is below 0, and this step adds to the one before',
+  'below 0: most': '{cell} is below 0, and the route has more steps or is used both ways',
   'both ways with a least amount or a cost below 0':
     'a route that is used both ways has no least, and no cost below 0',
   'no limit, but a cost below 0':
     'this is empty, so without a limit, and a cost is below 0: a round trip could earn without '
       + 'end; give a most',
-  'least above most': 'least is greater than most',
+  'least above most': 'least {least} is greater than most {most}',
   'no number or range': '{cell} is no number, and no range such as 2..3{date}',
   'two different numbers': 'an earlier line has another number: this is {cell}',
-  'no thing': 'no thing is read below the heads {heads}; {pairs}',
-  'no person': 'no person is read below the heads {heads}; {pairs}',
+  'no thing': 'no thing {nothing}',
+  'no person': 'no person {nothing}',
 };
-const PAIRS_HINT =
-  'a list has the columns who, what and cost, a matrix things in its first line and persons in its '
-    + 'first column';
+const NOTHING =
+  'is read: the heads are {heads} (split at {separator}), with {lines} below; a list has the '
+    + 'columns who, what and cost, a matrix things in its first line and persons in its first '
+    + 'column';
+// What is wrong with a title that isn't read, and the head that it is about.
+const TITLE = /^(nearly|not read without) (.*)$/;
+// The heads of numbers.
+/** @type {Record<string, RegExp>} */
+const NUMBERS = {
+  places: /^(supply|least|most|cost)$/,
+  routes: /^(least|(most|cost)( [0-9]+)?)$/,
+  costs: /^cost$/,
+};
 
 // Tells the faults of an answer about texts, which have these words there.
 export class Teller {
@@ -76,101 +94,150 @@ export class Teller {
     this.texts = texts;
     this.reading = reading;
     this.faults = faults;
-    /** @type {Set<string>} */
+    this.tables = /** @type {Record<string, Table>} */ ({});
+    this.rows = /** @type {Record<string, Map<number, string[]>>} */ ({});
+    this.shows = /** @type {NumberCell[]} */ ([]);
     this.done = new Set();
   }
 
-  // This method notes all faults of an answer. Of columns that a table lacks, the first one tells
-  // all.
-  /** @type {(rows: string[][]) => void} */
-  tell(rows) {
-    for (const [word, line, column, what, cell] of rows) {
-      const text = this.texts[word] || this.texts.places;
-      if (what === 'no such column') {
-        if (this.isFirst(`${what} ${word}`)) this.addLacking(word, Number(line), column);
-      } else if (/^(nearly|not read without) /.test(what)) {
-        const where = at(text.name, Number(line), shown(cell).slice(1, -1));
-        this.faults.add(where, what, nearText(what));
-      } else {
-        const sentence = SENTENCES[`${what}: ${column}`] || SENTENCES[what] || what;
-        const told = this.filled(sentence, text, Number(line), cell);
-        this.faults.add(at(text.name, Number(line), column), what, told, cell);
-      }
+  // This method notes all faults of an answer, and then positions of places that are no numbers.
+  /** @type {(answer: Answer) => void} */
+  tell(answer) {
+    const found = answer.rows('fault');
+    if (!found.length) return;
+    for (const [word, text] of Object.entries(this.texts)) {
+      const read = answer.tables.get(word) || { headLine: 1, titles: [''], rows: [] };
+      this.tables[word] = new Table(text, read);
+      this.rows[word] = new Map(read.rows.map(({ line, cells }) => [line, cells]));
     }
+    this.shows = [...numberCells(this.tables)].filter(({ cell }) => markIn(cell));
+    for (const [word, ...more] of found) this.note([word || 'places', ...more]);
+    if (this.tables.places) spotsOf(this.tables.places, this.faults);
   }
 
-  // This method says whether this is asked for the first time.
-  /** @type {(what: string) => boolean} */
-  isFirst(what) { return this.done.size < this.done.add(what).size; }
+  // This method notes a fault. The first one of a kind tells all; of columns that a table lacks,
+  // too.
+  /** @type {(fault: string[]) => void} */
+  note([word, line, head, what, read]) {
+    const [column, cell] = this.located(word, line, head, what, read);
+    const isLacking = what === 'no such column', isNumber = /^[0-9]+$/.test(column);
+    const kind = [word, what, isLacking || isNumber || column].join('\n');
+    const isFirst = this.done.size < this.done.add(kind).size;
+    if (isLacking && !isFirst) return;
+    const text = isFirst ? this.text(word, line, column, what, cell) : '';
+    this.faults.add(at(this.texts[word].name, Number(line), column), what, text, cell);
+  }
 
-  // This method returns a sentence with its cell, and with hints.
-  /** @type {(sentence: string, text: TableText, line: number, cell: string) => string} */
-  filled(sentence, text, line, cell) {
-    const { choose, orChoose, chosen, limits } = words();
-    /** @type {Record<string, () => string>} */
+  // This method returns the column and the cell of a fault. One of steps is in the first step that
+  // costs less than the one before, or whose most is below 0.
+  /** @type {(word: string, line: string, head: string, what: string, cell: string) => string[]} */
+  located(word, line, head, what, cell) {
+    const table = this.tables[word], takes = table.heads.indexOf('takes');
+    if (TITLE.test(what)) return [shown(cell).slice(1, -1), cell];
+    if (!['falling cost', 'below 0'].includes(what)) {
+      return [takes > 0 && head === String(takes + 1) ? 'takes' : head, cell];
+    }
+    const columns = table.heads.map((_, k) => (k ? `${head} ${k + 1}` : head));
+    const cells = table.reader(columns)(this.rows[word].get(Number(line)));
+    const mark = this.reading.decimal || (this.shows.length ? markIn(this.shows[0].cell) : '.');
+    const values = cells.map((one) => exactOf(one, mark));
+    const place = values.findIndex((value, k) =>
+      compare(value, what === 'below 0' ? ZERO : values[k - 1] || value) < 0
+    );
+    return [columns[place], cells[place]];
+  }
+
+  // This method returns the sentence about a fault.
+  /** @type {(word: string, line: string, column: string, whole: string, cell: string) => string} */
+  text(word, line, column, whole, cell) {
+    const [, what, meant] = TITLE.exec(whole) || [whole, whole, ''], table = this.tables[word];
+    const row = this.rows[word].get(Number(line)) || [];
+    /** @type {Record<string, string[]>} */
+    const several = { what: ['who', 'what'], most: ['least', 'most'], 1: table.heads.slice(0, 1) };
+    const under = (/** @type {string[]} */ one) => filled(table, several[column] || [column], one);
+    const same = (/** @type {string[]} */ one) => under(one).join('\n') === under(row).join('\n');
+    /** @type {Record<string, any>} */
     const parts = {
-      cell: () => shown(cell),
-      this: () => (cell ? shown(cell) : 'this'),
-      digits: () => cell.replace(/[.,]/g, ''),
-      mark: () => shown(this.reading.decimal || '.'),
-      near: () => (this.isFirst(sentence) ? this.nearPlace(cell) : ''),
-      date: () => (/[0-9]{4}-|\.\s?\w{3}/.test(cell) ? '; was it taken for a date?' : ''),
-      heads: () => shown(text.line(line)),
-      pairs: () => PAIRS_HINT,
-      choose: () => choose,
-      orChoose: () => orChoose,
-      chosen: () => chosen,
-      limits: () => limits,
+      ...words(),
+      cell: shown(cell),
+      this: (cell ? [cell] : under(row)).map(shown).join(' or ') || 'this',
+      pair: under(row).map(shown).join(' and '),
+      first: () => table.rows.find(({ cells }) => same(cells)).line,
+      place: table.titles.indexOf(cell, 1) + 1,
+      least: filled(table, ['least'], row).map(shown).join('') || '0',
+      most: filled(table, ['most'], row).map(shown).join(' + '),
+      digits: cell.replace(/[.,]/g, ''),
+      mark: shown(this.reading.decimal || '.'),
+      other: () => this.shows.filter((one) => markIn(one.cell) !== markIn(cell))
+        .map((one) => `${shown(one.cell)} (${one.table.name}, line ${one.line})`)[0],
+      near: () => nearTo(cell, this.names(), fold).map((one) => `; is ${shown(one)} meant?`)[0],
+      date: /[0-9]{4}-|\.\s?\w{3}/.test(cell) ? '; was it taken for a date?' : '',
+      meant: shown(meant),
+      heads: listed(table.titles.map(shown)),
+      separator: shown(table.separator),
+      lines: countOf(table.rows.length, 'line', 'lines'),
+      below: () => this.lineWith(word),
+      like: () => this.looksLike(word),
+      needed: NEEDED[word].join(', '),
     };
-    return sentence.replace(/\{(\w+)\}/g, (_, name) => parts[name]());
-  }
-
-  // This method returns a hint at a place whose name is like one that isn't there.
-  /** @type {(name: string) => string} */
-  nearPlace(name) {
-    const { places } = this.texts;
-    const names = places.pieces(places.text).filter((one) => !NEEDED.places.includes(one));
-    const [near] = nearTo(name, names, fold);
-    return near ? `; is ${shown(near)} meant?` : '';
-  }
-
-  // This method notes that a table lacks a column.
-  /** @type {(word: string, line: number, column: string) => void} */
-  addLacking(word, line, column) {
-    const text = this.texts[word], needed = NEEDED[word], below = text.lineWith(needed);
-    const where = below ? `, but in line ${below}: make that the first line` : '';
-    this.faults.add(
-      at(text.name, line, column),
-      'no such column',
-      `there is no such column in ${shown(text.line(line))}${where}; ${this.looksLike(word, line)}`
-        + `the table needs ${needed.join(', ')}; ${words().own(column)}`
+    const sentence = SENTENCES[`${what}: ${column}`] || SENTENCES[what] || what;
+    return sentence.replace('{nothing}', NOTHING).replace(/\{(\w+)\}/g, (_, name) =>
+      (typeof parts[name] === 'function' ? parts[name](column) || '' : parts[name])
     );
   }
 
-  // This method returns a hint at what a table without its columns may be, by the line of its
-  // heads.
-  /** @type {(word: string, line: number) => string} */
-  looksLike(word, line) {
-    const heads = this.texts[word].pieces(this.texts[word].line(line)), folded = heads.map(fold);
-    if (word === 'places' && folded.includes('from') && folded.includes('to')) {
-      return 'this looks like the table of routes, which comes second; ';
-    }
-    const { places } = this.texts;
-    const names = new Set(word === 'routes' ? places.pieces(places.text) : []);
-    return heads.length > 2
-      && 2 * heads.slice(1).filter((head) => names.has(head)).length >= heads.length - 1
-      ? 'this looks like a matrix, and routes are a list, a line for each; '
-      : '';
+  // This method returns the names of the places.
+  names() {
+    const read = this.tables.places.reader(['name']);
+    return this.tables.places.rows.map(({ cells }) => read(cells)[0]).filter(Boolean);
+  }
+
+  // This method returns a hint at a line below the heads that has those which the table needs.
+  /** @type {(word: string) => string} */
+  lineWith(word) {
+    const ends = new RegExp(`[${escaped(this.texts[word].separators)}"]`);
+    const found = this.tables[word].rows.slice(0, LOOKED).find(({ cells }) => {
+      const there = cells.join(',').split(ends).map((one) => fold(one.trim()));
+      return NEEDED[word].every((head) => there.includes(head));
+    });
+    return found ? `, but in line ${found.line}: make that the first line` : '';
+  }
+
+  // This method returns a hint at what a table without its columns may be.
+  /** @type {(word: string) => string} */
+  looksLike(word) {
+    const table = this.tables[word], names = new Set(word === 'routes' ? this.names() : []);
+    const count = table.titles.slice(1).filter((title) => names.has(title)).length;
+    return word === 'places' && table.has(['from', 'to'])
+      ? 'this looks like the table of routes, which comes second; '
+      : count && table.titles.length > 2 && 2 * count >= table.titles.length - 1
+        ? 'this looks like a matrix, and routes are a list, a line for each; '
+        : '';
   }
 }
 
-// This function returns the sentence about a title that is nearly a head.
-/** @type {(what: string) => string} */
-function nearText(what) {
-  const [, meant] = /^nearly (.*)$/.exec(what) || [];
-  return meant
-    ? `there is no such column; is ${shown(meant)} meant? Call it so, or otherwise`
-    : `it isn't read, since there is no column ${shown(what.slice('not read without '.length))}`;
+// This function returns the filled cells of a row below these heads, and below those of further
+// steps.
+/** @type {(table: Table, wanted: string[], row: string[]) => string[]} */
+const filled = ({ heads }, wanted, row) => row.filter((cell, k) =>
+  cell && k < heads.length && wanted.includes(heads[k].replace(/^(most|cost) [0-9]+$/, '$1'))
+);
+
+// This function says whether a table of persons and things is a list, and no matrix.
+/** @type {(table: Table) => boolean} */
+export const isList = ({ heads }) => NEEDED.costs.filter((head) => heads.includes(head)).length > 1;
+
+// This function returns the cells of numbers, row by row.
+/** @type {(tables: Record<string, Table>) => Generator<NumberCell>} */
+export function* numberCells(tables) {
+  for (const [word, table] of Object.entries(tables)) {
+    const isMatrix = word === 'costs' && !isList(table);
+    const places = table.heads.map((_, k) => k)
+      .filter((k) => (isMatrix ? k : NUMBERS[word].test(table.heads[k])));
+    for (const { line, cells } of table.rows) {
+      for (const place of places) yield { table, line, cell: cellAt(cells, place) };
+    }
+  }
 }
 
 // This function says how a cell was read which could be another number. It gets that cell, and the

@@ -11,24 +11,14 @@ import { at, shown } from './faults.js';
 export const SPOT_HEADS = ['x', 'y'];
 
 // This function reads a coordinate of a place: a number that may have decimals.
-/**
- * @param {Table} table
- * @param {number} line
- * @param {string} head
- * @param {string} cell
- * @param {Faults} faults
- * @returns {number}
- */
+/** @type {(table: Table, line: number, head: string, cell: string, faults: Faults) => number} */
 function coordinateIn(table, line, head, cell, faults) {
   const plain = plainMinus(cell), text = plain.includes('.') ? plain : plain.replace(',', '.');
   const number = /^[+-]?(\d+\.?\d*|\.\d+)([eE][+-]?\d+)?$/.test(text) ? Number(text) : NaN;
   if (!Number.isFinite(number)) {
-    faults.add(
-      at(table.name, line, head),
-      'no spot',
-      `${shown(cell)} is no number (either all places have x and y, or leave the columns out)`,
-      cell
-    );
+    const told = `${shown(cell)} is no number (either all places have x and y, or leave the `
+      + 'columns out)';
+    faults.add(at(table.name, line, head), 'no spot', told, cell);
   }
   return number;
 }

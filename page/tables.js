@@ -10,7 +10,7 @@ const SEPARATOR_LINE = /^"?sep=([^" ])"?[^\S\n]*$/im;
 // The separators that heads show by themselves.
 export const SEPARATORS = ',;\t';
 // Heads are in one of this many lines.
-const LOOKED = 10;
+export const LOOKED = 10;
 // The first bytes of other kinds of files.
 /** @type {[head: number[], words: string][]} */
 const OTHER_FILES = [
@@ -82,7 +82,7 @@ export const lineOf = (cells, separator) => cells.map((cell) => (
 )).join(separator);
 
 /** @type {(text: string) => string} */
-const escaped = (text) => text.replace(/[\\^$.*+?()[\]{}|]/g, '\\$&');
+export const escaped = (text) => text.replace(/[\\^$.*+?()[\]{}|]/g, '\\$&');
 
 // A text for the module, in normal form C. `own` has the planner's titles by the heads that replace
 // them in the text.
@@ -117,24 +117,6 @@ export class TableText {
   /** @type {(number: number) => string} */
   line(number) { return this.lines()[number - 1].trim(); }
 
-  // This method returns what stands in a text between separators, quotes and line ends.
-  /** @type {(text: string) => string[]} */
-  pieces(text) {
-    const ends = new RegExp(`[${escaped(this.separators)}"\\r\\n]`);
-    return text.split(ends).map((piece) => piece.trim()).filter(Boolean);
-  }
-
-  // This method returns the number of the first line that has these heads, among those that may
-  // have them, or null.
-  /** @type {(heads: string[]) => number | null} */
-  lineWith(heads) {
-    const found = this.lines().slice(0, LOOKED).findIndex((line) => {
-      const there = this.pieces(line).map(fold);
-      return heads.every((head) => there.includes(head));
-    });
-    return found < 0 ? null : found + 1;
-  }
-
   // This method gives the column with one of the planner's titles another head, in the first line
   // that has it, and says whether there is one. A column that has that head gets another one.
   /** @type {(head: string, title: string) => boolean} */
@@ -164,30 +146,20 @@ export class TableText {
     });
   }
 
-  // This method returns the separator by which the line of the heads has these titles.
+  // This method returns the separator by which the text has these titles.
   /** @type {(read: AnsweredTable) => string} */
   separator({ headLine, titles }) {
-    const line = this.line(headLine), known = [...this.separators].reverse();
-    return known.find((mark) => titles.length > 1 && line.split(mark).length >= titles.length
-      && splitLine(line, mark).join('\n') === titles.join('\n'))
-      || known.find((mark) => line.split(mark).length === titles.length) || ',';
+    const text = this.lines().slice(headLine - 1).join('');
+    const known = [...this.separators.slice(SEPARATORS.length) + SEPARATORS];
+    return known.map(escaped).find((mark) => {
+      const blanks = `[^\\S${mark}]*`;
+      const heads = titles.map((title) => [title.replaceAll('"', '""'), title].map(escaped))
+        .map(([inside, plain]) => `${blanks}(?:"\\s*${inside}\\s*"|${plain})${blanks}`);
+      return new RegExp(`^${heads.join(mark)}(?![^\\r\\n])`).test(text);
+    })?.slice(-1) || ',';
   }
 
   bytes() { return new TextEncoder().encode(this.text); }
-}
-
-// This function splits a line into cells.
-/** @type {(line: string, separator: string) => string[]} */
-function splitLine(line, separator) {
-  const cells = [];
-  for (let from = 0; from <= line.length;) {
-    const quoted = /^ *"((?:[^"]|"")*)"/.exec(line.slice(from));
-    const end = line.indexOf(separator, from + (quoted ? quoted[0].length : 0));
-    const to = end < 0 ? line.length : end;
-    cells.push((quoted ? quoted[1].replaceAll('""', '"') : line.slice(from, to)).trim());
-    from = to + 1;
-  }
-  return cells;
 }
 
 // This function returns the texts of some sources, with the wanted heads in place of the planner's

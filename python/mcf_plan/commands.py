@@ -36,7 +36,7 @@ class Asking:
         more = ["--decimal", self.decimal, *more] if self.decimal else more
         texts = [table.text for table in self.tables]
         found = answer_to(self.program, [self.command, *more], texts)
-        Teller(self.words, self.tables, self.options, self.faults).tell(found.rows["fault"])
+        Teller(self.words, self.tables, self.options, self.faults).tell(found)
         self.faults.end()
         return found
 

@@ -8,10 +8,22 @@ decimal.setcontext(decimal.Context(prec=20_000, traps=[decimal.InvalidOperation,
 MINUSES = "-\u2010\u2011\u2012\u2013\u2212\ufe63\uff0d"
 SPOT = re.compile(r"[+-]?([0-9]+\.?[0-9]*|\.[0-9]+)([eE][+-]?[0-9]+)?")
 NO_LIMIT = ("", "inf", "∞")
+# A number with one mark and three digits after it: the mark may separate thousands or decimals.
+EITHER = re.compile("[^0-9,.]*[1-9][0-9]{0,2}[.,][0-9]{3}")
+# Other numbers: perhaps with a mark or blanks between thousands, and with one before decimals.
+BETWEEN = r"([.,])[0-9]{3}(?:\1[0-9]{3})*|(?:[ '_\u00a0\u2009\u202f\u2019][0-9]{3})+"
+MARKED = re.compile(f"[{MINUSES}+]?(?:[0-9]*|[0-9]{{1,3}}(?:{BETWEEN}))(?:([.,])[0-9]+)?")
 
 
 class Figure(str):
     """A number as text, with a point before its decimals: from a workbook, or of a result."""
+
+
+def mark_in(cell):
+    """The mark before decimals that a cell shows, or None."""
+    found = None if EITHER.fullmatch(cell) else MARKED.fullmatch(cell)
+    thousands, mark = found.groups() if found else (None, None)
+    return None if thousands == mark else mark or ".,".strip(thousands)
 
 
 def value_of(cell, mark):

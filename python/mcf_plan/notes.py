@@ -1,12 +1,11 @@
 """Notes on how the tables were read: the columns that are carried along, and numbers that may be
 read in two ways."""
-import re
-
 from .answer import cell_at
 from .faults import shown
-from .figures import figure, value_of
+from .figures import EITHER, figure, mark_in, value_of
 from .problem import SPOT_HEADS
 from .results import kept
+from .roster import is_list
 from .words import listed
 
 # The most carried columns to name.
@@ -16,9 +15,8 @@ KNOWN = {
     "routes": ("from", "to", "least", "most", "cost", "both"),
     "costs": ("who", "what", "cost", "takes", "needs"),
 }
-NUMBERS = ("supply", "least", "most", "cost")
-# A number with one mark and three digits after it: the mark may separate thousands or decimals.
-EITHER = re.compile("[^0-9,.]*[1-9][0-9]{0,2}[.,][0-9]{3}")
+# The heads of what isn't read as a number.
+WORDS = {"name", "from", "to", "both", "who", "what", "takes", "needs", *SPOT_HEADS}
 
 
 def known_heads(word, sheet):
@@ -51,12 +49,9 @@ def carried_lines(words, tables, sheets):
 def reading_lines(cells, problem, decimal):
     """A line on the first cell that may be read in two ways, if there is one, and on what decides:
     an option, or the first cell that shows the mark. Cells come with their tables and lines."""
-    either, shows, mark = None, None, problem.mark
-    for table, line, cell in cells:
-        if EITHER.fullmatch(cell):
-            either = either or (table, line, cell)
-        elif mark in cell or cell.count("." if mark == "," else ",") > 1:
-            shows = shows or (table, line, cell)
+    cells, mark = list(cells), problem.mark
+    either = next((one for one in cells if EITHER.fullmatch(one[2])), None)
+    shows = next((one for one in cells if mark_in(one[2]) == mark), None)
     if not either:
         return []
     (table, line, cell), told = either, ", as --decimal says" if decimal else ""
@@ -69,9 +64,11 @@ def reading_lines(cells, problem, decimal):
     return [f"{shown(cell)} ({table.name}, line {line}) is read as {value}{told}."]
 
 
-def number_cells(table, sheet):
-    """The cells of a table of places or routes that are numbers."""
-    places = [place for place, head in enumerate(sheet.heads) if head.split(" ")[0] in NUMBERS]
+def number_cells(word, table, sheet):
+    """The cells of a table that are numbers, with the table and their lines."""
+    places = range(1, len(sheet.heads))
+    if word != "costs" or is_list(sheet):
+        places = [sheet.place(head) for head in known_heads(word, sheet) if head not in WORDS]
     for line, cells in sheet.rows:
         for place in places:
             if (line, place) not in table.figures:
@@ -80,8 +77,8 @@ def number_cells(table, sheet):
 
 def notes_of(problem):
     """The notes on the tables of places and routes."""
-    tables = problem.place_table, problem.route_table
+    words, tables = ("places", "routes"), (problem.place_table, problem.route_table)
     sheets = problem.place_sheet, problem.route_sheet
-    cells = [cell for one in zip(tables, sheets) for cell in number_cells(*one)]
-    lines = carried_lines(("places", "routes"), tables, sheets)
+    cells = [cell for one in zip(words, tables, sheets) for cell in number_cells(*one)]
+    lines = carried_lines(words, tables, sheets)
     return lines + reading_lines(cells, problem, problem.options.decimal)

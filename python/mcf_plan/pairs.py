@@ -11,11 +11,7 @@ def notes_of(roster):
     lines, table, sheet = [], roster.table, roster.sheet
     if roster.is_list:
         lines = notes.carried_lines(("costs",), [table], [sheet])
-    cells = (
-        (table, line, cell)
-        for line, column, cell in roster.cost_cells()
-        if (line, column) not in table.figures
-    )
+    cells = notes.number_cells("costs", table, sheet)
     return lines + notes.reading_lines(cells, roster, roster.options.decimal)
 
 

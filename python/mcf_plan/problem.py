@@ -1,9 +1,10 @@
 """The places and the routes of an answer, from the rows of its tables and from its results."""
 import argparse
 import collections
+import itertools
 
 from .answer import cell_at
-from .faults import At, Faults, shown
+from .faults import At, shown
 from .figures import NO_LIMIT, Figure, coordinate_of, number_in, said, value_of
 
 SPOT_HEADS = ("x", "y")
@@ -50,9 +51,7 @@ class Problem:
         self.supply, self.demand = (number_in(answer.one(word)) for word in ("supply", "demand"))
         self.unused, self.short = options.unused, options.short
         self.penalty = value_of(options.penalty, self.mark) if options.penalty else None
-        faults = Faults()
-        self.places = [self.place(*row, faults) for row in self.place_sheet.rows]
-        faults.end()
+        self.places = [self.place(*row) for row in self.place_sheet.rows]
         self.numbers = {place.name: number for number, place in enumerate(self.places, 1)}
         self.routes = [self.route(*row) for row in self.route_sheet.rows]
 
@@ -69,7 +68,7 @@ class Problem:
         cell = cell_at(cells, sheet.place(head))
         return None if cell.casefold() in NO_LIMIT else value_of(cell, self.mark)
 
-    def place(self, line, cells, faults):
+    def place(self, line, cells):
         """The place of a row."""
         sheet = self.place_sheet
         bounds = None
@@ -80,27 +79,18 @@ class Problem:
         return Place(
             cell_at(cells, sheet.place("name")),
             self.number(sheet, cells, "supply"),
-            self.spot(line, cells, faults),
+            self.spot(cells),
             bounds,
             line,
             cells,
         )
 
-    def spot(self, line, cells, faults):
+    def spot(self, cells):
         """The position of a place, if the table has positions."""
-        if not self.place_sheet.has(SPOT_HEADS):
+        sheet = self.place_sheet
+        if not sheet.has(SPOT_HEADS):
             return None
-        found = []
-        for head in SPOT_HEADS:
-            cell = cell_at(cells, self.place_sheet.place(head))
-            found.append(coordinate_of(cell))
-            if found[-1] is None:
-                text = (
-                    f"{shown(cell)} is no number (either all places have x and y, or leave the"
-                    " columns out)"
-                )
-                faults.add(At(self.place_table.name, line, head), "no spot", text, cell)
-        return tuple(found)
+        return tuple(coordinate_of(cell_at(cells, sheet.place(head))) for head in SPOT_HEADS)
 
     def route(self, line, cells):
         """The route of a row."""
@@ -147,6 +137,18 @@ class Plan:
         found = zip(self.problem.places, self.places)
         amounts = ((place, one.stays if is_supply else one.missing) for place, one in found)
         return [(place, amount) for place, amount in amounts if amount]
+
+
+def check_spots(sheet, name, faults):
+    """Notes the positions of places that are no numbers, if the table has positions."""
+    for (line, cells), head in itertools.product(sheet.rows, SPOT_HEADS):
+        cell = cell_at(cells, sheet.place(head))
+        if sheet.has(SPOT_HEADS) and coordinate_of(cell) is None:
+            text = (
+                f"{shown(cell)} is no number (either all places have x and y, or leave the columns"
+                " out)"
+            )
+            faults.add(At(name, line, head), "no spot", text, cell)
 
 
 def route_result(cells):

@@ -13,6 +13,11 @@ FORBIDDEN = ("", "x", "-", "–", "—")
 Pair = collections.namedtuple("Pair", "line column who what cost")
 
 
+def is_list(sheet):
+    """Whether a table of persons and things is a list of pairs, and no matrix."""
+    return sum(head in sheet.heads for head in PAIR_HEADS) > 1
+
+
 class Roster:
     """The table of persons and things of an answer, and the pairs that it tells. The table is plain
     if it doesn't say how many a person takes or a thing needs."""
@@ -20,7 +25,7 @@ class Roster:
     def __init__(self, answer, table, options):
         self.answer, self.table, self.options, self.mark = answer, table, options, answer.mark
         self.sheet = answer.sheets["costs"]
-        self.is_list = sum(head in self.sheet.heads for head in PAIR_HEADS) > 1
+        self.is_list = is_list(self.sheet)
         self.is_plain = not self.is_filled("takes") and not (
             self.is_list and self.is_filled("needs")
         )
@@ -66,10 +71,3 @@ class Roster:
     def cost(self):
         """The cost of all pairs."""
         return number_in(self.answer.one("cost"))
-
-    def cost_cells(self):
-        """The lines, the places and the cells of costs."""
-        for line, cells in self.sheet.rows:
-            for place, cell in enumerate(cells):
-                if place == self.sheet.place("cost") if self.is_list else place:
-                    yield line, place, cell

@@ -53,27 +53,11 @@ class Table:
         """The lines of the text, each with its end."""
         return re.findall(r"[^\r\n]*(?:\r\n?|\n)|[^\r\n]+", self.text)
 
-    def line(self, number):
-        """A line of the text."""
-        return self.lines()[number - 1].strip(BLANKS)
-
-    def pieces(self, text):
-        """What stands in a text between separators, quotes and line ends."""
-        parts = re.split(f'[{re.escape(self.separators)}"\r\n]', text)
-        return [part.strip(BLANKS) for part in parts if part.strip(BLANKS)]
-
     def head_lines(self):
         """The lines among which the heads are, and their numbers from 1."""
         numbered = enumerate(self.lines(), 1)
-        found = ((number, line) for number, line in numbered if self.pieces(line))
+        found = (one for one in numbered if one[1].strip(BLANKS + self.separators + '"'))
         return list(itertools.islice(found, LOOKED))
-
-    def line_with(self, heads):
-        """The number of the first line that has these heads, among those that may have them."""
-        for number, line in self.head_lines():
-            if set(heads) <= {piece.casefold() for piece in self.pieces(line)}:
-                return number
-        return None
 
     def call(self, head, title):
         """Gives the column with a title of the user's another head, in the first line that has it.

@@ -1,8 +1,15 @@
 """The sentences about faults that `mcfplan` found."""
 import difflib
+import functools
 import re
 
+from .answer import Sheet, cell_at
 from .faults import At, shown
+from .figures import mark_in, value_of
+from .notes import number_cells
+from .problem import check_spots
+from .tables import BLANKS, LOOKED
+from .words import count_of, listed
 
 # The heads that each table needs.
 NEEDED = {
@@ -10,9 +17,9 @@ NEEDED = {
     "routes": ("from", "to", "most", "cost"),
     "costs": ("who", "what", "cost"),
 }
-PAIRS_HINT = (
-    "a list has the columns who, what and cost, a matrix things in its first line and persons in"
-    " its first column"
+NOTHING = (
+    " is read: the heads are {heads} (split at {separator}), with {lines} below; a list has the"
+    " columns who, what and cost, a matrix things in its first line and persons in its first column"
 )
 BEYOND = "{this} is beyond the limits, by itself or in total (LIMITS in `man mcf`)"
 # What is wrong, as `mcfplan` calls it, perhaps with its column, and the sentence.
@@ -21,18 +28,24 @@ SENTENCES = {
     "text after a quote": (
         "something after the closing quote (a quote within quotes is written twice)"
     ),
+    "no such column": (
+        "there is no such column among {heads} (split at {separator}){below}; {like}the table needs"
+        " {needed}; where a head has another name, say so: --map {column}=NAME"
+    ),
+    "nearly": "there is no such column; is {meant} meant? Call it so, or otherwise",
+    "not read without": "it isn't read, since there is no column {meant}",
     "two such columns": "there are two such columns",
     "both decimal marks": (
-        "{cell} has another mark before decimals than a cell before it; write them in one way, or"
-        " say --decimal"
+        "some decimals follow a point, others a comma: {other} and {cell}; write them in one way,"
+        " or say --decimal"
     ),
     "beyond the last head": "a cell beyond the last head: {cell}",
     "empty name": "the name is empty",
     "control character": "the name {cell} has a line break or another control character",
-    "named twice": "a thing {cell} is already in an earlier column",
-    "named twice: name": "a place {cell} is already on an earlier line",
-    "named twice: what": "this pair is already on an earlier line",
-    "named twice: 1": "a person {cell} is already on an earlier line",
+    "named twice": "a thing {cell} is already in column {place}",
+    "named twice: name": "a place {cell} is already on line {first}",
+    "named twice: what": "the pair of {pair} is already on line {first}",
+    "named twice: 1": "a person {cell} is already on line {first}",
     "no such place": "there is no place {cell}{near}",
     "empty": "the number is empty; write 0 for none",
     "exponent": "{cell} is written with an exponent; write all its digits",
@@ -48,10 +61,11 @@ SENTENCES = {
     "after a step without a limit": "the step before is without a limit",
     "neither yes nor no": "{cell} is neither yes nor no",
     "falling cost": (
-        "the cost of a step is below the cost of the step before: units that get cheaper with more"
-        " of them make no minimum-cost flow"
+        "{cell} is below the cost of the step before: units that get cheaper with more of them make"
+        " no minimum-cost flow"
     ),
-    "below 0": "a step is below 0, and steps add to the one before",
+    "below 0": "{cell} is below 0, and this step adds to the one before",
+    "below 0: most": "{cell} is below 0, and the route has more steps or is used both ways",
     "both ways with a least amount or a cost below 0": (
         "a route that is used both ways has no least, and no cost below 0"
     ),
@@ -59,13 +73,15 @@ SENTENCES = {
         "this is empty, so without a limit, and a cost is below 0: a round trip could earn without"
         " end; give a most"
     ),
-    "least above most": "least is greater than most",
+    "least above most": "least {least} is greater than most {most}",
     "no number or range": "{cell} is no number, and no range such as 2..3{date}",
     "two different numbers": "an earlier line has another number: this is {cell}",
-    "no thing": "no thing is read below the heads {heads}; " + PAIRS_HINT,
-    "no person": "no person is read below the heads {heads}; " + PAIRS_HINT,
+    "no thing": "no thing" + NOTHING,
+    "no person": "no person" + NOTHING,
 }
 DATE = re.compile(r"[0-9]{4}-|\.\s?\w{3}")
+# What is wrong with a title that isn't read, and the head that it is about.
+TITLE = re.compile("(nearly|not read without) (.*)")
 
 
 class Teller:
@@ -73,80 +89,121 @@ class Teller:
 
     def __init__(self, words, tables, options, faults):
         self.tables, self.options, self.faults = dict(zip(words, tables)), options, faults
-        self.done = set()
+        self.sheets, self.rows, self.shows, self.done = {}, {}, [], set()
 
-    def tell(self, rows):
-        """Notes all faults of an answer. Of columns that a table lacks, the first one tells all."""
-        for word, line, column, what, cell in rows:
+    def tell(self, answer):
+        """Notes all faults of an answer, and positions of places that are no numbers."""
+        self.sheets = {word: answer.sheets.get(word, Sheet(1, [""])) for word in self.tables}
+        self.rows = {word: dict(sheet.rows) for word, sheet in self.sheets.items()}
+        faults = answer.rows["fault"]
+        tables = zip(self.tables, self.tables.values(), self.sheets.values()) if faults else ()
+        cells = (cell for table in tables for cell in number_cells(*table))
+        self.shows = [(mark_in(one[2]), *one) for one in cells if mark_in(one[2])]
+        for word, line, *more in faults:
             if word == "options":
                 text = "this is no cost, written as in the tables"
-                self.faults.add(At(f"--penalty {self.options.penalty}", ""), what, text)
-            elif what == "no such column":
-                if self.is_first(what, word):
-                    self.add_lacking(word, int(line), column)
-            elif what.startswith(("nearly ", "not read without ")):
-                text = self.near_text(what)
-                self.faults.add(At(self.tables[word].name, line, shown(cell)[1:-1]), what, text)
+                self.faults.add(At(f"--penalty {self.options.penalty}", ""), more[1], text)
             else:
-                at = At(self.tables[word or "places"].name, line, column)
-                sentence = SENTENCES.get(f"{what}: {column}", SENTENCES.get(what, what))
-                self.faults.add(at, what, self.filled(sentence, word, line, cell), cell)
+                self.note(word or "places", int(line or 0), *more)
+        if "places" in self.tables:
+            check_spots(self.sheets["places"], self.tables["places"].name, self.faults)
 
-    def is_first(self, *what):
-        """Whether this is asked for the first time."""
-        is_first = what not in self.done
-        self.done.add(what)
-        return is_first
+    def note(self, word, line, head, what, cell):
+        """Notes a fault. The first one of a kind tells all; of columns that a table lacks, too."""
+        column, cell = self.located(word, line, head, what, cell)
+        is_lacking = what == "no such column"
+        kind = word, what, is_lacking or column.isdecimal() or column
+        if not (is_lacking and kind in self.done):
+            text = "" if kind in self.done else self.text(word, line, column, what, cell)
+            self.faults.add(At(self.tables[word].name, line, column), what, text, cell)
+        self.done.add(kind)
 
-    def filled(self, sentence, word, line, cell):
-        """A sentence with its cell, and with hints."""
-        has_near = "{near}" in sentence and self.is_first(sentence)
-        return sentence.format(
-            cell=shown(cell),
-            this=shown(cell) if cell else "this",
-            digits=cell.replace(",", "").replace(".", ""),
-            mark=shown(self.options.decimal or "."),
-            says=", as --decimal says" if self.options.decimal else "",
-            near=self.near_place(cell) if has_near else "",
-            date="; was it taken for a date?" if DATE.search(cell) else "",
-            heads=shown(self.tables[word].line(int(line))) if "{heads}" in sentence else "",
-        )
+    def located(self, word, line, head, what, cell):
+        """The column and the cell of a fault. One of steps is in the first step that costs less
+        than the one before, or whose most is below 0."""
+        sheet, cells = self.sheets[word], self.rows[word].get(line, [])
+        if TITLE.fullmatch(what):
+            return shown(cell)[1:-1], cell
+        if what not in ("falling cost", "below 0"):
+            return "takes" if head == str((sheet.place("takes") or -1) + 1) else head, cell
+        heads = [head, *(f"{head} {number}" for number in range(2, len(cells)))]
+        steps = [cell_at(cells, sheet.place(one)) for one in heads]
+        mark = self.options.decimal or next((one[0] for one in self.shows), ".")
+        values = [value_of(step, mark) if step[-1:].isdigit() else 0 for step in steps]
+        least = values[:1] + values if what == "falling cost" else [0] * len(values)
+        place = [value < bound for value, bound in zip(values, least)].index(True)
+        return heads[place], steps[place]
 
-    @staticmethod
-    def near_text(what):
-        """The sentence about a title that is nearly a head."""
-        if what.startswith("nearly "):
-            meant = shown(what[len("nearly ") :])
-            return f"there is no such column; is {meant} meant? Call it so, or otherwise"
-        return f"it isn't read, since there is no column {shown(what[len('not read without ') :])}"
+    def text(self, word, line, column, what, cell):
+        """The sentence about a fault."""
+        what, meant = TITLE.fullmatch(what).groups() if TITLE.fullmatch(what) else (what, "")
+        sheet, table, row = self.sheets[word], self.tables[word], self.rows[word].get(line, [])
+        heads = {"what": ["who", "what"], "most": ["least", "most"], "1": sheet.heads[:1]}
+        under = functools.partial(filled, sheet, heads.get(column, [column]))
+        parts = {
+            "cell": lambda: shown(cell),
+            "this": lambda: " or ".join(map(shown, [cell] if cell else under(row))) or "this",
+            "pair": lambda: " and ".join(map(shown, under(row))),
+            "first": lambda: next(n for n, one in sheet.rows if under(one) == under(row)),
+            "place": lambda: sheet.titles.index(cell, 1) + 1,
+            "least": lambda: "".join(map(shown, filled(sheet, ["least"], row))) or "0",
+            "most": lambda: " + ".join(map(shown, filled(sheet, ["most"], row))),
+            "digits": lambda: re.sub("[,.]", "", cell),
+            "mark": lambda: shown(self.options.decimal or "."),
+            "says": lambda: ", as --decimal says" if self.options.decimal else "",
+            "other": lambda: self.other(mark_in(cell)),
+            "near": lambda: self.near_place(cell),
+            "date": lambda: "; was it taken for a date?" if DATE.search(cell) else "",
+            "meant": lambda: shown(meant),
+            "column": lambda: column,
+            "heads": lambda: listed([shown(table.title(title)) for title in sheet.titles]),
+            "separator": lambda: shown(table.separator(sheet)),
+            "lines": lambda: count_of(len(sheet.rows), "line", "lines"),
+            "below": lambda: self.line_with(word),
+            "like": lambda: self.looks_like(word),
+            "needed": lambda: ", ".join(NEEDED[word]),
+        }
+        sentence = SENTENCES.get(f"{what}: {column}", SENTENCES.get(what, what))
+        return re.sub(r"\{(\w+)\}", lambda found: str(parts[found[1]]()), sentence)
+
+    def other(self, mark):
+        """The first cell that shows another mark before decimals, and where it is."""
+        table, line, cell = next(one[1:] for one in self.shows if one[0] != mark)
+        return f"{shown(cell)} ({table.name}, line {line})"
+
+    def names(self):
+        """The names of the places."""
+        sheet = self.sheets["places"]
+        return [cell_at(cells, sheet.place("name")) for _, cells in sheet.rows]
 
     def near_place(self, name):
         """A hint at a name among the places that is like one that isn't."""
-        table = self.tables["places"]
-        names = [name for name in table.pieces(table.text) if name not in NEEDED["places"]][:10_000]
+        names = self.names()
         near = [other for other in names if other.casefold() == name.casefold()]
-        near = near or difflib.get_close_matches(name, names, 1)
+        near = near or difflib.get_close_matches(name, names[:10_000], 1)
         return f"; is {shown(near[0])} meant?" if near else ""
 
-    def add_lacking(self, word, line, column):
-        """Notes that a table lacks a column."""
-        table, needed = self.tables[word], NEEDED[word]
-        below = table.line_with(needed)
-        where = f", but in line {below}: make that the first line" if below else ""
-        text = (
-            f"there is no such column in {shown(table.line(line))}{where};"
-            f" {self.looks_like(word, line)}the table needs {', '.join(needed)}; where a head has"
-            f" another name, say so: --map {column}=NAME"
-        )
-        self.faults.add(At(table.name, line, column), "no such column", text)
+    def line_with(self, word):
+        """A hint at a line below the heads that has those which the table needs."""
+        ends = f'[{re.escape(self.tables[word].separators)}"]'
+        for line, cells in self.sheets[word].rows[:LOOKED]:
+            found = {cell.strip(BLANKS).casefold() for cell in re.split(ends, ",".join(cells))}
+            if found >= set(NEEDED[word]):
+                return f", but in line {line}: make that the first line"
+        return ""
 
-    def looks_like(self, word, line):
-        """A hint at what a table without its columns may be, by the line of its heads."""
-        heads = self.tables[word].pieces(self.tables[word].line(line))
-        if word == "places" and {"from", "to"} <= {head.casefold() for head in heads}:
+    def looks_like(self, word):
+        """A hint at what a table without its columns may be."""
+        sheet, names = self.sheets[word], set(self.names() if word == "routes" else ()) - {""}
+        if word == "places" and sheet.has(("from", "to")):
             return "this looks like the table of routes, which comes second; "
-        places = self.tables.get("places")
-        names = set(places.pieces(places.text)) if word == "routes" else ()
-        if len(heads) > 2 and 2 * sum(head in names for head in heads[1:]) >= len(heads) - 1:
+        count = len(sheet.titles) - 1
+        if count > 1 and 2 * sum(title in names for title in sheet.titles[1:]) >= count:
             return "this looks like a matrix, and routes are a list, a line for each; "
         return ""
+
+
+def filled(sheet, heads, row):
+    """The filled cells of a row below these heads, and below those of further steps."""
+    found = zip((re.sub("(most|cost) [0-9]+", r"\1", head) for head in sheet.heads), row)
+    return [cell for head, cell in found if cell and head in heads]

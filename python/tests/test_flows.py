@@ -9,12 +9,12 @@ BEYOND_FLOWS = [
     (
         "name,supply\n\nA,1000000000000000001\nB,-1000000000000000001\n",
         "from,to,least,most,cost\n",
-        "places.csv, line 3, column supply: this is beyond",
+        "places.csv, line 3, column supply: '1000000000000000001' is beyond",
     ),
     (
         PLACES,
         "from,to,least,most,cost\n\nMill,Wien,0,1000000000000000001,1\n",
-        "routes.csv, line 3, column most: this is beyond",
+        "routes.csv, line 3, column most: '0' or '1000000000000000001' is beyond",
     ),
     (
         PLACES,
@@ -29,7 +29,7 @@ BEYOND_FLOWS = [
     (
         PLACES,
         ROUTES + "Mill,Wien,5,4,1\n",
-        "routes.csv, line 5, column least: least is greater than most",
+        "routes.csv, line 5, column least: least '5' is greater than most '4'",
     ),
     (
         PLACES,
@@ -39,7 +39,7 @@ BEYOND_FLOWS = [
     (
         PLACES,
         "from,to,least,most,cost\n" + "Mill,Wien,0,1000000000000000000,1000000000000000\n" * 1001,
-        "routes.csv, line 1002, column cost: this is beyond",
+        "routes.csv, line 1002, column cost: '1000000000000000' is beyond",
     ),
 ]
 # Other spellings of the tables PLACES and ROUTES, with the same meaning.

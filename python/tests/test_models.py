@@ -289,10 +289,10 @@ class Columns(WithFolder):
             [("7", "29", ""), ("4", "20", "0")],
         )
         for cells, text in (
-            (",3,5,2,4,,", "column cost: the cost of a step is below the cost of the step before"),
+            (",3,5,2,4,,", "column cost 2: '4' is below the cost of the step before"),
             (",,5,2,6,,", "column most 2: the step before is without"),
             (",3,5,2,,,", "column cost 2: the number is empty"),
-            (",3,5,-2,6,,", "column most: a step is below 0"),
+            (",3,5,-2,6,,", "column most 2: '-2' is below 0"),
         ):
             self.assertIn(
                 text,
@@ -365,4 +365,4 @@ class Columns(WithFolder):
         told = self.flow(
             "name,supply\nA,0\n", "from,to,most,cost,most 2,cost 2\nA,A,1,1,1,1000000000000001\n"
         )[2]
-        self.assertIn("routes.csv, line 2, column cost: this is beyond the limits", told)
+        self.assertIn("column cost: '1' or '1000000000000001' is beyond the limits", told)

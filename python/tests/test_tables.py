@@ -54,10 +54,7 @@ class BadTables(WithFolder):
                     "mcf_plan: places.csv, line 2, column supply: 'x0' is no number (300 such"
                     " cells; also 'x1' in line 3, 'x2' in line 4, 'x3' in line 5, 'x4' in line 6)"
                 ),
-                (
-                    "mcf_plan: places.csv, line 302, column name: a place 'A1' is already on an"
-                    " earlier line"
-                ),
+                "mcf_plan: places.csv, line 302, column name: a place 'A1' is already on line 3",
                 (
                     "mcf_plan: routes.csv, line 2, column from: there is no place 'Mill' (3 such"
                     " cells; also 'Mill' in line 3, 'Graz' in line 4)"
