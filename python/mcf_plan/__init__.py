@@ -12,4 +12,5 @@ No plan            bottlenecks, competitions
 Writing            folder, results, report, pairs, notes, caption, page with flowpage and pairspage
 Pictures           scene (the content), layout, room, picture with rows and dots, all with drawing
 Two plans          diff
+Afterwards         asked (what the plan of a folder was asked of), verify
 """

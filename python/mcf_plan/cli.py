@@ -10,6 +10,7 @@ from .diff import diff_command
 from .faults import Stop, trouble
 from .results import Results
 from .tables import Reading
+from .verify import verify_command
 from .words import line_of
 
 HEADS = (
@@ -30,7 +31,7 @@ HEADS = (
 )
 STATUSES = (
     "Status 0: a plan, proved. 1: no plan exists, proved. 2: a bad table or a wrong call. 3:"
-    " anything else. 130: interrupted."
+    " anything else. 130: interrupted. Of verify, 0: the same answer, proved. 1: another one."
 )
 
 
@@ -49,13 +50,16 @@ def options_of(words):
         description="Plans from tables: mcfplan makes them, by a proof.",
         epilog=STATUSES,
     )
-    commands = parser.add_subparsers(dest="command", metavar="flow|pairs|diff")
+    commands = parser.add_subparsers(dest="command", metavar="flow|pairs|diff|verify")
     add_flow(commands.add_parser("flow", help="a least-cost flow over routes between places"))
     add_pairs(commands.add_parser("pairs", help="least-cost pairs of persons and things"))
     add_diff(commands.add_parser("diff", help="compare two plans"))
+    add_verify(
+        commands.add_parser("verify", help="whether the tables of a plan give the answer it has")
+    )
     options = parser.parse_args(words)
     if not options.command:
-        parser.error("say what is planned: flow or pairs, or diff")
+        parser.error("say what is planned: flow or pairs; or say diff or verify")
     if options.command == "flow" and len(options.tables) > 2:
         parser.error("flow takes two tables, or a workbook")
     if options.xlsx:
@@ -92,8 +96,9 @@ def add_flow(command):
 def add_pairs(command):
     """Adds the words and options of `pairs`."""
     command.add_argument(
-        "costs",
+        "tables",
         metavar="COSTS",
+        nargs=1,
         help="a table with the columns who, what and cost; or a matrix, a person in each row",
     )
     add_common(command, pairs_command)
@@ -121,6 +126,29 @@ def add_diff(command):
     command.set_defaults(act=diff_command, map=[], decimal=None, encoding=None, xlsx=False)
 
 
+def add_verify(command):
+    """Adds the words and options of `verify`."""
+    command.add_argument("folder", metavar="FOLDER", help="the folder of a plan")
+    command.add_argument(
+        "tables",
+        metavar="TABLE",
+        nargs="*",
+        default=[],
+        help="its tables, if they were moved; by default those that its run read",
+    )
+    add_programs(command)
+    command.set_defaults(act=verify_command, map=[], decimal=None, encoding=None, xlsx=False)
+
+
+def add_programs(command):
+    """Adds the option for the folder of `mcfplan`."""
+    command.add_argument(
+        "--programs",
+        metavar="FOLDER",
+        help="the folder of mcfplan, if not beside this tool, in bin/ or on the path",
+    )
+
+
 def add_common(command, act):
     """Adds the options of all commands that make a plan."""
     command.add_argument(
@@ -131,11 +159,7 @@ def add_common(command, act):
         required=True,
         help="the folder for the results",
     )
-    command.add_argument(
-        "--programs",
-        metavar="FOLDER",
-        help="the folder of mcfplan, if not beside this tool, in bin/ or on the path",
-    )
+    add_programs(command)
     add_reading(command)
     command.set_defaults(act=act)
 

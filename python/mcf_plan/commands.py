@@ -1,7 +1,7 @@
 """The commands `flow` and `pairs`. They read tables and write a folder of results."""
 import re
 
-from . import flowpage, life, notes, pairs, pairspage, picture, report, scene
+from . import asked, flowpage, life, notes, pairs, pairspage, picture, report, scene
 from .answer import answer_to
 from .bottlenecks import Blocked
 from .caption import caption_of
@@ -15,15 +15,19 @@ from .roster import Roster
 from .tables import tables_of
 from .told import NEEDED, Teller
 
+# The tables of each command.
+TABLES = {"flow": ("places", "routes"), "pairs": ("costs",)}
+
 
 class Asking:
     """The tables of a run, and what `mcfplan` answers to them."""
 
-    def __init__(self, command, paths, words, options, reading):
-        self.command, self.words, self.options, self.faults = command, words, options, Faults()
+    def __init__(self, options, reading):
+        self.command, self.options, self.reading = options.command, options, reading
+        self.words, self.faults = TABLES[self.command], Faults()
         with life.doing("reads the tables"):
-            wanted = [NEEDED[word] for word in words]
-            self.tables = tables_of(paths, wanted, reading, self.faults)
+            wanted = [NEEDED[word] for word in self.words]
+            self.tables = tables_of(options.tables, wanted, reading, self.faults)
         self.program, self.decimal = program("mcfplan", options.programs), options.decimal
         # A number of a sheet has a point, unless the options name another mark.
         if not self.decimal and any(
@@ -38,6 +42,23 @@ class Asking:
         found = answer_to(self.program, [self.command, *more], texts)
         Teller(self.words, self.tables, self.options, self.faults).tell(found)
         self.faults.end()
+        return found
+
+    def planned(self):
+        """The answer to the tables with the options of the run."""
+        options = self.options
+        if self.command == "pairs":
+            words = ["--each", options.each] if options.each else []
+            return self.answer(*words, *(["--maximise", "yes"] if options.maximise else []))
+        if options.penalty:
+            self.settle()
+        return self.answer(*policy_words(options.unused, options.short, options.penalty))
+
+    def write(self, folder):
+        """Writes answer.csv, and asked.json, and returns the answer."""
+        found = self.planned()
+        (folder / "answer.csv").write_bytes(found.data)
+        asked.note(folder, self, found.data)
         return found
 
     def settle(self):
@@ -62,18 +83,15 @@ def flow_command(options, reading):
     """Runs `flow`: returns the lines of the summary and the status."""
     if options.penalty and options.short != "allow":
         raise Stop(f"--penalty {options.penalty}: it comes with --short allow", 2)
-    asking = Asking("flow", options.tables, ("places", "routes"), options, reading)
     options.unused = options.unused == "allow" or options.most_flow
     options.short = options.short == "allow" or options.most_flow
+    asking = Asking(options, reading)
 
     def answer(unused, short):
         return asking.answer(*policy_words(unused, short, options.penalty))
 
     with results_in(options.folder) as folder:
-        if options.penalty:
-            asking.settle()
-        found = answer(options.unused, options.short)
-        (folder / "answer.csv").write_bytes(found.data)
+        found = asking.write(folder)
         problem = Problem(found, asking.tables, options)
         life.warn(report.slips(problem))
         results = Results(folder, options, problem.mark, asking.tables)
@@ -126,12 +144,9 @@ def write_page(folder, page, mark, caption):
 
 def pairs_command(options, reading):
     """Runs `pairs`: returns the lines of the summary and the status."""
-    asking = Asking("pairs", [options.costs], ("costs",), options, reading)
-    words = ["--each", options.each] if options.each else []
-    words += ["--maximise", "yes"] if options.maximise else []
+    asking = Asking(options, reading)
     with results_in(options.folder) as folder:
-        found = asking.answer(*words)
-        (folder / "answer.csv").write_bytes(found.data)
+        found = asking.write(folder)
         roster = Roster(found, asking.tables[0], options)
         results = Results(folder, options, roster.mark, asking.tables)
         if found.kind == "plan":

@@ -11,6 +11,7 @@ from .faults import Stop, trouble
 # file.
 RESULTS = (
     "answer.csv",
+    "asked.json",
     "flows.csv",
     "prices.csv",
     "pairs.csv",

@@ -1,10 +1,13 @@
 """The page of a plan: one file that works offline, for a browser, a mail or a printer."""
 import collections
-import hashlib
 import html
+import os
 import pathlib
+import shlex
 
+from . import asked
 from .figures import Figure, grouped
+from .words import line_of
 
 # A page: its title, its headline, whether a plan exists, the text below the headline, facts as
 # pairs of a value and its words, findings as paragraphs, the picture or None, and sheets.
@@ -22,6 +25,11 @@ PROVED = (
     " nothing that isn't right: from the bytes of these texts to the bytes of answer.csv. How files"
     " and sheets became texts, and this page of the answer, isn't proved, but tested."
 )
+VERIFY = (
+    "<code>mcf_plan verify FOLDER</code> has mcfplan answer the tables again, and compares that,"
+    " byte for byte, with answer.csv. Without the folder of this plan, <code>mcf_plan {}</code>"
+    " gives the same answer.csv for the same tables."
+)
 
 
 def text(value):
@@ -33,7 +41,7 @@ class Writer:
     """Assembles a page from its parts."""
 
     def __init__(self, folder, mark, caption):
-        self.sum, self.mark, self.caption = sha256_of(folder / "answer.csv"), mark, caption
+        self.asked, self.mark, self.caption = asked.read(folder), mark, caption
 
     def html(self, page):
         """The whole page."""
@@ -92,7 +100,8 @@ class Writer:
     def seal(self):
         """The line below the headline: the answer that is proved."""
         return (
-            f'<p class="soft">Proved, from the tables to answer.csv <code>{self.sum[:16]}</code>'
+            '<p class="soft">Proved, from the tables to answer.csv'
+            f" <code>{self.asked.answer_sha256[:16]}</code>"
             ' (<a href="#proved">what that means</a>)</p>'
         )
 
@@ -157,17 +166,21 @@ class Writer:
         )
 
     def proof(self):
-        """The section on what is proved, and what is trusted."""
-        return (
-            f'<section id="proved"><h2>What is proved</h2><p>{text(PROVED)}</p><dl><dt>answer.csv'
-            f'</dt><dd><code>{self.sum}</code></dd></dl><p class="soft">This is SHA-256.</p>'
-            "</section>"
+        """The section on what is proved, and what is trusted, with the checksums of the files."""
+        names = [line_of(os.path.basename(file.name)) for file in self.asked.tables]
+        call = shlex.join([self.asked.command, *names, "-o", "FOLDER"])
+        call = f"{call} {asked.options_text(self.asked)}".strip()
+        sums = [file.sha256 for file in self.asked.tables] + [self.asked.answer_sha256]
+        sums = "".join(
+            f"<dt>{text(name)}</dt><dd><code>{sha256}</code></dd>"
+            for name, sha256 in zip([*names, "answer.csv"], sums)
         )
-
-
-def sha256_of(path):
-    """The SHA-256 of a file."""
-    return hashlib.sha256(path.read_bytes()).hexdigest()
+        return (
+            f'<section id="proved"><h2>What is proved</h2><p>{text(PROVED)}</p>'
+            f"<p>{VERIFY.format(text(call))}</p>"
+            f'<dl>{sums}</dl><p class="soft">These are SHA-256, of the tables as they were read and'
+            " of their answer.</p></section>"
+        )
 
 
 def finding(sentence, figures, cure):

@@ -1,6 +1,7 @@
 """The texts of tables: of files and of sheets, with the heads that the options name."""
 import collections
 import csv
+import hashlib
 import io
 import itertools
 import pathlib
@@ -37,11 +38,12 @@ OTHER_FILES = {
 class Table:
     """A table as a text in UTF-8, in Unicode normal form C. `has_mark` says whether its file
     has a byte-order mark; `own` has the user's titles by those that replace them in the text;
-    `figures` has the numbers of a sheet by their lines and places."""
+    `figures` has the numbers of a sheet by their lines and places; `sha256` is that of
+    its file, once it was read."""
 
     def __init__(self, name, text, has_mark=False, book=None, figures=None):
         self.name, self.has_mark, self.book, self.figures = name, has_mark, book, figures or {}
-        self.text, self.own = unicodedata.normalize("NFC", text), {}
+        self.text, self.own, self.sha256 = unicodedata.normalize("NFC", text), {}, None
         if not self.text.strip(BLANKS):
             raise bad_table(
                 f"{name}, line 1: the table is empty; its first line has the heads of the columns"
@@ -190,6 +192,7 @@ def tables_of(paths, wanted, reading, faults):
             text = text_of(path, data, reading.encoding, faults)
             begins = data.startswith((b"\xef\xbb\xbf", b"\xff\xfe", b"\xfe\xff"))
             found.append(Table(str(path), text, begins))
+        found[-1].sha256 = hashlib.sha256(data).hexdigest()
     for head, own in reading.heads.items():
         if not any([table.call(head, own) for table in found]):
             others = "".join(f", nor in {table.name}" for table in found[:-1])

@@ -1,0 +1,85 @@
+"""What the plan of a folder was asked of: its asked.json, by which `verify` asks again."""
+import collections
+import hashlib
+import json
+import os
+import pathlib
+import shlex
+
+from .faults import bad_table
+from .words import line_of
+
+NAME, FORMAT = "asked.json", 1
+# The options that change what `mcfplan` reads or answers, with their types: those of all commands,
+# of which `map` has the user's heads by the wanted ones, and those of each.
+TEXT = (str, type(None))
+READING = {"decimal": TEXT, "encoding": TEXT, "map": dict}
+OPTIONS = {
+    "flow": {**READING, "unused": bool, "short": bool, "penalty": TEXT},
+    "pairs": {**READING, "each": TEXT, "maximise": bool},
+}
+# The command, the files of its tables, its options, and the SHA-256 of answer.csv.
+Asked = collections.namedtuple("Asked", "command tables options answer_sha256")
+File = collections.namedtuple("File", "name sha256")
+
+
+def sha256_of(data):
+    """The SHA-256 of bytes."""
+    return hashlib.sha256(data).hexdigest()
+
+
+def note(folder, asking, answer):
+    """Writes asked.json for a run and the bytes of its answer. All options are as `Asking` has
+    them: supplies may stay, or may not."""
+    options = {name: getattr(asking.options, name) for name in OPTIONS[asking.command]}
+    options["map"] = asking.reading.heads
+    files = [
+        File(os.path.abspath(path), table.sha256)._asdict()
+        for path, table in zip(asking.options.tables, asking.tables)
+    ]
+    asked = Asked(asking.command, files, options, sha256_of(answer))
+    text = json.dumps({"format": FORMAT, **asked._asdict()}, indent=1)
+    (folder / NAME).write_text(text + "\n", encoding="utf-8")
+
+
+def read(name):
+    """What the plan of a folder was asked of."""
+    path = pathlib.Path(name, NAME)
+    try:
+        found = json.loads(path.read_bytes())
+        if found.pop("format") == FORMAT:
+            found["tables"] = [File(**one) for one in found["tables"]]
+            if is_well_formed(Asked(**found)):
+                return Asked(**found)
+    except FileNotFoundError:
+        is_plan = path.with_name("answer.csv").exists()
+        why = ", as an older version made it: make the plan again" if is_plan else ""
+        raise bad_table(f"{name}: this folder has no {NAME}{why}")
+    except OSError as error:
+        raise bad_table(f"{name}: its {NAME} can't be read: {error.strerror}")
+    except (AttributeError, LookupError, RecursionError, TypeError, ValueError):
+        pass
+    raise bad_table(f"{name}: its {NAME} isn't as this version writes it: make the plan again")
+
+
+def options_text(asked):
+    """The options as on the command line, except those that have their default."""
+    words = []
+    for name, value in asked.options.items():
+        values = [f"{head}={own}" for head, own in value.items()] if name == "map" else [value]
+        for one in filter(None, values):
+            said = [] if name == "maximise" else ["allow" if one is True else one]
+            words += [f"--{name}", *said]
+    return line_of(shlex.join(words))
+
+
+def is_well_formed(asked):
+    """Whether all parts of what was read have their types."""
+    kinds, options = OPTIONS[asked.command], asked.options
+    texts = [text for file in asked.tables for text in file] + [*options["map"].values()]
+    return (
+        len(asked.tables) > 0
+        and options.keys() == kinds.keys()
+        and all(isinstance(options[name], kind) for name, kind in kinds.items())
+        and all(isinstance(text, str) for text in texts)
+    )
