@@ -114,10 +114,8 @@ export class Blocked {
       const others = this.all().filter((node) => !set.has(node)), other = OTHER_SIDE[side];
       choices[other] = this.network.blockingParts(other, new Set(others));
     }
-    const count = (/** @type {Bottleneck[]} */ found) => found.reduce(
-      (sum, { nodes }) => sum + new Set(nodes.map((node) => this.nodeName(node))).size,
-      0
-    );
+    const count = (/** @type {Bottleneck[]} */ found) =>
+      found.reduce((sum, one) => sum + this.placesOf(one).length, 0);
     const { send = [], take = [] } = choices;
     return !send.length || (take.length && count(take) < count(send)) ? take : send;
   }
@@ -147,8 +145,11 @@ export class Blocked {
     return [{ side, nodes, must, can: 0n, forcing: [], limiting: [] }, ...this.bottlenecks];
   }
 
-  /** @type {(node: number) => string} */
-  nodeName(node) { return this.problem.places[this.network.placeOf[node - 1]].name; }
+  // This method returns the numbers from 0 of the places of a bottleneck.
+  /** @type {(found: Bottleneck) => number[]} */
+  placesOf({ nodes }) {
+    return [...new Set(nodes.map((node) => this.network.placeOf[node - 1]))].sort((a, b) => a - b);
+  }
 
   // This method returns the names of the ends of what joins nodes.
   /** @type {(joint: Joint) => string[]} */

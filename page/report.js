@@ -102,14 +102,16 @@ export function bottleneckTable(blocked) {
   const said = (/** @type {bigint} */ number) => problem.units.amount(number);
   /** @type {string[][]} */
   const rows = [];
-  blocked.findings().forEach(({ side, nodes, forcing, limiting }, k) => {
-    const sign = side === 'send' ? 1n : -1n, begin = [String(k + 1), side], supplies = new Map();
+  blocked.findings().forEach((found, k) => {
+    const { side, nodes, forcing, limiting } = found, begin = [String(k + 1), side];
+    const sign = side === 'send' ? 1n : -1n, supplies = new Map();
     for (const node of nodes) {
-      const name = blocked.nodeName(node);
-      supplies.set(name, (supplies.get(name) || 0n) + sign * network.supplies[node - 1]);
+      const place = network.placeOf[node - 1], before = supplies.get(place) || 0n;
+      supplies.set(place, before + sign * network.supplies[node - 1]);
     }
-    for (const [name, supply] of supplies) {
-      rows.push([...begin, 'place', name, '', '', said(supply), '']);
+    for (const place of blocked.placesOf(found)) {
+      const { name } = problem.places[place];
+      rows.push([...begin, 'place', name, '', '', said(supplies.get(place)), '']);
     }
     for (const joint of forcing) {
       rows.push([...begin, ...jointCells(blocked, joint), said(joint.least), '']);
@@ -192,7 +194,7 @@ export function balanceSentence(problem) {
 /** @type {(blocked: Blocked, found: Bottleneck) => string} */
 export function bottleneckSentence(blocked, found) {
   const said = (/** @type {bigint} */ number) => blocked.problem.said.amount(number);
-  const places = [...new Set(found.nodes.map((node) => blocked.nodeName(node)))];
+  const places = blocked.placesOf(found).map((place) => blocked.problem.places[place].name);
   const jointName = (/** @type {Joint} */ joint) => {
     const ends = blocked.ends(joint);
     return joint.kind === 'through' ? `through ${ends[0]}` : ends.join(' -> ');

@@ -86,7 +86,7 @@ function linkOf(plan, k, widest) {
 // neighbours.
 /** @type {(blocked: Blocked, caption: Caption) => Scene} */
 export function blockedScene(blocked, caption) {
-  const { problem, network } = blocked, { amount: said } = figuresOf(problem);
+  const { problem } = blocked, { amount: said } = figuresOf(problem);
   const marked = markedOf(blocked);
   /** @type {SceneLink[]} */
   const links = problem.routes.map((route, number) => {
@@ -107,7 +107,7 @@ export function blockedScene(blocked, caption) {
     return { ...node, note: [node.note, limit].filter(Boolean).join(', ') };
   });
   const groups = blocked.bottlenecks.map((found) =>
-    new Set(found.nodes.map((node) => network.placeOf[node - 1]))
+    new Set(blocked.placesOf(found))
   );
   const scene = {
     heading: `No plan exists: ${whyBlocked(blocked)}`,

@@ -3,8 +3,8 @@ from . import report
 from .caption import shown_number
 from .figures import Figure, figure
 from .notes import notes_of
-from .problem import THROUGH
 from .page import Page, Share, Sheet, finding, listed_rows
+from .problem import THROUGH
 from .results import kept
 from .scene import blocked_heading
 from .words import listed

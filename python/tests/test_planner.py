@@ -200,7 +200,7 @@ class Planner(WithFolder):
                     cost = re.search(r"cost (−?-?[0-9]+(?:[.,][0-9]+)?)", said)[1]
                     told = next(row[1] for row in rows if row[0] == "cost")
                     self.assertEqual(float(told), value_in(cost))
-                self.assertEqual(repeated(rows), {} if status == 2 else tables)
+                self.assertEqual(repeated(rows), tables)
                 statuses.append(status)
         self.assertLess(30, statuses.count(0))
         self.assertLess(10, statuses.count(1))
@@ -224,7 +224,7 @@ class Planner(WithFolder):
                     pairs = [float(row[5]) for row in rows if row[0] == "pair"]
                     self.assertEqual(float(told), value_in(cost))
                     self.assertEqual(float(told), sum(pairs))
-                self.assertEqual(repeated(rows), {} if status == 2 else {"costs": table})
+                self.assertEqual(repeated(rows), {"costs": table})
                 if status == 1:
                     self.assertTrue(competes(rows))
                 statuses.append(status)
