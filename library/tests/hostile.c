@@ -1,9 +1,11 @@
-/* Tests hostile texts, arrays and cost matrices. All arguments lie at the edge of accessible
-   memory, and inputs are read-only. Texts are noise, or examples that are cut off or changed;
-   arrays have numbers at the limits and beyond them; matrices have up to four lines, with shapes
-   that don't fit, too, of whole numbers and of doubles. The test compares the answers with the
-   definitions, which it implements again. The first word is the number of rounds, and the others
-   are instance texts. Ends with 0, or names the line of the first check that fails. */
+/* Tests hostile texts, arrays, cost matrices and tables. All arguments lie at the edge of
+   accessible memory, and inputs are read-only. Texts are noise, or examples that are cut off or
+   changed; arrays have numbers at the limits and beyond them; matrices have up to four lines, with
+   shapes that don't fit, too, of whole numbers and of doubles. The test compares the answers with
+   the definitions, which it implements again. Tables have up to six places, persons or things,
+   without a fault or with odd cells and changed bytes; the test compares the form of their answers.
+   The first word is the number of rounds, and the others are instance texts. Ends with 0, or names
+   the line of the first check that fails. */
 #define _DEFAULT_SOURCE
 #include "mcf.h"
 
@@ -26,7 +28,7 @@ enum { MANY = 6, SIZE = 1 << 20, ROOM = 1 << 26, PAGE = 1 << 16 };
 
 static const int64_t BOUND = INT64_C(1000000000000000000), COST = INT64_C(1000000000000000);
 static const struct mcf_choice standard = {0, 0, 0, 0, 0};
-static long round_now, outcomes[12];
+static long round_now, outcomes[13];
 
 static uint64_t chance(uint64_t below) {
     static uint64_t state = 88172645463325252u;
@@ -1079,6 +1081,471 @@ static void try_shapes(void) {
     CHECK(mcf_check_matrix(&matrix, none, 0, zero, 0, zero, 0) == MCF_INVALID_INPUT);
 }
 
+/* ---- tables of places and routes, and of persons and things */
+
+enum { ROWS = 6, LONGEST = 3000 };
+
+/* How a table is written: the byte between cells, the mark before decimals, the end of lines, how
+   many of eight cells stand between quotes, and whether each cell is one that has no fault. */
+static struct {
+    char separator, mark;
+    const char *line_end;
+    uint64_t quoted;
+    int is_plain;
+} style;
+
+/* How many bytes of the text are written, and whether a cell of its last row is. */
+static size_t written;
+static int is_in_row;
+
+static char long_cell[LONGEST + 1];
+
+static void make_style(void) {
+    static const char separators[] = ",;\t", *const ends[] = {"\n", "\r\n", "\r"};
+    style.separator = separators[chance(3)];
+    style.mark = chance(2) ? '.' : ',';
+    style.line_end = ends[chance(3)];
+    style.quoted = chance(3) ? 0 : chance(9);
+    style.is_plain = chance(2) == 0;
+}
+
+static void put(const char *word) {
+    size_t length = strlen(word);
+    memcpy(text + written, word, length);
+    written += length;
+}
+
+static const char *odd_cell(void) {
+    static const char *const cells[] = {"",
+                                        "-",
+                                        "x",
+                                        "A",
+                                        "no",
+                                        "+1",
+                                        "-0",
+                                        "-7",
+                                        "1e3",
+                                        "1,5",
+                                        "1.000",
+                                        "1 000",
+                                        "1.2.3",
+                                        "0..2",
+                                        "3..1",
+                                        "inf",
+                                        "\342\210\2221",
+                                        "\xd9\xa1",
+                                        "\xff",
+                                        "\xc3",
+                                        "\xef\xbb\xbf",
+                                        "\"",
+                                        "a\nb",
+                                        "\r\n\"route\",\"",
+                                        "sep=;",
+                                        "0.0000000000000000000000000000000000000001",
+                                        "1000000000000000",
+                                        "1000000000000000001",
+                                        "-999999999999999999999999999999",
+                                        "99999999999999999999999999999999999999999"};
+    return chance(20) ? cells[chance(sizeof cells / sizeof *cells)] : long_cell;
+}
+
+/* Writes a cell, between quotes if it needs them; sometimes an odd one in its place. */
+static void put_cell(const char *cell) {
+    const char between[] = {style.separator, 0};
+    int is_quoted;
+    if (!style.is_plain && chance(24) == 0) cell = odd_cell();
+    is_quoted =
+        strpbrk(cell, "\"\r\n") || strchr(cell, style.separator) || chance(8) < style.quoted;
+    if (is_in_row) put(between);
+    is_in_row = 1;
+    if (is_quoted) put("\"");
+    for (; *cell; cell++) {
+        text[written++] = (uint8_t)*cell;
+        if (*cell == '"') put("\"");
+    }
+    if (is_quoted) put("\"");
+}
+
+static void end_row(void) {
+    put(style.line_end);
+    is_in_row = 0;
+}
+
+/* Writes so many tenths. */
+static void put_tenths(int64_t tenths) {
+    char cell[32];
+    int size = (int)(tenths < 0 ? -tenths : tenths);
+    sprintf(cell, "%s%d%c%d", tenths < 0 ? "-" : "", size / 10, style.mark, size % 10);
+    if (size % 10 == 0) sprintf(cell, "%s%d", tenths < 0 ? "-" : "", size / 10);
+    put_cell(cell);
+}
+
+/* Writes a number from the first to the second, with a decimal or without one. */
+static int64_t put_between(int64_t from, int64_t to) {
+    int64_t tenths = from * 10 + (int64_t)chance((uint64_t)(to - from) * 10 + 1);
+    if (chance(2)) tenths -= tenths % 10;
+    put_tenths(tenths);
+    return tenths;
+}
+
+static void put_heads(const char *const *heads, size_t count) {
+    size_t k;
+    written = 0;
+    if (chance(8) == 0) put("\xef\xbb\xbf");
+    for (k = 0; k < count; k++) put_cell(heads[k]);
+    end_row();
+}
+
+static const char *const names[ROWS] = {"Mill", "B", "\xc3\x96st, 2", "Werk \"C\"", "x", "0"};
+
+/* Writes a table of so many places, whose supplies most often have the sum 0. */
+static void put_places(size_t count) {
+    static const char *const heads[] = {"name", "supply", "least", "most", "cost"};
+    int64_t sum = 0, tenths;
+    int has_bounds = chance(3) == 0, is_even = chance(4) > 0;
+    size_t k;
+    put_heads(heads, has_bounds ? 5 : 2);
+    for (k = 0; k < count; k++) {
+        put_cell(names[k]);
+        if (k + 1 == count && is_even)
+            put_tenths(-sum);
+        else
+            tenths = put_between(-4, 4), sum += tenths;
+        if (has_bounds && chance(2)) {
+            put_between(0, 1);
+            put_between(1, 9);
+            put_between(0, 3);
+        }
+        end_row();
+    }
+}
+
+/* Writes a table of routes between so many places, in one direction or both, with up to two steps
+   of cost. In some tables no cost is below 0, and routes may have no limit. */
+static void put_routes(size_t count) {
+    static const char *const heads[] = {"from", "to",     "most",   "cost",
+                                        "both", "most 2", "cost 2", "least"};
+    static const size_t widths[] = {4, 5, 7, 8};
+    size_t k, columns = widths[chance(4)], rows = count ? 1 + chance(2 * ROWS) : 0;
+    int may_be_free = chance(3) == 0;
+    put_heads(heads, columns);
+    for (k = 0; k < rows; k++) {
+        int is_both = columns > 4 && chance(3) == 0,
+            is_free = may_be_free && columns < 7 && chance(3) == 0;
+        put_cell(names[chance(count)]);
+        put_cell(names[chance(count)]);
+        if (is_free)
+            put_cell("");
+        else
+            put_between(1, 9);
+        put_between(is_both || may_be_free ? 0 : -2, 3);
+        if (columns > 4) put_cell(is_both ? "yes" : "");
+        if (columns > 6) {
+            put_between(1, 9);
+            put_between(3, 5);
+        }
+        if (columns > 7) put_cell(is_both || chance(2) ? "" : "1");
+        end_row();
+        if (chance(16) == 0) end_row();
+    }
+}
+
+static void put_range(void) {
+    static const char *const ranges[] = {"", "0..1", "0..2", "1", "1..3", "2"};
+    put_cell(ranges[chance(6)]);
+}
+
+static void put_needs(size_t things) {
+    size_t j;
+    put_cell("needs");
+    for (j = 0; j < things; j++) put_range();
+    end_row();
+}
+
+/* Writes a matrix of costs, in which some pairs are forbidden. */
+static void put_matrix(size_t persons, size_t things) {
+    static const char *const letters[ROWS] = {"U", "V", "W", "X", "Y", "Z"};
+    const char *heads[ROWS + 2] = {""};
+    int has_takes = (int)chance(2), has_needs = (int)chance(2);
+    size_t i, j;
+    for (j = 0; j < things; j++) heads[1 + j] = letters[j];
+    heads[1 + things] = "takes";
+    put_heads(heads, 1 + things + (size_t)has_takes);
+    for (i = 0; i < persons; i++) {
+        put_cell(names[i]);
+        for (j = 0; j < things; j++)
+            if (chance(5) == 0)
+                put_cell(chance(2) ? "x" : "-");
+            else
+                put_between(-3, 9);
+        if (has_takes) put_range();
+        end_row();
+    }
+    if (has_needs) put_needs(things);
+}
+
+/* Writes a list of pairs: some of those of the persons with the things. */
+static void put_list(size_t persons, size_t things) {
+    static const char *const heads[] = {"who", "what", "cost", "takes", "needs"};
+    size_t columns = 3 + chance(3), place;
+    put_heads(heads, columns);
+    for (place = 0; place < persons * things; place++) {
+        if (place > 0 && chance(4) == 0) continue;
+        put_cell(names[place / things]);
+        put_cell(names[place % things]);
+        if (chance(9) == 0)
+            put_cell("");
+        else
+            put_between(-3, 9);
+        if (columns > 3) put_cell(place / things % 2 ? "1" : "0..2");
+        if (columns > 4) put_cell(place % things % 2 ? "1..2" : "");
+        end_row();
+    }
+}
+
+/* Cuts the text off, changes a byte, or inserts a quote or an odd cell. */
+static void spoil(void) {
+    size_t place = chance(written + 1), count;
+    const char *cell = chance(3) ? odd_cell() : "\"";
+    count = strlen(cell);
+    switch (chance(6)) {
+    case 0:
+        written = place;
+        break;
+    case 1:
+        if (place < written) text[place] = (uint8_t)chance(256);
+        break;
+    case 2:
+        if (place < written) text[place] = (uint8_t) "\"\r\n,;\t .-0"[chance(10)];
+        break;
+    case 3:
+        memmove(text + place + count, text + place, written - place);
+        memcpy(text + place, cell, count);
+        written += count;
+    }
+}
+
+/* Writes noise up to a length: random bytes of an alphabet, or any. */
+static void put_noise(const char *alphabet, size_t length) {
+    size_t count = strlen(alphabet);
+    while (written < length)
+        text[written++] = (uint8_t)(count ? alphabet[chance(count)] : (int)chance(256));
+}
+
+/* The bytes before an end that a call reads are the text, spoiled unless the table is plain. */
+static const uint8_t *table_at(uint8_t *end, size_t *length) {
+    size_t changes = style.is_plain ? 0 : chance(3);
+    for (; changes > 0; changes--) spoil();
+    if (!style.is_plain && chance(16) == 0) put_noise("\"\r\n,;\t .-0123x", written + chance(200));
+    *length = written;
+    return at_edge(end, text, written);
+}
+
+/* What a call for tables is asked. */
+static struct {
+    int is_pairs, is_meant;
+    const uint8_t *tables[2];
+    size_t lengths[2];
+    struct mcf_plan_options flow;
+    struct mcf_pair_options pairs;
+} asked;
+
+/* A number for an option below a limit; rarely one without a meaning. */
+static uint32_t option(uint32_t limit) {
+    uint32_t number = chance(40)  ? (uint32_t)chance(limit)
+                      : chance(2) ? limit
+                                  : UINT32_MAX - (uint32_t)chance(3);
+    asked.is_meant = asked.is_meant && number < limit;
+    return number;
+}
+
+/* Chooses a penalty, and sees whether it is a number by the mark that is asked for. Without one,
+   1.500 may also be 1500. */
+static void make_penalty(void) {
+    static const struct {
+        const char *text;
+        int is_plain, is_meant[3];
+    } penalties[] = {{"0", 1, {1, 1, 1}},
+                     {"30", 1, {1, 1, 1}},
+                     {"2.5", 1, {1, 1, 0}},
+                     {"2,5", 1, {0, 0, 1}},
+                     {"1.500", 1, {0, 1, 1}},
+                     {"1 000", 1, {1, 1, 1}},
+                     {"-1", 0, {1, 1, 1}},
+                     {"1000000000000000000000000000000", 0, {1, 1, 1}},
+                     {"0.000000000000000000000000000001", 0, {1, 1, 0}},
+                     {"99999999999999999999999999999999999999999", 1, {0, 0, 0}},
+                     {"1e3", 1, {0, 0, 0}},
+                     {" 1", 1, {0, 0, 0}},
+                     {"\xff", 1, {0, 0, 0}}};
+    size_t place = chance(sizeof penalties / sizeof *penalties);
+    const char *penalty = chance(4) ? "" : penalties[place].text;
+    asked.flow.penalty_length = strlen(penalty);
+    asked.flow.penalty = at_edge(supply_end, penalty, strlen(penalty));
+    if (*penalty == 0) return;
+    style.is_plain = style.is_plain && penalties[place].is_plain;
+    asked.is_meant =
+        asked.is_meant && asked.flow.decimal < 3 && penalties[place].is_meant[asked.flow.decimal];
+}
+
+/* The number of a mark: that of the tables, or none, if they are plain. */
+static uint32_t mark_option(void) {
+    uint32_t number = option(3);
+    if (style.is_plain && number < 3 && number > 0)
+        number = style.mark == '.' ? MCF_POINT : MCF_COMMA;
+    return number;
+}
+
+static void make_flow_tables(void) {
+    size_t count = chance(ROWS + 1);
+    asked.is_pairs = 0, asked.is_meant = 1;
+    asked.flow.decimal = mark_option();
+    asked.flow.allow_unused = option(2);
+    asked.flow.allow_short = option(2);
+    make_penalty();
+    put_places(count);
+    asked.tables[0] = table_at(input_end, &asked.lengths[0]);
+    put_routes(count);
+    asked.tables[1] = table_at(answer_end, &asked.lengths[1]);
+}
+
+static void make_pair_table(void) {
+    size_t persons = 1 + chance(ROWS), things = 1 + chance(ROWS);
+    asked.is_pairs = 1, asked.is_meant = 1;
+    asked.pairs.decimal = mark_option();
+    asked.pairs.each = option(4);
+    asked.pairs.maximise = option(2);
+    if (chance(2))
+        put_matrix(persons, things);
+    else
+        put_list(persons, things);
+    asked.tables[0] = table_at(input_end, &asked.lengths[0]);
+}
+
+/* Makes the tables and the penalty read-only, or writable again. */
+static void protect_tables(int how) {
+    protect(input_end, asked.lengths[0] / PAGE * PAGE + PAGE, how);
+    protect(answer_end, asked.lengths[1] / PAGE * PAGE + PAGE, how);
+    protect(supply_end, PAGE, how);
+}
+
+static uint32_t plan_tables(uint8_t *room, size_t size, size_t *used) {
+    uint32_t status;
+    protect_tables(PROT_READ);
+    if (asked.is_pairs)
+        status = mcf_plan_pairs(asked.tables[0], asked.lengths[0], &asked.pairs, room, size, used);
+    else
+        status = mcf_plan_flow(asked.tables[0], asked.lengths[0], asked.tables[1], asked.lengths[1],
+                               &asked.flow, room, size, used);
+    protect_tables(PROT_READ | PROT_WRITE);
+    return status;
+}
+
+/* Room for so many bytes at the edge of memory, all 7. */
+static uint8_t *room_of(size_t size) { return memset(room_end - size, 7, size); }
+
+static int are_sevens(const uint8_t *room, size_t size) {
+    return size == 0 || (room[0] == 7 && memcmp(room, room + 1, size - 1) == 0);
+}
+
+/* The place after the row at a place of an answer, each of whose cells stands between quotes. */
+static size_t after_row(const uint8_t *answer, size_t used, size_t place) {
+    for (;;) {
+        CHECK(place < used && answer[place] == '"');
+        for (place++; place + 1 < used; place++) {
+            if (answer[place] == '"' && answer[place + 1] != '"') break;
+            place += answer[place] == '"';
+        }
+        CHECK(place + 1 < used && (answer[place + 1] == ',' || answer[place + 1] == '\n'));
+        place += 2;
+        if (answer[place - 1] == '\n') return place;
+    }
+}
+
+/* How many rows of an answer begin with these bytes. */
+static size_t rows_with(const uint8_t *answer, size_t used, const char *bytes) {
+    size_t place = 0, rows = 0, length = strlen(bytes);
+    while (place < used) {
+        rows += used - place >= length && memcmp(answer + place, bytes, length) == 0;
+        place = after_row(answer, used, place);
+    }
+    return rows;
+}
+
+/* The rows of an answer are those of its status: a plan has a row for each place and each route
+   of the tables that it repeats, and a choice has one for each person and each thing. */
+static void check_answer(uint32_t status, const uint8_t *answer, size_t used) {
+    static const char *const begins[] = {"\"answer\",\"plan\"\n", "\"answer\",\"no plan\"\n",
+                                         "\"answer\",\"faults\"\n"};
+    char sizes[80];
+    size_t routes = rows_with(answer, used, "\"route\",");
+    CHECK(used >= strlen(begins[status]));
+    CHECK(memcmp(answer, begins[status], strlen(begins[status])) == 0);
+    CHECK(rows_with(answer, used, "\"answer\",") == 1);
+    CHECK(rows_with(answer, used, "\"cost\",") == (status == MCF_FLOW));
+    CHECK(rows_with(answer, used, "\"side\",") == (status == MCF_BLOCKED));
+    CHECK((rows_with(answer, used, "\"fault\",") > 0) == (status == MCF_INVALID_INPUT));
+    if (status > MCF_FLOW) return;
+    if (!asked.is_pairs) {
+        CHECK(routes == rows_with(answer, used, "\"row\",\"routes\","));
+        CHECK(rows_with(answer, used, "\"place\",") ==
+              rows_with(answer, used, "\"row\",\"places\","));
+        return;
+    }
+    sprintf(sizes, "\"persons\",\"%lu\"\n", (unsigned long)rows_with(answer, used, "\"person\","));
+    CHECK(rows_with(answer, used, sizes) == 1);
+    sprintf(sizes, "\"things\",\"%lu\"\n", (unsigned long)rows_with(answer, used, "\"thing\","));
+    CHECK(rows_with(answer, used, sizes) == 1);
+}
+
+/* Plans tables in rooms that are empty, too short, longer than the answer, and just as long. */
+static void try_tables(void) {
+    size_t used = 77, again = 77, more = chance(40), less;
+    uint8_t *room = room_of(more), *other;
+    uint32_t status = plan_tables(room, asked.is_meant ? 0 : more, &used);
+    CHECK(are_sevens(room, more));
+    CHECK((status == MCF_INVALID_CHOICE) == !asked.is_meant);
+    if (!asked.is_meant) {
+        CHECK(used == 0);
+        outcomes[12]++;
+        return;
+    }
+    CHECK(status == MCF_BUFFER_TOO_SMALL && used > 0 && used <= ROOM / 4);
+    less = 1 + chance(used);
+    room = room_of(used - less);
+    CHECK(plan_tables(room, used - less, &again) == MCF_BUFFER_TOO_SMALL && again == used);
+    CHECK(are_sevens(room, used - less));
+    again = 77;
+    room = room_of(used + more);
+    status = plan_tables(room, used + more, &again);
+    CHECK(status <= MCF_INVALID_INPUT && again == used && are_sevens(room + used, more));
+    check_answer(status, room, used);
+    if (style.is_plain) CHECK(status != MCF_INVALID_INPUT);
+    other = memcpy(room_end - ROOM / 2, room, used);
+    again = 77;
+    room = memset(room_end - used, 9, used);
+    CHECK(plan_tables(room, used, &again) == status && again == used);
+    CHECK(memcmp(room, other, used) == 0);
+    outcomes[9 + status]++;
+}
+
+/* Plans tables of thirty thousand bytes: a beginning with noise after it. */
+static void try_long(const char *begin, const char *alphabet) {
+    static const struct mcf_plan_options flow = {0, 0, 0, NULL, 0};
+    static const struct mcf_pair_options pairs = {0, 0, 0};
+    written = 0;
+    put(begin);
+    put_noise(alphabet, 30000);
+    style.is_plain = 0;
+    asked.flow = flow, asked.pairs = pairs;
+    asked.flow.penalty = supply_end;
+    asked.is_meant = 1;
+    asked.lengths[0] = asked.lengths[1] = written;
+    asked.tables[0] = at_edge(input_end, text, written);
+    asked.tables[1] = at_edge(answer_end, text, written);
+    for (asked.is_pairs = 0; asked.is_pairs < 2; asked.is_pairs++) try_tables();
+}
+
 int main(int count, char **words) {
     long rounds = count > 1 ? atol(words[1]) : 0;
     input_end = edge(SIZE);
@@ -1092,12 +1559,21 @@ int main(int count, char **words) {
     try_overlap();
     memset(sevens_of, 7, sizeof sevens_of);
     try_shapes();
+    memset(long_cell, 'n', LONGEST);
     try_noise("", "");
     try_noise("", "\n");
     try_noise("", "0123456789");
     try_noise("p min 9 9\n", "0123456789 -\npna");
     try_noise("c", " \tc");
     try_noise("p min 1000000 10000000\n", "a 12\n");
+    try_long("", "");
+    try_long("", "\"");
+    try_long("", "\"\n,");
+    try_long("name,supply\n", ",;\n");
+    try_long("name,supply\n", "A,1\n");
+    try_long("from,to,most,cost\n", "A,1\n");
+    try_long("who,what,cost\n", "AB,\n");
+    try_long(",A,B,C,D,E\n", "F12,\n");
     for (round_now = 1; round_now <= rounds; round_now++) {
         make_flow_problem();
         now.rows = 0;
@@ -1111,11 +1587,19 @@ int main(int count, char **words) {
             try_assign();
             try_transport();
         }
+        make_style();
+        if (round_now % 2)
+            make_flow_tables();
+        else
+            make_pair_table();
+        try_tables();
         if (count > 2) try_changed(words[2 + chance((uint64_t)count - 2)]);
     }
     printf("texts: %ld flows, %ld sets, %ld refusals; arrays: %ld flows, %ld sets, %ld faults; "
-           "matrices: %ld least, %ld without, %ld faults\n",
+           "matrices: %ld least, %ld without, %ld faults; "
+           "tables: %ld plans, %ld without, %ld faults, %ld without a meaning\n",
            outcomes[0], outcomes[1], outcomes[2], outcomes[3], outcomes[4], outcomes[5],
-           outcomes[6], outcomes[7], outcomes[8]);
+           outcomes[6], outcomes[7], outcomes[8], outcomes[9], outcomes[10], outcomes[11],
+           outcomes[12]);
     return 0;
 }

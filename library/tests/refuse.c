@@ -56,8 +56,84 @@ static struct mcf_wide row_wides[20], column_wides[20];
 static struct mcf_planned_doubles told_doubles;
 static struct mcf_scale scale;
 static size_t length, used, nodes, arc_count;
+static uint32_t ended;
 static struct mcf_choice choice;
 static struct mcf_verdict verdict, before;
+
+/* Tables to plan, and the status of the answer: plans, none, and faults. */
+struct flow_case {
+    const char *places, *routes;
+    uint32_t status, decimal, allow_unused, allow_short;
+    const char *penalty;
+};
+
+static const struct flow_case flow_cases[] = {
+    /* A place with bounds, a second step, a route both ways, and a least amount. */
+    {"name,supply,least,most,cost\nMill,3,,,\nPort,,1,9,0.5\nTown,-3,,,\n",
+     "from,to,most,cost,both,most 2,cost 2,least\n"
+     "Mill,Port,1,1.5,,3,2,\nTown,Port,5,1,yes,,,\nMill,Town,1,9,,,,1\n",
+     MCF_FLOW, MCF_SHOWN_MARK, 0, 0, ""},
+    {"name,supply,most\nMill,3,\nPort,,9\nTown,-3,\n",
+     "from,to,most,cost\nMill,Port,5,1.5\nPort,Town,2,1\n", MCF_FLOW, MCF_SHOWN_MARK, 1, 1, ""},
+    {"name;supply\nMill;3\nTown;-5\n", "from;to;most;cost\n\"Mill\";Town;;1,5\n", MCF_FLOW,
+     MCF_COMMA, 0, 1, "2,5"},
+    {"name,supply\n", "from,to,most,cost\n", MCF_FLOW, MCF_POINT, 0, 0, ""},
+    {"name,supply,most\nMill,3,\nPort,,1\nTown,-3,\n",
+     "from,to,most,cost,both\nMill,Port,5,1.5,\nPort,Town,5,1,yes\n", MCF_BLOCKED, MCF_SHOWN_MARK,
+     0, 0, ""},
+    {"name,supply\nMill,3\nTown,-4\n", "from,to,most,cost\nMill,Town,9,1\n", MCF_BLOCKED,
+     MCF_SHOWN_MARK, 1, 0, ""},
+    {"name,supply,extra\nMill,x,\nMill,1.000,,1\n,1,\n",
+     "from,to,most,cost,most2\nMill,Town,-1,1e3,\n", MCF_INVALID_INPUT, MCF_SHOWN_MARK, 0, 0, ""},
+    {"name,supply,least,most,cost\nMill,3,2,1,-1\n",
+     "from,to,most,cost,least,both\nMill,Mill,,-1,1,yes\n", MCF_INVALID_INPUT, MCF_SHOWN_MARK, 0, 1,
+     "-1"},
+    {"name,supply\nMill,1000000000000000001\n",
+     "from,to,most,cost\nMill,Mill,0.00000000000000000000000000000000000001,1\n", MCF_INVALID_INPUT,
+     MCF_SHOWN_MARK, 0, 0, ""},
+    {"name,supply\n\"Mill,3\n", "\"from\"x", MCF_INVALID_INPUT, MCF_SHOWN_MARK, 0, 0, ""},
+    {"", "", MCF_INVALID_INPUT, MCF_SHOWN_MARK, 0, 0, ""}};
+
+struct pair_case {
+    const char *costs;
+    uint32_t status;
+    struct mcf_pair_options options;
+};
+
+static const struct pair_case pair_cases[] = {
+    {",X,Y,takes\nA,1,2.5,0..9\nB,3,4,0..1\nneeds,1,2,\n", MCF_FLOW, {MCF_SHOWN_MARK, 0, 1}},
+    {",X,Y,takes\nA,1,2.5,0..9\nB,3,4,0..1\nneeds,2,2,\n", MCF_BLOCKED, {MCF_SHOWN_MARK, 0, 1}},
+    {"who,what,cost,needs\nA,X,1,0..2\nA,Y,-2,\nB,X,x,\nB,Y,4,1..3\n", MCF_FLOW, {MCF_POINT, 0, 0}},
+    {";X;Y\nA;1,5;2\nB;x;-\nC;;1\n", MCF_BLOCKED, {MCF_COMMA, MCF_EACH_WHO, 0}},
+    {"who,what,cost\nA,X,1\nB,X,1\n", MCF_BLOCKED, {MCF_SHOWN_MARK, MCF_EACH_BOTH, 1}},
+    {",X,X\nA,1,z,9\nA,1.000,1e3\n", MCF_INVALID_INPUT, {MCF_SHOWN_MARK, MCF_EACH_WHAT, 0}},
+    {"who,what,cots,takes\nA,X,1,3..1\nA,X,,2\n", MCF_INVALID_INPUT, {MCF_SHOWN_MARK, 0, 0}},
+    {"who,what,cost,takes\nA,X,1,3..1\nA,X,2,z\n,Y,1000000000000000000001,\n",
+     MCF_INVALID_INPUT,
+     {MCF_SHOWN_MARK, 0, 0}},
+    {"\"A", MCF_INVALID_INPUT, {MCF_SHOWN_MARK, 0, 0}}};
+
+enum {
+    FLOW_CASES = sizeof flow_cases / sizeof *flow_cases,
+    PAIR_CASES = sizeof pair_cases / sizeof *pair_cases
+};
+
+static const struct flow_case *flow_case = flow_cases;
+static const struct pair_case *pair_case = pair_cases;
+
+static const uint8_t *bytes_of(const char *word) { return (const uint8_t *)word; }
+
+static uint32_t plan_flow(void) {
+    struct mcf_plan_options options;
+    options.decimal = flow_case->decimal;
+    options.allow_unused = flow_case->allow_unused;
+    options.allow_short = flow_case->allow_short;
+    options.penalty = bytes_of(flow_case->penalty);
+    options.penalty_length = strlen(flow_case->penalty);
+    return mcf_plan_flow(bytes_of(flow_case->places), strlen(flow_case->places),
+                         bytes_of(flow_case->routes), strlen(flow_case->routes), &options, buffer,
+                         sizeof buffer, &used);
+}
 
 /* The calls, by number. Each writes only what its status allows. */
 static uint32_t call(int number) {
@@ -69,11 +145,6 @@ static uint32_t call(int number) {
     static const struct mcf_doubles double_matrix = {doubles, 400, 20, 20, 20};
     static const struct mcf_transport_doubles double_transport = {
         {doubles, 400, 20, 20, 20}, masses, 20, masses, 20};
-    static const uint8_t places[] = "name,supply,most\nMill,3,\nPort,,9\nTown,-3,\n";
-    static const uint8_t routes[] = "from,to,most,cost\nMill,Port,5,1.5\nPort,Town,2,1\n";
-    static const uint8_t persons[] = ",X,Y,takes\nA,1,2.5,0..9\nB,3,4,0..1\nneeds,2,2,\n";
-    static const struct mcf_plan_options leaves = {MCF_SHOWN_MARK, 1, 1, (const uint8_t *)"", 0};
-    static const struct mcf_pair_options asks = {MCF_SHOWN_MARK, MCF_EACH_AUTO, 1};
     problem.nodes = nodes;
     problem.arc_count = arc_count;
     switch (number) {
@@ -110,14 +181,15 @@ static uint32_t call(int number) {
         return mcf_check_transport_doubles(&double_transport, plan, told_doubles.used, row_wides,
                                            20, column_wides, 20, &told_doubles.scale);
     case 14:
-        return mcf_plan_flow(places, sizeof places - 1, routes, sizeof routes - 1, &leaves, buffer,
-                             sizeof buffer, &used);
+        return plan_flow();
     default:
-        return mcf_plan_pairs(persons, sizeof persons - 1, &asks, buffer, sizeof buffer, &used);
+        return mcf_plan_pairs(bytes_of(pair_case->costs), strlen(pair_case->costs),
+                              &pair_case->options, buffer, sizeof buffer, &used);
     }
 }
 
-/* Refuses the first allocation of a call, then the second, and so on, until a call succeeds. */
+/* Refuses the first allocation of a call, then the second, and so on, until a call succeeds, with
+   the status `ended`. */
 static int refuse_each(int number) {
     long step;
     for (step = 0;; step++) {
@@ -142,6 +214,7 @@ static int refuse_each(int number) {
         if (live != 0)
             return printf("refuse: call %d, refusal %ld: %ld blocks are lost\n", number, step,
                           live);
+        ended = status;
         if (status != MCF_NO_MEMORY) return 0;
         refusals++;
         if (memcmp(&verdict, &before, sizeof verdict) != 0)
@@ -199,6 +272,18 @@ static void forbid(void) {
         if (place % 20 > 0) costs[place] = INT64_MAX, doubles[place] = one / zero;
 }
 
+/* Plans the tables of all cases, each of which ends with its status. */
+static int refuse_tables(void) {
+    for (; flow_case < flow_cases + FLOW_CASES; flow_case++)
+        if (refuse_each(14) || ended != flow_case->status)
+            return printf("refuse: status %lu, tables\n%s%s", (unsigned long)ended,
+                          flow_case->places, flow_case->routes);
+    for (; pair_case < pair_cases + PAIR_CASES; pair_case++)
+        if (refuse_each(15) || ended != pair_case->status)
+            return printf("refuse: status %lu, table\n%s", (unsigned long)ended, pair_case->costs);
+    return 0;
+}
+
 int main(int count, char **words) {
     int place, number;
     memset(sevens, 7, sizeof sevens);
@@ -222,7 +307,7 @@ int main(int count, char **words) {
     /* The masses differ in total. */
     masses[0] = -1;
     if (refuse_each(8) || refuse_each(12)) return 1;
-    if (refuse_each(14) || refuse_each(15)) return 1;
+    if (refuse_tables()) return 1;
     choice.pricing = choice.check = 0;
     for (place = 1; place < count; place++) {
         FILE *file = fopen(words[place], "rb");
