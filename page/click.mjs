@@ -169,6 +169,37 @@ async function planner(page, { set, act, go, kind, example, ended }) {
   await set('routes', 'from\tto\tmost\tcost\nA\tB\t\t1,5\n');
   ({ text } = await go());
   expect(text.includes('Least cost: 3'), 'tables that were pasted, with tabs');
+  await set('places', 'name\tsupply\nA\t4000\nB\t-16000\n');
+  await set('unit', ' hl ');
+  await set('currency', '€');
+  const isAsked = () => page.run("!document.getElementById('penalty').disabled");
+  const early = await isAsked();
+  await page.run("document.getElementById('short').click()");
+  expect(!early && await isAsked(), 'a penalty is asked for where demands may be unmet');
+  await set('penalty', ' 2,5 ');
+  ({ text } = await go());
+  const heading = await page.run("document.querySelector('.picture svg text').textContent");
+  expect(
+    plain(text).includes('Least cost: 36000 €')
+      && /\b12000 hl\s*are missing/.test(plain(text))
+      && text.includes('12000 are missing at: B 12000, which costs 30000 of that.')
+      && plain(heading) === 'A least-cost plan: cost 36000 €',
+    `a penalty, with a unit and a currency: ${heading}`
+  );
+  await set('penalty', '2.5');
+  const other = await go();
+  expect(
+    other.status === 'unread'
+      && other.text.includes('penalty 2.5 under Choices: this is no cost, written as in the tables'),
+    'a penalty with another mark than the tables'
+  );
+  await page.run("document.getElementById('short').click()");
+  ({ text } = await go());
+  expect(
+    !await isAsked() && plain(text).startsWith('No plan exists: supply 4000 hl, demand 16000 hl'),
+    'and none where demands must be met'
+  );
+  for (const id of ['penalty', 'unit', 'currency']) await set(id, '');
   const dropped = (name, content) => `new File([${JSON.stringify(content)}], '${name}')`;
   const places = dropped('a.csv', 'name;supply\nÄ;3\nB;-3\n');
   const routes = dropped('b.csv', 'from;to;most;cost\nÄ;B;2;4\n');

@@ -4,6 +4,7 @@
 import {
   Said,
   Units,
+  ZERO,
   decimalsOf,
   exactOf,
   limitOf,
@@ -31,16 +32,19 @@ export class Problem {
    * @param {Answer} answer
    * @param {TableText[]} texts
    * @param {Reading} reading
+   * @param {string} [penalty] the cost of each missing unit, or ''
    */
-  constructor(answer, texts, reading) {
+  constructor(answer, texts, reading, penalty = '') {
     this.mark = answer.mark;
     this.reading = reading;
     this.placeTable = new Table(texts[0], answer.tables.get('places'));
     this.routeTable = new Table(texts[1], answer.tables.get('routes'));
     const places = placesOf(this.placeTable, this.mark);
     const routes = routesOf(this.routeTable, places, this.mark);
-    this.units = unitsOf(places, routes);
+    const price = penalty ? exactOf(penalty, this.mark) : null;
+    this.units = unitsOf(places, routes, price || ZERO);
     this.said = new Said(this.units, this.mark);
+    this.penalty = price && scaled(price, this.units.costs);
     this.places = places.map((place) => wholePlace(place, this.units));
     this.routes = routes.map((route) => wholeRoute(route, this.units));
   }
@@ -67,9 +71,10 @@ export class Problem {
 /** @type {(number: bigint) => bigint} */
 export const size = (number) => (number < 0n ? -number : number);
 
-// This function returns the units in which all amounts and all costs of the tables are whole.
-/** @type {(places: Place<Exact>[], routes: ReadRoute[]) => Units} */
-function unitsOf(places, routes) {
+// This function returns the units in which all amounts and all costs of the tables are whole, and
+// the penalty, too.
+/** @type {(places: Place<Exact>[], routes: ReadRoute[], penalty: Exact) => Units} */
+function unitsOf(places, routes, penalty) {
   const bounds = places.map((place) => place.bounds).filter(Boolean);
   const steps = [...routes.flatMap((route) => route.steps), ...bounds];
   const amounts = [
@@ -78,7 +83,7 @@ function unitsOf(places, routes) {
     ...bounds.map((part) => part.least),
     ...steps.map((part) => part.most).filter((most) => most !== null),
   ];
-  return new Units(decimalsOf(amounts), decimalsOf(steps.map((part) => part.cost)));
+  return new Units(decimalsOf(amounts), decimalsOf([...steps.map((part) => part.cost), penalty]));
 }
 
 /** @type {(step: Step<Exact>, units: Units) => Step} */

@@ -89,14 +89,19 @@ function choices() {
   );
   return {
     reading: { decimal: $('decimal').value || null, encoding: $('encoding').value || null, heads },
-    policy: { unused: $('unused').checked, short: $('short').checked },
+    policy: {
+      unused: $('unused').checked,
+      short: $('short').checked,
+      penalty: $('short').checked ? $('penalty').value.trim() : '',
+    },
     each: /** @type {Choices['each']} */ ($('each').value || null),
     maximise: $('maximise').checked,
     engine: $('engine').value,
   };
 }
 
-// This function returns the caption of a plan and its picture: the title, the date and the tables.
+// This function returns the caption of a plan and its picture: the title, the date and the tables,
+// and the units of amounts and of costs.
 /** @type {(kind: string) => Caption} */
 function captionOf(kind) {
   const now = new Date();
@@ -107,7 +112,8 @@ function captionOf(kind) {
     .map((part) => String(part).padStart(2, '0'))
     .join('-');
   const line = (/** @type {string} */ text) => text.replace(/[\u0000-\u001f\u007f]/g, ' ').trim();
-  return { title: line($('title').value), source: line(`${date}: ${names.join(', ')}`) };
+  const [title, unit, currency] = ['title', 'unit', 'currency'].map((id) => line($(id).value));
+  return { title, source: line(`${date}: ${names.join(', ')}`), unit, currency };
 }
 
 // This function takes files that were chosen or dropped. The beginning of a file shows which field
@@ -154,7 +160,10 @@ function example(number) {
   $('heads').value = heads;
   $('unused').checked = unused;
   $('short').checked = false;
-  $('title').value = $('decimal').value = $('encoding').value = $('each').value = '';
+  $('penalty').disabled = true;
+  for (const id of ['title', 'unit', 'currency', 'penalty', 'decimal', 'encoding', 'each']) {
+    $(id).value = '';
+  }
 }
 
 // ---- Running
@@ -252,13 +261,12 @@ const sealOf = ({ verdict }) => (
 // This function shows the title, the headline, the date, the tables, and why the answer can be
 // believed.
 /** @type {(shown: CaptionedRun) => Part[]} */
-const headOf = ({ isPlan, headline: [words, figure], mark, caption, result }) => [
+const headOf = ({ isPlan, headline, caption, result }) => [
   el(
     'h2',
     { class: isPlan ? null : 'none', role: 'status', tabindex: -1 },
     caption.title ? [caption.title, el('br')] : '',
-    words,
-    grouped(figure, mark)
+    headline(caption)
   ),
   el('p', { class: 'soft' }, caption.source),
   el('p', { class: 'soft', id: 'seal' }, sealOf(result)),
@@ -287,9 +295,10 @@ function show(shown, change, before) {
       ? el(
         'ul',
         { class: 'facts' },
-        shown.facts.map(([value, what]) =>
-          el('li', {}, el('b', {}, grouped(String(value), mark)), what)
-        )
+        shown.facts.map(([value, what, isAmount]) => {
+          const figure = grouped(String(value), mark, isAmount ? caption.unit : '');
+          return el('li', {}, el('b', {}, figure), what);
+        })
       )
       : null,
     shown.findings.map(findingOf),
@@ -408,6 +417,7 @@ function begin() {
     if ($('example').value !== '') { example(Number($('example').value)); go(); }
   };
   for (const radio of fields('input[name=kind]')) radio.onchange = () => chooseKind(radio.value);
+  $('short').onchange = () => { $('penalty').disabled = !$('short').checked; };
   for (const id of Object.keys(FIELDS)) {
     $(id).oninput = () => { files[id] = files[id] && { name: files[id].name }; };
   }

@@ -39,7 +39,7 @@ function after(name, like, results, rows) {
 /** @type {(plan: FlowPlan) => SavedTable} */
 export function flowsTable(plan) {
   const { problem } = plan;
-  const { units } = problem;
+  const { units, penalty } = problem;
   /** @type {[string[], string[]][]} */
   const rows = problem.routes.map((route, k) => [route.cells, cellsOf(plan, plan.routes[k])]);
   for (const isSupply of [true, false]) {
@@ -48,9 +48,10 @@ export function flowsTable(plan) {
         ['from', isSupply ? place.name : MISSING],
         ['to', isSupply ? STAYS : place.name],
       ]);
+      const cost = isSupply ? 0n : penalty === null ? null : penalty * amount;
       rows.push([
         problem.routeTable.heads.map((head) => ends.get(head) || ''),
-        [units.amount(amount), isSupply ? units.total(0n) : '', '', '', ''],
+        [units.amount(amount), units.total(cost), '', '', ''],
       ]);
     }
   }
@@ -283,16 +284,19 @@ export function savingsOf(plan) {
 /** @type {(plan: FlowPlan) => string[]} */
 function unmetLines(plan) {
   const said = (/** @type {bigint} */ number) => plan.problem.said.amount(number);
-  const { policy } = plan;
+  const { policy, problem } = plan;
   const lines = [];
   for (const isSupply of [true, false]) {
     if (!policy[isSupply ? 'unused' : 'short']) continue;
     const found = plan.unmet(isSupply);
-    const total = said(found.reduce((sum, [, unmet]) => sum + unmet, 0n));
+    const total = found.reduce((sum, [, unmet]) => sum + unmet, 0n);
+    const cost = isSupply || !problem.penalty
+      ? ''
+      : `, which costs ${problem.said.total(total * problem.penalty)} of that`;
     const where = listed(found.map(([place, unmet]) => `${place.name} ${said(unmet)}`));
     lines.push(
       found.length
-        ? `${total} ${isSupply ? 'stay' : 'are missing'} at: ${where}.`
+        ? `${said(total)} ${isSupply ? 'stay' : 'are missing'} at: ${where}${cost}.`
         : `Nothing ${isSupply ? 'stays' : 'is missing'}.`
     );
   }

@@ -10,21 +10,25 @@ import {
   textBlocked,
   textShown,
 } from './sheets.js';
+import { markIn } from './amounts.js';
 import { Answer } from './answer.js';
 import { Blocked, surplusOf } from './blocked.js';
-import { Faults } from './faults.js';
+import { BadTable, Faults } from './faults.js';
 import { Problem } from './model.js';
 import { networkOf } from './network.js';
 import { Roster } from './pairs.js';
 import { FlowPlan } from './plan.js';
-import { Teller } from './sentences.js';
+import { NO_COST, Teller } from './sentences.js';
 import { NoAnswer, bottlenecksOf, linesOf, planOf } from './solving.js';
 import { textsOf } from './tables.js';
-import { CODES } from './words.js';
+import { grouped } from './view.js';
+import { CODES, words } from './words.js';
 
 // For a text of more bytes than TABLES, the page shows only the cost and no tables. For more arcs
 // than SEARCHED, it shows the set that the answer names.
 const TABLES = 3e7, SEARCHED = 100000;
+// A penalty, perhaps with a mark before its decimals.
+const PENALTY = /^[0-9]+(?:([.,])[0-9]+)?$/;
 
 /** @typedef {import('./tables.js').TableText} TableText */
 
@@ -45,9 +49,32 @@ async function answered(solver, texts, reading, options, faults = new Faults()) 
     throw new NoAnswer(result.status, result.why);
   }
   const found = new Answer(result.answer);
-  new Teller(texts, reading, faults).tell(found);
+  new Teller(texts, reading, faults, options.penalty).tell(found);
   faults.end();
   return { found, result };
+}
+
+// This function returns the options for a penalty and the mark before its decimals. It is written
+// as in the tables: if no mark is chosen, it has theirs, and else its own settles it.
+/**
+ * @param {Solver} solver
+ * @param {Record<string, TableText>} texts
+ * @param {Reading} reading
+ * @param {string} penalty
+ * @param {Faults} faults
+ * @returns {Promise<TableOptions>}
+ */
+async function priced(solver, texts, reading, penalty, faults) {
+  const [isNumber, mark] = PENALTY.exec(penalty) || [];
+  let { decimal } = reading;
+  if (mark && !decimal) {
+    const { found } = await answered(solver, texts, reading, {}, faults);
+    decimal = found.mark || markIn(penalty);
+  }
+  if (!isNumber || (mark && mark !== decimal)) {
+    throw new BadTable([`${words().penalty(penalty)}: ${NO_COST}`]);
+  }
+  return { penalty, decimal: decimal || '' };
 }
 
 // This function answers tables of places and routes: with a plan, or with what blocks every plan.
@@ -59,9 +86,11 @@ async function answered(solver, texts, reading, options, faults = new Faults()) 
  */
 export async function flowOf(solver, sources, { reading, policy }) {
   const faults = new Faults(), [places, routes] = textsOf(sources, reading, faults);
-  const texts = { places, routes };
-  const { found, result } = await answered(solver, texts, reading, { ...policy }, faults);
-  const problem = new Problem(found, [places, routes], reading);
+  const texts = { places, routes }, { penalty } = policy;
+  const more = penalty ? await priced(solver, texts, reading, penalty, faults) : {};
+  const asked = { ...policy, ...more };
+  const { found, result } = await answered(solver, texts, reading, asked, faults);
+  const problem = new Problem(found, [places, routes], reading, penalty);
   if (result.status === 'flow') {
     return { problem, plan: new FlowPlan(problem, policy, found), result };
   }
@@ -69,7 +98,7 @@ export async function flowOf(solver, sources, { reading, policy }) {
   let eased = null;
   if (surplus) {
     const unused = policy.unused || surplus > 0n, short = policy.short || surplus < 0n;
-    const { found: answer } = await answered(solver, texts, reading, { unused, short });
+    const { found: answer } = await answered(solver, texts, reading, { ...more, unused, short });
     eased = { policy: { unused, short }, answer };
   }
   return { problem, blocked: new Blocked(problem, policy, found, eased), result };
@@ -105,7 +134,7 @@ export async function runPairs(solver, source, choices) {
 // This function returns the result of a text without tables.
 /**
  * @param {boolean} isPlan
- * @param {string[]} headline
+ * @param {Run['headline']} headline
  * @param {string} line
  * @param {Result} result
  * @param {Run['instance']} instance
@@ -134,7 +163,7 @@ export async function runText(solver, bytes, { engine }) {
     const [line, code] = linesOf(result.answer, 'r')[0];
     return withoutTables(
       false,
-      ['This text is refused', ''],
+      () => 'This text is refused',
       `Line ${line}: ${CODES[code] || code} (${code}).`,
       result,
       instance
@@ -142,7 +171,9 @@ export async function runText(solver, bytes, { engine }) {
   }
   if (bytes.length > TABLES) {
     const cost = linesOf(result.answer, 's')[0];
-    const headline = cost ? ['Least cost: ', cost[0]] : ['No flow exists', ''];
+    /** @type {Run['headline']} */
+    const headline = ({ currency }) =>
+      cost ? `Least cost: ${grouped(cost[0], '.', currency)}` : 'No flow exists';
     return withoutTables(
       Boolean(cost),
       headline,

@@ -12,8 +12,8 @@ import { grouped } from './view.js';
  * @typedef {import('./model.js').Problem} Problem
  * @typedef {import('./plan.js').FlowPlan} FlowPlan
  * @typedef {object} Figures
- * @property {(number: bigint | null) => string} amount
- * @property {(number: bigint) => string} total
+ * @property {(number: bigint | null, unit?: string) => string} amount
+ * @property {(number: bigint, unit?: string) => string} total
  */
 
 // If there are more routes than ALL_ROUTES, those that carry nothing are left out. If no plan
@@ -24,11 +24,11 @@ const ALL_ROUTES = 90, NEAR = 60;
 const LONGEST = 24, BEGIN = 12, END = 11;
 
 // This function writes the numbers of a problem as the page does: with narrow spaces between
-// thousands.
+// thousands, and with their units where they are given.
 /** @type {(problem: Problem) => Figures} */
 const figuresOf = ({ units, said: { mark } }) => ({
-  amount: (number) => grouped(units.amount(number), mark),
-  total: (number) => grouped(units.total(number), mark),
+  amount: (number, unit) => grouped(units.amount(number), mark, unit),
+  total: (number, unit) => grouped(units.total(number), mark, unit),
 });
 
 // This function describes a plan. If there are many routes, it shows those that carry something or
@@ -50,13 +50,16 @@ export function planScene(plan, caption) {
   const left = idle ? ` (${idle} idle routes aren't drawn)` : '';
   const shorts = shortNames(problem.places.map(({ name }) => name));
   return {
-    heading: `A least-cost plan: cost ${total(plan.cost)}${left}`,
+    heading: `A least-cost plan: cost ${total(plan.cost, caption.currency)}${left}`,
     nodes: problem.places.map((place, k) =>
       nodeOf(problem, place, shorts[k], plan.places[k].unmet)
     ),
     links,
     groups: [],
-    notes: { flowing: `as wide as it carries (widest ${said(widest)})`, full: 'full' },
+    notes: {
+      flowing: `as wide as it carries (widest ${said(widest, caption.unit)})`,
+      full: 'full',
+    },
     caption,
   };
 }
@@ -110,7 +113,7 @@ export function blockedScene(blocked, caption) {
     new Set(blocked.placesOf(found))
   );
   const scene = {
-    heading: `No plan exists: ${whyBlocked(blocked)}`,
+    heading: `No plan exists: ${whyBlocked(blocked, caption.unit)}`,
     nodes,
     links,
     groups,
@@ -134,14 +137,14 @@ function markedOf({ bottlenecks }) {
   return marked;
 }
 
-// This function says in a few words why no plan exists.
-/** @type {(blocked: Blocked) => string} */
-export function whyBlocked({ problem, surplus, bottlenecks }) {
+// This function says in a few words why no plan exists. Amounts have this unit.
+/** @type {(blocked: Blocked, unit: string) => string} */
+export function whyBlocked({ problem, surplus, bottlenecks }, unit) {
   const { amount } = figuresOf(problem), [supply, demand] = balanceOf(problem);
-  if (surplus) return `supply ${amount(supply)}, demand ${amount(demand)}`;
+  if (surplus) return `supply ${amount(supply, unit)}, demand ${amount(demand, unit)}`;
   return bottlenecks
     .slice(0, 3)
-    .map((found) => `short by ${amount(found.must - found.can)}`)
+    .map((found) => `short by ${amount(found.must - found.can, unit)}`)
     .join(', ');
 }
 
@@ -188,7 +191,7 @@ function nodeOf(problem, place, short, unmet = 0n) {
 // This function says what a route carries at least and at most.
 /** @type {(problem: Problem, route: Route) => string} */
 function limitsText(problem, route) {
-  const [least, most] = [route.least, route.most].map(figuresOf(problem).amount);
+  const { amount } = figuresOf(problem), least = amount(route.least), most = amount(route.most);
   if (route.both) return `${most || 'any amount'}, either way`;
   return most ? `${least} to ${most}` : `${least} or more`;
 }

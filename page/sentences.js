@@ -73,6 +73,8 @@ const NOTHING =
   'is read: the heads are {heads} (split at {separator}), with {lines} below; a list has the '
     + 'columns who, what and cost, a matrix things in its first line and persons in its first '
     + 'column';
+// What is wrong with a penalty.
+export const NO_COST = 'this is no cost, written as in the tables';
 // What is wrong with a title that isn't read, and the head that it is about.
 const TITLE = /^(nearly|not read without) (.*)$/;
 // The heads of numbers.
@@ -89,11 +91,13 @@ export class Teller {
    * @param {Record<string, TableText>} texts
    * @param {Reading} reading
    * @param {Faults} faults
+   * @param {string} [penalty]
    */
-  constructor(texts, reading, faults) {
+  constructor(texts, reading, faults, penalty = '') {
     this.texts = texts;
     this.reading = reading;
     this.faults = faults;
+    this.penalty = penalty;
     this.tables = /** @type {Record<string, Table>} */ ({});
     this.rows = /** @type {Record<string, Map<number, string[]>>} */ ({});
     this.shows = /** @type {NumberCell[]} */ ([]);
@@ -111,7 +115,10 @@ export class Teller {
       this.rows[word] = new Map(read.rows.map(({ line, cells }) => [line, cells]));
     }
     this.shows = [...numberCells(this.tables)].filter(({ cell }) => markIn(cell));
-    for (const [word, ...more] of found) this.note([word || 'places', ...more]);
+    for (const [word, ...more] of found) {
+      if (word !== 'options') this.note([word || 'places', ...more]);
+      else this.faults.add(at(words().penalty(this.penalty), 0), more[2], NO_COST);
+    }
     if (this.tables.places) spotsOf(this.tables.places, this.faults);
   }
 

@@ -16,6 +16,7 @@ import { listed } from './faults.js';
 import { size } from './model.js';
 import { cellAt } from './tables.js';
 import { blockedScene, planScene, whyBlocked } from './scene.js';
+import { grouped } from './view.js';
 
 /**
  * @typedef {import('./blocked.js').Blocked} Blocked
@@ -67,11 +68,12 @@ export function planShown(plan) {
   ];
   for (const isSupply of [true, false]) {
     const unmet = plan.unmet(isSupply).reduce((sum, [, amount]) => sum + amount, 0n);
-    if (unmet) facts.push([units.amount(unmet), isSupply ? 'stay' : 'are missing']);
+    if (unmet) facts.push([units.amount(unmet), isSupply ? 'stay' : 'are missing', true]);
   }
   return {
     isPlan: true,
-    headline: ['Least cost: ', units.total(plan.cost)],
+    headline: ({ currency }) =>
+      `Least cost: ${grouped(units.total(plan.cost), said.mark, currency)}`,
     mark: said.mark,
     lead: [
       ...warnings(problem, plan.policy),
@@ -269,7 +271,7 @@ export function blockedShown(blocked) {
   }
   return {
     isPlan: false,
-    headline: ['No plan exists: ', whyBlocked(blocked)],
+    headline: ({ unit }) => `No plan exists: ${whyBlocked(blocked, unit)}`,
     mark: problem.said.mark,
     lead: [
       ...warnings(problem, blocked.policy),
@@ -391,15 +393,17 @@ function inputSheets(problem) {
 
 /** @type {(roster: Roster) => Shown} */
 export function pairsShown(roster) {
-  const { units, maximise, pairs } = roster;
+  const { units, said, maximise, pairs } = roster;
   /** @type {SheetRow[]} */
   const rows = pairs.map(({ who, what, cost }) => (
     { kind: '', cells: [who, what, units.rate(cost)] }
   ));
   return {
     isPlan: true,
-    headline: [maximise ? 'Greatest value: ' : 'Least cost: ', units.total(roster.cost)],
-    mark: roster.said.mark,
+    headline: ({ currency }) =>
+      `${maximise ? 'Greatest value' : 'Least cost'}: `
+        + grouped(units.total(roster.cost), said.mark, currency),
+    mark: said.mark,
     lead: [...pairsSummary(roster).slice(2), ...roster.told()],
     facts: [
       [roster.persons.size, 'persons'],
@@ -420,7 +424,7 @@ export function pairsBlocked(roster) {
   const rivals = roster.rivals(), lines = rivalsLines(roster, rivals);
   return {
     isPlan: false,
-    headline: ['No such pairs exist', ''],
+    headline: () => 'No such pairs exist',
     mark: roster.said.mark,
     lead: [...lines.filter((line, k) => k && !line.startsWith(' ')), ...roster.told()],
     facts: [],
@@ -476,7 +480,7 @@ export function textShown(network, plan) {
   const carrying = plan.flows.reduce((count, flow) => count + Number(flow !== 0n), 0);
   return {
     isPlan: true,
-    headline: ['Least cost: ', String(plan.cost)],
+    headline: ({ currency }) => `Least cost: ${grouped(String(plan.cost), '.', currency)}`,
     mark: '.',
     lead: [],
     facts: [[supplies.length, 'nodes'], [arcs.length, 'arcs'], [carrying, 'carry something']],
@@ -508,7 +512,7 @@ export function textBlocked(bottlenecks) {
   );
   return {
     isPlan: false,
-    headline: ['No flow exists', ''],
+    headline: () => 'No flow exists',
     mark: '.',
     lead: [],
     facts: [],

@@ -13,7 +13,12 @@ import { asked, solverOf } from './test_plans.mjs';
 const plans = path.join(path.dirname(fileURLToPath(import.meta.url)), '..', 'examples', 'plans');
 const count = (text, part) => text.split(part).length - 1;
 
-const CAPTION = { title: 'Week <7>', source: '2026-11-27: places.csv, routes.csv' };
+const CAPTION = {
+  title: 'Week <7>',
+  source: '2026-11-27: places.csv, routes.csv',
+  unit: '',
+  currency: '',
+};
 
 async function sceneOf(solver, sources) {
   const { plan, blocked } = await flowOf(solver, sources, asked([]));

@@ -34,6 +34,7 @@ export const TOOL = {
   names: (head, own) => `which --map ${head}=${own} names`,
   unused: '--unused allow lets it stay',
   short: '--short allow lets it be short',
+  penalty: (number) => `--penalty ${number}`,
   each: 'With --each what each thing would get a person',
   limits: 'LIMITS in `man mcf`',
 };
@@ -51,10 +52,17 @@ export function solverOf(module) {
   };
 }
 
-// This function translates mcf_plan's command line for the page: the files, how to read them, and
-// choices.
+// This function translates mcf_plan's command line for the page: the files, how to read them,
+// choices, and the units of the caption.
 export function asked(words) {
-  const found = { files: [], reading: { heads: {} }, policy: {}, each: null, maximise: false };
+  const found = {
+    files: [],
+    reading: { heads: {} },
+    policy: {},
+    each: null,
+    maximise: false,
+    caption: { title: '', source: '', unit: '', currency: '' },
+  };
   for (let k = 0; k < words.length; k++) {
     const word = words[k];
     if (word === '--maximise') found.maximise = true;
@@ -63,7 +71,9 @@ export function asked(words) {
       found.reading.heads[head] = own;
     } else if (word === '--unused' || word === '--short') {
       found.policy[word.slice(2)] = words[++k] === 'allow';
-    } else if (word === '--each') found.each = words[++k];
+    } else if (word === '--penalty') found.policy.penalty = words[++k];
+    else if (word === '--unit' || word === '--currency') found.caption[word.slice(2)] = words[++k];
+    else if (word === '--each') found.each = words[++k];
     else if (word.startsWith('--')) found.reading[word.slice(2)] = words[++k];
     else found.files.push(word);
   }

@@ -1,11 +1,13 @@
-// This file runs the list of rules that mcf_plan's tests read, too: how tables are read, and what
-// is said about them. It also checks that the page uses its own words.
+// This file runs the list of rules that mcf_plan's tests read, too: how tables are read, what is
+// said about them, and what the page shows with units. It also checks that the page uses its own
+// words.
 import fs from 'node:fs';
 import path from 'node:path';
 import { fileURLToPath } from 'node:url';
 import { loaded } from './test_module.mjs';
 import { asked, solverOf, told } from './test_plans.mjs';
 import { runFlow, runPairs } from './running.js';
+import { grouped } from './view.js';
 
 const list = path.join(
   path.dirname(fileURLToPath(import.meta.url)),
@@ -17,12 +19,21 @@ const list = path.join(
 
 // This function returns what the page shows of a rule's tables, in its own words.
 async function shownOf(rule, solver, sources) {
-  const choices = asked(rule.options ?? []);
+  const choices = asked(rule.options ?? []), { caption } = choices;
   const run = 'costs' in rule
     ? runPairs(solver, sources[0], choices)
     : runFlow(solver, sources, choices);
   return run.then(
-    ({ lead, findings }) => [...lead, ...findings.flatMap(Object.values)].join('\n'),
+    ({ headline, lead, facts, findings, mark, scene }) => {
+      const { heading, notes } = scene ? scene(caption) : { heading: '', notes: {} };
+      const units = (isAmount) => (isAmount ? caption.unit : '');
+      const boxes = facts.map(([value, what, isAmount]) =>
+        `${grouped(String(value), mark, units(isAmount))} ${what}`
+      );
+      const found = findings.flatMap(Object.values);
+      return [headline(caption), ...lead, ...boxes, ...found, heading, ...Object.values(notes), '']
+        .join('\n');
+    },
     (error) => error.lines.join('\n')
   );
 }
@@ -48,6 +59,9 @@ export default async function test(expect) {
     expect(status === rule.status, `status ${status}, and not ${rule.status}: ${said}`);
     for (const text of rule.says) expect(said.includes(text), `it says\n${said}and not ${text}`);
     const own = await shownOf(rule, solver, sources);
+    for (const text of rule.shows ?? []) {
+      expect(own.includes(text), `it shows\n${own}and not ${text}`);
+    }
     expect(!/--\w|mcfcheck|\bman\b/.test(own), `these aren't words of the page: ${own}`);
   }
 }

@@ -1,6 +1,7 @@
 // This file tests what sheets and the lines around them say about plans, with given answers and
 // without the module.
 import { totalsOf } from './grid.js';
+import { csvOf, flowSummary, flowsTable } from './report.js';
 import { flowOf } from './running.js';
 import { blockedShown, changesShown, planShown } from './sheets.js';
 
@@ -92,6 +93,41 @@ async function totals(expect) {
   expect(totalsOf({ count: 3 }, [1], '').length === 0, 'a sheet without totals');
 }
 
+// A penalty is a part of the cost, and has decimals of its own. Units are told once each: of what is
+// missing, and of the cost.
+async function penalties(expect) {
+  const places = 'name;supply\nA;2,5\nB;-4\n', routes = 'from;to;most;cost\nA;B;;2\n';
+  const figures = { mark: ',', carries: [['2.5', '5']], unmet: [[], ['0', '1.5']] };
+  const made = async (penalty, cost) => {
+    const told = { ...figures, cost }, policy = { short: true, penalty };
+    const { plan } = await flow('plan', places, routes, told, policy);
+    return plan;
+  };
+  const plan = await made('0,25', '5.375'), free = await made('0', '5'), lines = flowSummary(plan);
+  const missing = '1,5 are missing at: B 1,5, which costs 0,375 of that.';
+  expect(lines[0].endsWith(': cost 5,375.') && lines[2] === missing, lines.join('; '));
+  const row = (one) => csvOf(flowsTable(one), ',').split('\n')[2];
+  expect(row(plan) === '(missing);B;;;1,5;0,375;;;', row(plan));
+  const { headline, facts, lead, scene } = planShown(plan);
+  const caption = { title: '', source: '', unit: 'hl', currency: 'EUR' };
+  expect(headline(caption) === 'Least cost: 5,375 EUR', headline(caption));
+  expect(scene(caption).heading === 'A least-cost plan: cost 5,375 EUR', 'the picture');
+  expect(scene(caption).notes.flowing.endsWith('(widest 2,5 hl)'), 'the legend');
+  expect(lead.includes(missing), lead.join('; '));
+  expect(String(facts[4]) === '1.5,are missing,true', String(facts));
+  expect(flowSummary(free)[2] === '1,5 are missing at: B 1,5.', flowSummary(free)[2]);
+  expect(row(free) === '(missing);B;;;1,5;0;;;', row(free));
+  const least = row(await made('', '5'));
+  expect(least === '(missing);B;;;1,5;;;;', least);
+  await made('0.25', '5').then(
+    () => expect(false, 'a penalty with another mark'),
+    ({ lines: [told] }) => expect(
+      told === 'penalty 0.25 under Choices: this is no cost, written as in the tables',
+      told
+    )
+  );
+}
+
 // The lead names likely mistakes, and the columns that are copied.
 async function leads(expect) {
   const places = 'name,supply,Region\nA,1,n\nB,1,s\n';
@@ -111,5 +147,5 @@ async function leads(expect) {
 }
 
 export default async function test(expect) {
-  for (const part of [leads, totals, steps, delivered]) await part(expect);
+  for (const part of [leads, totals, steps, delivered, penalties]) await part(expect);
 }

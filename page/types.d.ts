@@ -24,10 +24,11 @@ interface Reading {
   heads?: Record<string, string>;
 }
 
-/** Whether supplies may stay, and demands may be short. */
+/** Whether supplies may stay, and demands may be short. `penalty`: what each missing unit costs. */
 interface Policy {
   unused?: boolean;
   short?: boolean;
+  penalty?: string;
 }
 
 /** All that is chosen for a run. `each`: who or what gets one each; null: what the table shows. */
@@ -150,6 +151,7 @@ interface Speech {
   names(head: string, own: string): string;
   unused: string;
   short: string;
+  penalty(number: string): string;
   each: string;
   limits: string;
 }
@@ -341,19 +343,21 @@ interface Finding {
   cure: string;
 }
 
-/** What stands above a plan and its picture: a title, or ''; and the date and the tables. */
+/** What stands above a plan and its picture, and the units of amounts and of costs, or ''. */
 interface Caption {
   title: string;
   source: string;
+  unit: string;
+  currency: string;
 }
 
 /** What is shown of an answer. `scene` is null where nothing is drawn, `plan` only with routes. */
 interface Shown {
   isPlan: boolean;
-  headline: string[];
+  headline(caption: Caption): string;
   mark?: string;
   lead: string[];
-  facts: [value: string | number, what: string][];
+  facts: [value: string | number, what: string, isAmount?: boolean][];
   findings: Finding[];
   scene: ((caption: Caption) => Scene) | null;
   sheets: Sheet[];

@@ -32,16 +32,17 @@ export function el(tag, attributes = {}, ...children) {
   return it;
 }
 
-// This function writes a number with narrow spaces between thousands and the tables' mark before
-// decimals.
-/** @type {(text: string, mark?: string | null) => string} */
-export function grouped(text, mark = '.') {
+// This function writes a number with narrow spaces between thousands, the tables' mark before
+// decimals, and its unit, if it has one.
+/** @type {(text: string, mark?: string | null, unit?: string) => string} */
+export function grouped(text, mark = '.', unit = '') {
   const found = /^(-?)(\d+)(?:\.(\d+))?$/.exec(text);
   if (!found) return text;
   const digits = found[2].length > 4
     ? found[2].replace(/(?<=\d)(?=(?:\d{3})+$)/g, '\u202f')
     : found[2];
-  return (found[1] && '\u2212') + digits + (found[3] ? (mark || '.') + found[3] : '');
+  return (found[1] && '\u2212') + digits + (found[3] ? (mark || '.') + found[3] : '')
+    + (unit && ` ${unit}`);
 }
 
 // This function returns a button that saves a file. The content is created when the user clicks.

@@ -12,6 +12,7 @@ const OWN_WORDS = {
   names: (head, own) => `which ${head}=${own} under Reading names`,
   unused: 'a choice lets it stay',
   short: 'a choice lets it be short',
+  penalty: (number) => `penalty ${number} under Choices`,
   each: 'If you choose that each thing gets a person, each would get one',
   limits: 'supplies and amounts go up to 10^18, costs up to 10^15',
 };

@@ -231,6 +231,12 @@ class Unbalanced(WithFolder):
                 )
                 self.assertEqual(status, 0)
                 self.assertIn(f"cost {cost}.", said)
+                total = sum(
+                    float(row["total"].replace(",", "."))
+                    for row in rows_of(self.out / "flows.csv")
+                    if row["from"] == "(missing)"
+                )
+                self.assertEqual(total, 5 * float(penalty.replace(",", ".")))
 
     def test_a_penalty_is_written_as_in_the_tables(self):
         places, words = self.PLACES.replace("A,9", "A,1"), ["--short", "allow", "--penalty"]

@@ -1,14 +1,16 @@
 """Tests of the messages about tables that can't be read as intended."""
+import html
 import importlib.util
 import json
 import pathlib
+import re
 import shutil
 import unittest
 
 from support import PLACES, ROUTES, WithFolder, rows_of, run
 
-# Tables with options, the expected status and message. The tests of the browser page use the same
-# list.
+# Tables with options, the expected status and message, and what the page shows. The tests of the
+# browser page use the same list.
 RULES = json.loads((pathlib.Path(__file__).parent / "rules.json").read_text(encoding="utf-8"))
 
 
@@ -29,6 +31,12 @@ class Rules(WithFolder):
         status, said, told = run(*words, *rule.get("options", []), *more, "-o", self.out)
         return status, (said + told).replace(f"{self.folder}/", "")
 
+    def shown(self):
+        """The lines of the page and of its picture."""
+        page = (self.out / "report.html").read_text(encoding="utf-8")
+        parts = re.sub("</?(b|br|a|code)( [^>]*)?>", " ", page)
+        return html.unescape(re.sub("(<[^>]*>)+", "\n", parts))
+
     def test_what_is_said(self):
         for rule in RULES:
             with self.subTest(says=rule["says"]):
@@ -37,6 +45,8 @@ class Rules(WithFolder):
                 for text in rule["says"]:
                     self.assertIn(text, said)
                 self.assertEqual(self.out.exists(), status != 2)
+                for text in rule.get("shows", ()):
+                    self.assertIn(text, self.shown())
                 shutil.rmtree(self.out, ignore_errors=True)
 
 
