@@ -55,8 +55,9 @@ def plan_flow(
     short : bool
         Demands may be missing.
     penalty : int or str, optional
-        The cost of each missing unit, with a point before decimals unless `decimal` is ','. Without
-        it, as little as possible is missing.
+        The cost of each missing unit, with a point before decimals unless `decimal` is ','.
+        '1.500', which may be 1500, is no number unless `decimal` names a mark. Without a penalty,
+        as little as possible is missing.
 
     Returns
     -------
