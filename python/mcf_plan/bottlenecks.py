@@ -43,8 +43,10 @@ class Nodes:
             number + count if place.bounds else number
             for number, place in enumerate(problem.places, 1)
         ]
-        self.arcs = [(self.exits[route.tail - 1], route.head) for route in problem.routes]
-        self.arcs += [ends for ends in enumerate(self.exits, 1)]
+        ends = [(route.tail, route.head) for route in problem.routes]
+        ends += [(route.head, route.tail) for route in problem.routes if route.both]
+        self.arcs = [(self.exits[tail - 1], head) for tail, head in ends]
+        self.arcs += enumerate(self.exits, 1)
         self.every = set(range(1, count + 1)).union(self.exits)
 
     def of_rows(self, rows):
