@@ -6,7 +6,7 @@ import { words } from './words.js';
 
 /** @typedef {import('./faults.js').Faults} Faults */
 
-const SEPARATOR_LINE = /^"?sep=([^" ])"?[^\S\n]*$/im;
+const SEPARATOR_LINE = /^"?sep=([^" \n])"?[^\S\n]*(?:\n|$)/i;
 // The separators that heads show by themselves.
 export const SEPARATORS = ',;\t';
 // Heads are in one of this many lines.
@@ -28,6 +28,19 @@ export const fold = (text) => text.toLowerCase();
 /** @type {(cells: string[], place: number) => string} */
 export const cellAt = (cells, place) => (place >= 0 && place < cells.length ? cells[place] : '');
 
+/** @type {(name: string, encoding: string) => BadTable} */
+const notText = (name, encoding) => new BadTable([
+  `${name}: this isn't text in ${encoding === 'utf-8' ? 'UTF-8' : encoding}; `
+    + 'save the table as CSV in UTF-8',
+]);
+
+// This function returns a text, which has no zeros.
+/** @type {(name: string, text: string, encoding: string) => string} */
+function plainText(name, text, encoding) {
+  if (text.includes('\0')) throw notText(name, encoding);
+  return text;
+}
+
 // This function returns the text of a file. If it isn't UTF-8, it is read as Windows-1252 and
 // marked as wrong.
 /**
@@ -46,29 +59,20 @@ export function textOf(name, bytes, encoding = null) {
         + 'or save it as CSV UTF-8',
     ]);
   }
-  if (begins(bytes, [0xff, 0xfe]) || begins(bytes, [0xfe, 0xff])) {
-    try {
-      const named = bytes[0] === 0xff ? 'utf-16le' : 'utf-16be';
-      return { text: new TextDecoder(named, { fatal: true }).decode(bytes), mark: true };
-    } catch {
-      throw new BadTable([`${name}: this isn't text in utf-16; save the table as CSV in UTF-8`]);
-    }
-  }
+  const isWide = begins(bytes, [0xff, 0xfe]) || begins(bytes, [0xfe, 0xff]);
+  const named = isWide ? 'utf-16' : encoding || 'utf-8';
   try {
+    const label = isWide && bytes[0] === 0xfe ? 'utf-16be' : named;
     return {
-      text: new TextDecoder(encoding || 'utf-8', { fatal: true }).decode(bytes),
-      mark: begins(bytes, [0xef, 0xbb, 0xbf]),
+      text: plainText(name, new TextDecoder(label, { fatal: true }).decode(bytes), named),
+      mark: isWide || begins(bytes, [0xef, 0xbb, 0xbf]),
     };
-  } catch {
-    if (encoding || bytes.includes(0)) {
-      throw new BadTable([
-        `${name}: this isn't text in ${encoding || 'UTF-8'}; save the table as CSV in UTF-8`,
-      ]);
-    }
+  } catch (error) {
+    if (error instanceof BadTable || named !== 'utf-8') throw notText(name, named);
   }
-  const text = new TextDecoder('windows-1252').decode(bytes);
-  const good = new TextDecoder().decode(bytes).indexOf('\ufffd');
-  const line = text.slice(0, good).split('\n').length;
+  const text = withFeeds(plainText(name, new TextDecoder('windows-1252').decode(bytes), named));
+  const decoded = withFeeds(new TextDecoder().decode(bytes));
+  const line = decoded.slice(0, decoded.indexOf('\ufffd')).split('\n').length;
   const read = shown(text.split('\n')[line - 1].trim());
   const told = `this isn't in UTF-8, but perhaps in Windows-1252 (ANSI), which reads ${read}: `
     + `in Excel, save as CSV UTF-8; ${words().encoding}`;
@@ -84,8 +88,11 @@ export const lineOf = (cells, separator) => cells.map((cell) => (
 /** @type {(text: string) => string} */
 export const escaped = (text) => text.replace(/[\\^$.*+?()[\]{}|]/g, '\\$&');
 
-// A text for the module, in normal form C. `own` has the planner's titles by the heads that replace
-// them in the text.
+/** @type {(text: string) => string} */
+const withFeeds = (text) => text.replace(/\r\n?/g, '\n');
+
+// A text for the module, in normal form C, with a line feed at the end of each line. `own` has the
+// planner's titles by the heads that replace them in the text.
 export class TableText {
   /**
    * @param {Source} source
@@ -98,7 +105,7 @@ export class TableText {
       : { text, mark: false, wrong: null };
     this.name = name;
     this.mark = read.mark;
-    this.text = read.text.replace(/^\ufeff+/, '').normalize('NFC');
+    this.text = withFeeds(read.text).replace(/^\ufeff+/, '').normalize('NFC');
     /** @type {Map<string, string>} */
     this.own = new Map();
     if (!this.text.trim()) {
@@ -107,49 +114,56 @@ export class TableText {
       ]);
     }
     if (read.wrong) faults.add(at(name, read.wrong.line), 'encoding', read.wrong.text);
-    const named = SEPARATOR_LINE.exec(this.text.trimStart().split(/\r?\n/, 1)[0].trim());
+    const named = SEPARATOR_LINE.exec(this.text.trimStart());
     this.separators = SEPARATORS + (named ? named[1] : '');
   }
 
-  // This method returns the lines of the text, each with its end.
-  lines() { return this.text.match(/[^\r\n]*(?:\r\n?|\n)|[^\r\n]+/g); }
-
-  /** @type {(number: number) => string} */
-  line(number) { return this.lines()[number - 1].trim(); }
-
-  // This method gives the column with one of the planner's titles another head, in the first line
-  // that has it, and says whether there is one. A column that has that head gets another one.
-  /** @type {(head: string, title: string) => boolean} */
-  call(head, title) {
-    const lines = this.lines();
-    const k = lines.slice(0, LOOKED).findIndex((line) => this.fieldOf(title).test(line));
-    if (k < 0) return false;
-    if (fold(head) !== fold(title)) lines[k] = this.renamed(lines[k], head, `own ${head}`);
-    lines[k] = this.renamed(lines[k], title, head);
-    this.text = lines.join('');
-    return true;
+  // This method gives columns with titles of the planner's their wanted heads, each in the first
+  // line that has its title, and columns that have one of these heads another one. It returns the
+  // heads whose titles no line has.
+  /** @type {(titles: [head: string, title: string][]) => string[]} */
+  call(titles) {
+    const lines = this.text.split('\n'), missing = [];
+    /** @type {Map<number, string[][]>} */
+    const found = new Map();
+    const filled = new RegExp(`[^\\s"${escaped(this.separators)}]`);
+    const among = lines.map((_, k) => k).filter((k) => filled.test(lines[k])).slice(0, LOOKED);
+    for (const [head, title] of titles) {
+      const field = this.fieldOf([title]), k = among.find((one) => lines[one].search(field) >= 0);
+      if (k === undefined) missing.push(head);
+      else found.set(k, [...found.get(k) || [], [title, head]]);
+    }
+    for (const [k, named] of found) {
+      const others = named.map(([, head]) => [head, `own ${head}`]);
+      lines[k] = this.renamed(lines[k], [...named, ...others]);
+    }
+    this.text = lines.join('\n');
+    return missing;
   }
 
-  // This method returns the pattern of a field that is a title, perhaps between quotes.
-  /** @type {(title: string) => RegExp} */
-  fieldOf(title) {
-    const quoted = escaped(title.normalize('NFC').replaceAll('"', '""'));
-    const ends = escaped(this.separators);
-    return new RegExp(`(^|[${ends}])( *"? *)(${quoted})( *"? *)(?=[${ends}\\r\\n]|$)`, 'gi');
+  // This method returns the pattern of a field that is one of some titles, perhaps between quotes.
+  /** @type {(titles: string[]) => RegExp} */
+  fieldOf(titles) {
+    const plain = titles.map((title) => escaped(title.normalize('NFC').replaceAll('"', '""')));
+    const ends = `[${escaped(this.separators)}]`, blanks = '[ \\u00a0]*';
+    const quote = `${blanks}"?${blanks}`, any = plain.map((one) => `(${one})`).join('|');
+    return new RegExp(`(^|${ends})(${quote})(?:${any})(?=${quote}(?:${ends}|$))`, 'giu');
   }
 
-  /** @type {(line: string, title: string, head: string) => string} */
-  renamed(line, title, head) {
-    return line.replace(this.fieldOf(title), (_, end, before, found, after) => {
-      this.own.set(head, found.replaceAll('""', '"'));
-      return `${end}${before}${head}${after}`;
+  // This method returns a line whose fields of some titles are other heads.
+  /** @type {(line: string, named: string[][]) => string} */
+  renamed(line, named) {
+    return line.replace(this.fieldOf(named.map(([title]) => title)), (_, end, before, ...found) => {
+      const k = found.findIndex((title) => title !== undefined), [, head] = named[k];
+      this.own.set(head, found[k].replaceAll('""', '"'));
+      return end + before + head;
     });
   }
 
   // This method returns the separator by which the text has these titles.
   /** @type {(read: AnsweredTable) => string} */
   separator({ headLine, titles }) {
-    const text = this.lines().slice(headLine - 1).join('');
+    const text = this.text.split('\n').slice(headLine - 1).join('\n');
     const known = [...this.separators.slice(SEPARATORS.length) + SEPARATORS];
     return known.map(escaped).find((mark) => {
       const blanks = `[^\\S${mark}]*`;
@@ -167,9 +181,10 @@ export class TableText {
 /** @type {(sources: Source[], reading: Reading, faults: Faults) => TableText[]} */
 export function textsOf(sources, reading, faults) {
   const texts = sources.map((source) => new TableText(source, reading, faults));
-  const last = texts[texts.length - 1];
-  for (const [head, own] of Object.entries(reading.heads || {})) {
-    if (texts.filter((text) => text.call(head, own)).length) continue;
+  const last = texts[texts.length - 1], titles = Object.entries(reading.heads || {});
+  const missing = texts.map((text) => text.call(titles));
+  for (const [head, own] of titles) {
+    if (!missing.every((heads) => heads.includes(head))) continue;
     const nor = texts.slice(0, -1).map(({ name }) => `, nor in ${name}`).join('');
     const told = `there is no such column, ${words().names(head, own)}${nor}`;
     faults.add(at(last.name, 1, own), 'map', told);
@@ -207,10 +222,7 @@ export class Table {
   // group of earlier results is left out.
   /** @type {(...results: string[][]) => number[]} */
   kept(...results) {
-    const titles = this.titles.map(fold);
-    const gone = new Set(
-      results.filter((heads) => heads.every((head) => titles.includes(head))).flat()
-    );
-    return titles.map((_, place) => place).filter((place) => !gone.has(titles[place]));
+    const gone = new Set(results.filter((heads) => this.has(heads)).flat());
+    return this.heads.map((_, place) => place).filter((place) => !gone.has(this.heads[place]));
   }
 }

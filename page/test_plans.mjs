@@ -143,9 +143,30 @@ async function written(expect, solver) {
   );
 }
 
+// Columns of earlier results stay if one of them is read, by another head. Heads of two lines don't
+// hide what separates them.
+async function mapped(expect, solver) {
+  const sources = [
+    { name: 'places', text: 'name,supply\nA,2\nB,-2\n' },
+    {
+      name: 'routes',
+      text: 'from;to;most;cost;carries;total;free;one_more_saves;exact;"a\r\nnote"\r\n'
+        + 'A;B;5;0;0;7;5;0;no;x\r\n',
+    },
+  ];
+  const { tables, mark } = await told('flow', solver, sources, asked(['--map', 'cost=total']));
+  const flows = csvOf(tables[0], mark);
+  expect(
+    flows === 'from;to;most;cost;carries;total;free;one_more_saves;exact;"a\nnote";carries;total;'
+      + 'free;one_more_saves;exact\nA;B;5;0;0;7;5;0;no;x;2;14;3;0;yes\n',
+    `own heads among earlier results: ${flows}`
+  );
+}
+
 export default async function test(expect) {
   const solver = solverOf(loaded());
   await written(expect, solver);
+  await mapped(expect, solver);
   for (const name of fs.readdirSync(plans)
     .filter((one) => fs.existsSync(path.join(plans, one, 'expected')))) {
     const folder = path.join(plans, name);

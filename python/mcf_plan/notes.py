@@ -68,7 +68,8 @@ def number_cells(word, table, sheet):
     """The cells of a table that are numbers, with the table and their lines."""
     places = range(1, len(sheet.heads))
     if word != "costs" or is_list(sheet):
-        places = [sheet.place(head) for head in known_heads(word, sheet) if head not in WORDS]
+        heads = set(known_heads(word, sheet)) - WORDS
+        places = [place for place, head in enumerate(sheet.heads) if head in heads]
     for line, cells in sheet.rows:
         for place in places:
             if (line, place) not in table.figures:

@@ -22,7 +22,7 @@ BLANKS = (
     " \u00a0\u1680\u2000\u2001\u2002\u2003\u2004\u2005\u2006\u2007\u2008\u2009\u200a"
     "\u2028\u2029\u202f\u205f\u3000\ufeff"
 )
-SEPARATOR_LINE = re.compile(r'"?sep=([^" \r\n])"?[^\S\r\n]*(?=[\r\n]|$)', re.IGNORECASE)
+SEPARATOR_LINE = re.compile(r'"?sep=([^" \n])"?[^\S\n]*(?=\n|$)', re.IGNORECASE)
 # The separators that heads show by themselves.
 SEPARATORS = ",;\t"
 # The number of lines that aren't blank among which the heads are.
@@ -36,14 +36,15 @@ OTHER_FILES = {
 
 
 class Table:
-    """A table as a text in UTF-8, in Unicode normal form C. `has_mark` says whether its file
+    """A table as a text in UTF-8, in Unicode normal form C, whose lines end with line feeds: as
+    `mcfplan` reads all of them. `has_mark` says whether its file
     has a byte-order mark; `own` has the user's titles by those that replace them in the text;
     `figures` has the numbers of a sheet by their lines and places; `sha256` is that of
     its file, once it was read."""
 
     def __init__(self, name, text, has_mark=False, book=None, figures=None):
         self.name, self.has_mark, self.book, self.figures = name, has_mark, book, figures or {}
-        self.text, self.own, self.sha256 = unicodedata.normalize("NFC", text), {}, None
+        self.text, self.own, self.sha256 = unicodedata.normalize("NFC", with_feeds(text)), {}, None
         if not self.text.strip(BLANKS):
             raise bad_table(
                 f"{name}, line 1: the table is empty; its first line has the heads of the columns"
@@ -51,47 +52,50 @@ class Table:
         named = SEPARATOR_LINE.match(self.text.lstrip(BLANKS))
         self.separators = SEPARATORS + (named[1] if named else "")
 
-    def lines(self):
-        """The lines of the text, each with its end."""
-        return re.findall(r"[^\r\n]*(?:\r\n?|\n)|[^\r\n]+", self.text)
-
     def head_lines(self):
         """The lines among which the heads are, and their numbers from 1."""
-        numbered = enumerate(self.lines(), 1)
+        numbered = enumerate(self.text.split("\n"), 1)
         found = (one for one in numbered if one[1].strip(BLANKS + self.separators + '"'))
         return list(itertools.islice(found, LOOKED))
 
-    def call(self, head, title):
-        """Gives the column with a title of the user's another head, in the first line that has it.
-        Returns whether there is one. A column that has that head gets another one."""
-        for number, line in self.head_lines():
-            if self.field_of(title).search(line):
-                if head.casefold() != title.casefold():
-                    line = self.named(line, head, f"own {head}")
-                lines = self.lines()
-                lines[number - 1] = self.named(line, title, head)
-                self.text = "".join(lines)
-                return True
-        return False
+    def call(self, titles):
+        """Gives columns with titles of the user's their wanted heads, each in the first line that
+        has its title, and columns that have one of these heads another one. Returns the heads whose
+        titles no line has."""
+        lines, found = self.text.split("\n"), collections.defaultdict(list)
+        for head, title in titles.items():
+            field = self.field_of([title])
+            numbers = (number for number, line in self.head_lines() if field.search(line))
+            found[next(numbers, 0)].append(head)
+        missing = found.pop(0, [])
+        for number, heads in found.items():
+            named = [(titles[head], head) for head in heads]
+            named += [(head, f"own {head}") for head in heads]
+            lines[number - 1] = self.named(lines[number - 1], named)
+        self.text = "\n".join(lines)
+        return missing
 
-    def named(self, line, title, head):
-        """A line whose fields of a title are another head, which `own` notes."""
-        for found in self.field_of(title).finditer(line):
-            self.own[head] = found[3].replace('""', '"')
-        return self.field_of(title).sub(rf"\1\2{head}\4", line)
+    def named(self, line, named):
+        """A line whose fields of some titles are other heads, which `own` notes. Titles come with
+        their heads."""
 
-    def field_of(self, title):
-        """The pattern of a field that is a title, perhaps between quotes."""
-        quoted, ends = re.escape(title.replace('"', '""')), re.escape(self.separators)
-        return re.compile(
-            rf'(^|[{ends}])([ \u00a0]*"?[ \u00a0]*)({quoted})([ \u00a0]*"?[ \u00a0]*)'
-            rf"(?=[{ends}\r\n]|$)",
-            re.IGNORECASE,
-        )
+        def other(field):
+            head = named[field.lastindex - 3][1]
+            self.own[head] = field[field.lastindex].replace('""', '"')
+            return field[1] + field[2] + head
+
+        return self.field_of([title for title, _ in named]).sub(other, line)
+
+    def field_of(self, titles):
+        """The pattern of a field that is one of some titles, perhaps between quotes."""
+        plain = (unicodedata.normalize("NFC", title).replace('"', '""') for title in titles)
+        any_title = "|".join(f"({re.escape(title)})" for title in plain)
+        end, quote = f"[{re.escape(self.separators)}]", '[ \u00a0]*"?[ \u00a0]*'
+        return re.compile(f"(^|{end})({quote})(?:{any_title})(?={quote}(?:{end}|$))", re.IGNORECASE)
 
     def separator(self, sheet):
         """The separator by which the text has the heads of a sheet."""
-        text = "".join(self.lines()[sheet.head_line - 1 :])
+        text = self.text.split("\n", sheet.head_line - 1)[-1]
         for mark in self.separators[len(SEPARATORS) :] + SEPARATORS:
             rows = csv.reader(io.StringIO(text, newline=""), delimiter=mark, skipinitialspace=True)
             if [cell.strip(BLANKS) for cell in next(rows)] == sheet.titles:
@@ -106,6 +110,11 @@ class Table:
     def title(self, title):
         """A title as the user has it."""
         return self.own.get(title, title)
+
+
+def with_feeds(text):
+    """A text whose lines all end with line feeds."""
+    return re.sub("\r\n?", "\n", text)
 
 
 def bytes_of(path):
@@ -130,8 +139,8 @@ def text_of(path, data, encoding, faults):
         raise bad_table(f"there is no encoding {shown(encoding)}")
     except UnicodeDecodeError as error:
         text = data.decode("windows-1252", "replace")
-        line = data.count(b"\n", 0, error.start) + 1
-        part = text.split("\n")[line - 1].strip()
+        line = with_feeds(text[: error.start]).count("\n") + 1
+        part = with_feeds(text).split("\n")[line - 1].strip()
         faults.add(
             At(str(path), line),
             "encoding",
@@ -193,8 +202,9 @@ def tables_of(paths, wanted, reading, faults):
             begins = data.startswith((b"\xef\xbb\xbf", b"\xff\xfe", b"\xfe\xff"))
             found.append(Table(str(path), text, begins))
         found[-1].sha256 = hashlib.sha256(data).hexdigest()
+    missing = [table.call(reading.heads) for table in found]
     for head, own in reading.heads.items():
-        if not any([table.call(head, own) for table in found]):
+        if all(head in heads for heads in missing):
             others = "".join(f", nor in {table.name}" for table in found[:-1])
             faults.add(
                 At(found[-1].name, 1, own),

@@ -247,6 +247,16 @@ class Reading(WithFolder):
                     (self.out / "pairs.csv").read_text(), "who,what,cost,note\nA,Y,5,q\nB,X,1,r\n"
                 )
 
+    def test_own_heads_among_earlier_results(self):
+        """Columns of earlier results stay if one of them is read, by another head. Heads of two
+        lines don't hide what separates them."""
+        heads = "from;to;most;cost;carries;total;free;one_more_saves;exact"
+        routes = f'{heads};"a\r\nnote"\r\nA;B;5;0;0;7;5;0;no;x\r\n'
+        status = self.flow("name,supply\nA,2\nB,-2\n", routes, "--map", "cost=total")[0]
+        results = ";carries;total;free;one_more_saves;exact"
+        expected = f'{heads};"a\nnote"{results}\nA;B;5;0;0;7;5;0;no;x;2;14;3;0;yes\n'
+        self.assertEqual((status, (self.out / "flows.csv").read_text()), (0, expected))
+
     def test_costs_with_decimals_of_pairs(self):
         self.assertIn("cost 0,3.", self.pairs(";X;Y\nA;0,1;0,7\nB;0,3;0,2\n")[1])
         self.assertEqual((self.out / "pairs.csv").read_text(), "who;what;cost\nA;X;0,1\nB;Y;0,2\n")
