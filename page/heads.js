@@ -1,16 +1,19 @@
 // @ts-check
 // The heads of results, and the columns that results copy.
-import { listed, shown } from './faults.js';
+import { BadTable, listed, shown } from './faults.js';
 import { cellAt } from './tables.js';
 
 /** @typedef {import('./tables.js').Table} Table */
 
+// The heads that titles of the planner's own may stand for.
+const OWN = 'name supply x y from to least most cost both who what takes needs'.split(' ');
+const NAMED = new RegExp(`(?:^|\\s)(${OWN.join('|')}|(?:most|cost) (?:[2-9]|[1-9]\\d+))=`);
 // The heads of results, in groups.
 export const FLOW_RESULTS = ['carries', 'total', 'free', 'one_more_saves', 'exact'];
 export const PLACE_RESULTS = ['one_more_costs', 'group'];
 export const THROUGH_RESULTS = ['passes', 'passing_costs', 'free', 'one_more_saves', 'exact'];
 // A sentence names at most so many of the columns that the results copy.
-const NAMED = 24;
+const LISTED = 24;
 
 // This function returns the columns of a table that the results copy and nothing else uses: those
 // without these heads, nor with heads of steps where the table has steps. Columns of earlier
@@ -30,7 +33,7 @@ export function carriedOf(table, known, hasSteps = false) {
 /** @type {(columns: string[]) => string[]} */
 export function carriedLines(columns) {
   return columns.length
-    ? [`Columns carried along, not used: ${listed([...new Set(columns)], NAMED)}.`]
+    ? [`Columns carried along, not used: ${listed([...new Set(columns)], LISTED)}.`]
     : [];
 }
 
@@ -38,3 +41,18 @@ export function carriedLines(columns) {
 // spelt out.
 /** @type {(title: string) => string} */
 export const plainHead = (title) => shown(title).slice(1, -1);
+
+// This function reads what the planner writes about titles: HEAD=NAME, and perhaps more of these.
+/** @type {(text: string) => Record<string, string>} */
+export function headsOf(text) {
+  const [begin, ...parts] = text.split(NAMED).map((part) => part.trim());
+  const heads = Object.fromEntries(parts.map((head, k) => [head, parts[k + 1]])
+    .filter((_, k) => k % 2 === 0));
+  if (begin || Object.values(heads).includes('')) {
+    throw new BadTable([
+      `heads in your tables, ${shown(text)}: write HEAD=NAME, where HEAD is one of `
+        + OWN.join(', '),
+    ]);
+  }
+  return heads;
+}

@@ -3,6 +3,7 @@
 import { Client } from './client.js';
 import { BadTable } from './faults.js';
 import { Grid } from './grid.js';
+import { headsOf } from './heads.js';
 import { svgOf } from './picture.js';
 import { csvOf } from './report.js';
 import { runFlow, runPairs, runText } from './running.js';
@@ -80,13 +81,7 @@ function sourceOf(id) {
 
 /** @type {() => Choices} */
 function choices() {
-  const heads = Object.fromEntries(
-    $('heads').value
-      .split(/\s+(?=\w+=)/)
-      .map((pair) => pair.split('='))
-      .filter(([head, own]) => head && own)
-      .map(([head, own]) => [head.trim(), own.trim()])
-  );
+  const heads = headsOf($('heads').value);
   return {
     reading: { decimal: $('decimal').value || null, encoding: $('encoding').value || null, heads },
     policy: {
@@ -171,13 +166,14 @@ function example(number) {
 /** @param {Change | null} [change] */
 async function go(change = null) {
   if (busy) return solver.stop();
-  const kind = kindOf(), before = change && plan, asked = choices(), begun = performance.now();
+  const kind = kindOf(), before = change && plan, begun = performance.now();
   busy = true;
   document.body.classList.add('busy');
   $('go').textContent = 'Stop';
   document.body.dataset.status = 'running';
   let status;
   try {
+    const asked = choices();
     /** @type {Record<string, () => Promise<Run>>} */
     const run = {
       flow: () => runFlow(solver, [sourceOf('places'), sourceOf('routes')], asked),

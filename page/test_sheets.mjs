@@ -1,6 +1,7 @@
 // This file tests what sheets and the lines around them say about plans, with given answers and
 // without the module.
 import { totalsOf } from './grid.js';
+import { headsOf } from './heads.js';
 import { csvOf, flowSummary, flowsTable } from './report.js';
 import { flowOf } from './running.js';
 import { blockedShown, changesShown, planShown } from './sheets.js';
@@ -146,6 +147,24 @@ async function leads(expect) {
   }
 }
 
+// Titles may have blanks and equals signs; heads of steps are two words.
+function titled(expect) {
+  const heads = headsOf(' supply=Angebot (t) most 2=a=b  cost 10=c to=Nach');
+  expect(
+    JSON.stringify(heads) === JSON.stringify(
+      { supply: 'Angebot (t)', 'most 2': 'a=b', 'cost 10': 'c', to: 'Nach' }
+    ),
+    `own heads: ${JSON.stringify(heads)}`
+  );
+  for (const text of ['suply=Angebot', 'to= from=Von', 'to 2=Nach']) {
+    let told = '';
+    try { headsOf(text); } catch ({ lines }) { told = lines[0]; }
+    expect(told.includes('write HEAD=NAME'), `own heads ${text}: ${told}`);
+  }
+  expect(Object.keys(headsOf('')).length === 0, 'no own heads');
+}
+
 export default async function test(expect) {
+  titled(expect);
   for (const part of [leads, totals, steps, delivered, penalties]) await part(expect);
 }
