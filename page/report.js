@@ -232,11 +232,7 @@ export function blockedSummary(blocked) {
 export function flowSummary(plan) {
   const { problem } = plan;
   const carrying = plan.routes.filter((result) => result.carries).length;
-  const full = plan.routes.filter((result) => result.free === 0n).length;
-  const passing = plan.places.reduce(
-    (sum, { through }) => (through ? sum + (through.cost || 0n) : sum),
-    0n
-  );
+  const full = plan.routes.filter((_, k) => plan.isFull(k)).length;
   const saving = savingsOf(plan);
   const cost = problem.said.total(plan.cost);
   const lines = [
@@ -245,9 +241,8 @@ export function flowSummary(plan) {
       + `${countOf(problem.routes.length, 'route', 'routes')}: `
       + `${carrying} ${carrying === 1 ? 'carries' : 'carry'} something, `
       + `${full} ${full === 1 ? 'is' : 'are'} full.`,
-    ...unmetLines(plan),
+    ...besideLines(plan),
   ];
-  if (passing) lines.push(`Passing through places costs ${problem.said.total(passing)} of that.`);
   if (saving.length) lines.push('One more unit of room would save most on:');
   return [
     ...lines,
@@ -280,9 +275,9 @@ export function savingsOf(plan) {
   );
 }
 
-// This function says what stays and what is missing.
+// This function says what stays, what is missing, and what passing through places costs.
 /** @type {(plan: FlowPlan) => string[]} */
-function unmetLines(plan) {
+export function besideLines(plan) {
   const said = (/** @type {bigint} */ number) => plan.problem.said.amount(number);
   const { policy, problem } = plan;
   const lines = [];
@@ -300,5 +295,7 @@ function unmetLines(plan) {
         : `Nothing ${isSupply ? 'stays' : 'is missing'}.`
     );
   }
-  return lines;
+  const passing = plan.places.reduce((sum, { through }) => sum + (through?.cost || 0n), 0n);
+  const costs = plan.problem.said.total(passing);
+  return passing ? [...lines, `Passing through places costs ${costs} of that.`] : lines;
 }

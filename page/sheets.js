@@ -4,9 +4,9 @@
 import { balanceOf } from './blocked.js';
 import { pairsSummary, pairsTable, rivalsLines, rivalsSentence, rivalsTable } from './pairs.js';
 import {
+  besideLines,
   bottleneckSentence,
   bottleneckTable,
-  flowSummary,
   flowsTable,
   pricesTable,
   savingsOf,
@@ -78,7 +78,7 @@ export function planShown(plan) {
     lead: [
       ...warnings(problem, plan.policy),
       'No plan for these tables costs less.',
-      ...flowSummary(plan).slice(2).filter((line) => /stay|missing|Passing/.test(line)),
+      ...besideLines(plan),
       ...problem.told()
     ],
     facts,

@@ -149,7 +149,7 @@ def flow_summary(plan):
     """The summary of a plan."""
     problem = plan.problem
     carrying = sum(1 for result in plan.routes if result.carries)
-    full = sum(1 for result in plan.routes if result.free == 0)
+    full = sum(map(plan.is_full, range(len(plan.routes))))
     passing = sum(result.through.cost or 0 for result in plan.places if result.through)
     lines = [
         f"A least-cost plan, proved: cost {problem.said(plan.cost)}.",
