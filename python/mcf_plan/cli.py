@@ -29,6 +29,8 @@ HEADS = (
     "takes",
     "needs",
 )
+# The head of a step after the first.
+STEP = re.compile("^(most|cost) (?:[2-9]|[1-9][0-9]+)$")
 STATUSES = (
     "Status 0: a plan, proved. 1: no plan exists, proved. 2: a bad table or a wrong call. 3:"
     " anything else. 130: interrupted. Of verify, 0: the same answer, proved. 1: another one."
@@ -208,7 +210,7 @@ def reading_of(options):
     wrong = [
         word
         for word in options.map
-        if re.sub("^(most|cost) [2-9]$", r"\1", word.split("=")[0]) not in HEADS or "=" not in word
+        if STEP.sub(r"\1", word.split("=")[0]) not in HEADS or not word.partition("=")[2].strip()
     ]
     if wrong:
         raise Stop(

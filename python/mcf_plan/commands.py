@@ -50,7 +50,7 @@ class Asking:
         if self.command == "pairs":
             words = ["--each", options.each] if options.each else []
             return self.answer(*words, *(["--maximise", "yes"] if options.maximise else []))
-        if options.penalty:
+        if options.penalty is not None:
             self.settle()
         return self.answer(*policy_words(options.unused, options.short, options.penalty))
 
@@ -64,7 +64,7 @@ class Asking:
     def settle(self):
         """Settles the mark of a penalty, which is written as in the tables."""
         penalty, mark = self.options.penalty, re.search("[.,]", self.options.penalty)
-        is_number = re.fullmatch("[0-9]+([.,][0-9]+)?", penalty)
+        is_number = re.fullmatch("[0-9]{1,18}([.,][0-9]{1,18})?", penalty)
         if is_number and mark and not self.decimal:
             is_either = re.fullmatch("[1-9][0-9]{0,2}[.,][0-9]{3}", penalty)
             self.decimal = self.answer().shown_mark or (None if is_either else mark[0])
@@ -81,7 +81,7 @@ def policy_words(unused, short, penalty):
 
 def flow_command(options, reading):
     """Runs `flow`: returns the lines of the summary and the status."""
-    if options.penalty and options.short != "allow":
+    if options.penalty is not None and options.short != "allow":
         raise Stop(f"--penalty {options.penalty}: it comes with --short allow", 2)
     options.unused = options.unused == "allow" or options.most_flow
     options.short = options.short == "allow" or options.most_flow

@@ -137,7 +137,9 @@ def text_of(path, data, encoding, faults):
         text = data.decode(encoding)
     except LookupError:
         raise bad_table(f"there is no encoding {shown(encoding)}")
-    except UnicodeDecodeError as error:
+    except UnicodeError as error:
+        if encoding != "utf-8":
+            raise bad_table(not_text(path, encoding))
         text = data.decode("windows-1252", "replace")
         line = with_feeds(text[: error.start]).count("\n") + 1
         part = with_feeds(text).split("\n")[line - 1].strip()
@@ -147,14 +149,15 @@ def text_of(path, data, encoding, faults):
             "this isn't in UTF-8, but perhaps in Windows-1252 (ANSI), which reads"
             f" {shown(part)}: in Excel, save as CSV UTF-8; or say --encoding windows-1252",
         )
-        if encoding != "utf-8":
-            text = "\0"
     if "\0" in text:
-        raise bad_table(
-            f"{path}: this isn't text in {encoding.upper() if encoding == 'utf-8' else encoding};"
-            " save the table as CSV in UTF-8"
-        )
+        raise bad_table(not_text(path, encoding))
     return text.lstrip("\ufeff")
+
+
+def not_text(path, encoding):
+    """The sentence that a file isn't text in an encoding."""
+    name = "UTF-8" if encoding == "utf-8" else encoding
+    return f"{path}: this isn't text in {name}; save the table as CSV in UTF-8"
 
 
 def sheet_with(path, sheets, wanted, reading):

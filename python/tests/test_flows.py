@@ -261,8 +261,14 @@ class Unbalanced(WithFolder):
             ["--penalty", "3"],
             ["--short", "allow", "--penalty", "much"],
             ["--short", "allow", "--penalty", "-1"],
+            ["--short", "allow", "--penalty", ""],
+            ["--short", "allow", "--penalty", "1" + 40 * "0"],
+            ["--short", "allow", "--penalty", "1" + 15 * "0" + ".1", "--decimal", "."],
+            ["--short", "allow", "--penalty", "1" + 14 * "0" + "1"],
         ):
-            self.assertEqual(self.flow(self.PLACES, self.ROUTES, *words)[0], 2)
+            status, _, told = self.flow(self.PLACES, self.ROUTES, *words)
+            self.assertEqual(status, 2)
+            self.assertIn("mcf_plan: --penalty", told)
 
     def test_as_much_as_can_be(self):
         status, said, _ = self.flow(

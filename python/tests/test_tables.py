@@ -96,6 +96,19 @@ class BadTables(WithFolder):
             with self.subTest(words=words):
                 self.assertEqual(run(*words)[0], 2)
 
+    def test_heads_and_encodings_that_are_none(self):
+        for words, text in (
+            (["--map", "supply="], "--map supply=: say --map HEAD=NAME"),
+            (["--map", "most 1=A"], "--map most 1=A: say --map HEAD=NAME"),
+            (["--map", "most 10=A"], "there is no such column, which --map most 10=A names"),
+            (["--encoding", "undefined"], "places.csv: this isn't text in undefined"),
+            (["--encoding", "none"], "there is no encoding 'none'"),
+        ):
+            with self.subTest(words=words):
+                status, _, told = self.flow(PLACES, ROUTES, *words)
+                self.assertEqual(status, 2)
+                self.assertIn(text, told)
+
     def test_a_table_is_never_written_over(self):
         places, routes = self.put("places.csv", PLACES), self.put("flows.csv", ROUTES)
         status, _, told = run("flow", places, routes, "-o", self.folder)
