@@ -200,7 +200,7 @@ export function rivalsSentence(found) {
   const { side, musts, must, can } = found, { rivals, pairs } = limiting(found);
   const names = musts.map(({ name }) => name), others = rivals.map(({ name }) => name);
   const isSend = side === 'send';
-  if (!can) {
+  if (!rivals.length && !pairs.length) {
     return isSend ? `${listed(names)} can get nothing.` : `Nobody may do ${listed(names)}.`;
   }
   if (!pairs.length && [...musts, ...rivals].every(({ number }) => number === 1n)) {
@@ -247,7 +247,7 @@ export function rivalsTable(roster, rivals) {
 /** @type {(roster: Roster) => SavedTable} */
 export function pairsTable({ table, pairs, units, isList }) {
   if (isList) {
-    const rows = pairs.map(({ cells }) => cells);
+    const rows = pairs.map(({ cells }) => table.titles.map((_, place) => cellAt(cells, place)));
     return { name: 'pairs', like: table, heads: table.titles, rows, figures: [] };
   }
   const rows = pairs.map(({ who, what, cost }) => [who, what, units.rate(cost)]);

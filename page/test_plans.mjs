@@ -17,6 +17,7 @@ import {
   slips,
 } from './report.js';
 import { flowOf, pairsOf } from './running.js';
+import { planShown } from './sheets.js';
 import { loaded } from './test_module.mjs';
 import { speakAs } from './words.js';
 
@@ -146,6 +147,13 @@ async function written(expect, solver) {
 // Columns of earlier results stay if one of them is read, by another head. Heads of two lines don't
 // hide what separates them.
 async function mapped(expect, solver) {
+  const short = await told(
+    'pairs',
+    solver,
+    [{ name: 'costs', text: 'who,what,cost,note\nA,T,1\n' }],
+    asked([])
+  );
+  expect(csvOf(short.tables[0]) === 'who,what,cost,note\nA,T,1,\n', 'a row without its last cell');
   const sources = [
     { name: 'places', text: 'name,supply\nA,2\nB,-2\n' },
     {
@@ -154,6 +162,15 @@ async function mapped(expect, solver) {
         + 'A;B;5;0;0;7;5;0;no;x\r\n',
     },
   ];
+  const { plan } = await flowOf(
+    solver,
+    [
+      { name: 'places', text: 'name,supply\nHomestay,1\nB,-1\n' },
+      { name: 'routes', text: 'from,to,most,cost\nHomestay,B,1,1\nHomestay,B,1,2\n' },
+    ],
+    asked([])
+  );
+  expect(planShown(plan).lead.length === 1, `a place like a word: ${planShown(plan).lead}`);
   const { tables, mark } = await told('flow', solver, sources, asked(['--map', 'cost=total']));
   const flows = csvOf(tables[0], mark);
   expect(

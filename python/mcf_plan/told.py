@@ -100,8 +100,8 @@ class Teller:
         cells = (cell for table in tables for cell in number_cells(*table))
         self.shows = [(mark_in(one[2]), *one) for one in cells if mark_in(one[2])]
         for word, line, *more in faults:
-            if word == "options":
-                text = "this is no cost, written as in the tables"
+            if word == "options" or not word and self.options.penalty:
+                text = BEYOND.format(this="this")
                 self.faults.add(At(f"--penalty {self.options.penalty}", ""), more[1], text)
             else:
                 self.note(word or "places", int(line or 0), *more)
@@ -197,8 +197,8 @@ class Teller:
         sheet, names = self.sheets[word], set(self.names() if word == "routes" else ()) - {""}
         if word == "places" and sheet.has(("from", "to")):
             return "this looks like the table of routes, which comes second; "
-        count = len(sheet.titles) - 1
-        if count > 1 and 2 * sum(title in names for title in sheet.titles[1:]) >= count:
+        titles = [self.tables[word].title(title) for title in sheet.titles[1:]]
+        if len(titles) > 1 and 2 * sum(title in names for title in titles) >= len(titles):
             return "this looks like a matrix, and routes are a list, a line for each; "
         return ""
 
