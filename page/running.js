@@ -32,26 +32,38 @@ const PENALTY = /^[0-9]+(?:([.,])[0-9]+)?$/;
 
 /** @typedef {import('./tables.js').TableText} TableText */
 
+// This function has the module answer texts.
+/**
+ * @param {Solver} solver
+ * @param {TableText[]} texts
+ * @param {Reading} reading
+ * @param {TableOptions} options
+ * @returns {Promise<{ found: Answer, result: Result }>}
+ */
+async function untold(solver, texts, reading, options) {
+  const decimal = reading.decimal || '', bytes = texts.map((text) => text.bytes());
+  const result = await solver.plan(bytes, { decimal, ...options });
+  if (!['flow', 'blocked', 'refused'].includes(result.status)) {
+    throw new NoAnswer(result.status, result.why);
+  }
+  return { found: new Answer(result.answer), result };
+}
+
 // This function has the module answer texts, which have these words in answers, and throws a
-// BadTable for faults.
+// BadTable for faults: of the answer, and those that were noted before.
 /**
  * @param {Solver} solver
  * @param {Record<string, TableText>} texts
  * @param {Reading} reading
  * @param {TableOptions} options
- * @param {Faults} [faults] what is wrong with the texts
+ * @param {Faults} faults
  * @returns {Promise<{ found: Answer, result: Result }>}
  */
-async function answered(solver, texts, reading, options, faults = new Faults()) {
-  const decimal = reading.decimal || '', bytes = Object.values(texts).map((text) => text.bytes());
-  const result = await solver.plan(bytes, { decimal, ...options });
-  if (!['flow', 'blocked', 'refused'].includes(result.status)) {
-    throw new NoAnswer(result.status, result.why);
-  }
-  const found = new Answer(result.answer);
-  new Teller(texts, reading, faults, options.penalty).tell(found);
+async function answered(solver, texts, reading, options, faults) {
+  const answer = await untold(solver, Object.values(texts), reading, options);
+  new Teller(texts, reading, faults, options.penalty).tell(answer.found);
   faults.end();
-  return { found, result };
+  return answer;
 }
 
 // This function returns the options for a penalty and the mark before its decimals. It is written
@@ -98,7 +110,9 @@ export async function flowOf(solver, sources, { reading, policy }) {
   let eased = null;
   if (surplus) {
     const unused = policy.unused || surplus > 0n, short = policy.short || surplus < 0n;
-    const { found: answer } = await answered(solver, texts, reading, { ...more, unused, short });
+    const { found: answer } = await untold(
+      solver, [places, routes], reading, { ...more, unused, short }
+    );
     eased = { policy: { unused, short }, answer };
   }
   return { problem, blocked: new Blocked(problem, policy, found, eased), result };

@@ -35,11 +35,15 @@ class Asking:
         ):
             self.decimal = "."
 
-    def answer(self, *more):
-        """The answer to the tables with further options. Ends the run if they have faults."""
+    def untold(self, *more):
+        """The answer to the tables with further options, whose faults aren't told."""
         more = ["--decimal", self.decimal, *more] if self.decimal else more
         texts = [table.text for table in self.tables]
-        found = answer_to(self.program, [self.command, *more], texts)
+        return answer_to(self.program, [self.command, *more], texts)
+
+    def answer(self, *more):
+        """The answer to the tables with further options. Ends the run if they have faults."""
+        found = self.untold(*more)
         Teller(self.words, self.tables, self.options, self.faults).tell(found)
         self.faults.end()
         return found
@@ -88,7 +92,7 @@ def flow_command(options, reading):
     asking = Asking(options, reading)
 
     def answer(unused, short):
-        return asking.answer(*policy_words(unused, short, options.penalty))
+        return asking.untold(*policy_words(unused, short, options.penalty))
 
     with results_in(options.folder) as folder:
         found = asking.write(folder)
