@@ -18,6 +18,9 @@ OPTIONS = {
     "flow": {**READING, "unused": bool, "short": bool, "penalty": TEXT},
     "pairs": {**READING, "each": TEXT, "maximise": bool},
 }
+# The values of options that have few, and the most files of each command.
+CHOICES = {"decimal": (None, ",", "."), "each": (None, "who", "what", "both")}
+FILES = {"flow": 2, "pairs": 1}
 # The command, the files of its tables, its options, and the SHA-256 of answer.csv.
 Asked = collections.namedtuple("Asked", "command tables options answer_sha256")
 File = collections.namedtuple("File", "name sha256")
@@ -78,8 +81,9 @@ def is_well_formed(asked):
     kinds, options = OPTIONS[asked.command], asked.options
     texts = [text for file in asked.tables for text in file] + [*options["map"].values()]
     return (
-        len(asked.tables) > 0
+        0 < len(asked.tables) <= FILES[asked.command]
         and options.keys() == kinds.keys()
         and all(isinstance(options[name], kind) for name, kind in kinds.items())
+        and all(options.get(name) in values for name, values in CHOICES.items())
         and all(isinstance(text, str) for text in texts)
     )
