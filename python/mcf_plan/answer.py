@@ -20,6 +20,10 @@ class Sheet:
         self.head_line, self.titles, self.rows = line, titles, []
         self.heads = [title.lower() for title in titles]
 
+    def narrow(self, width):
+        """Leaves out the columns beyond this number, if it is one."""
+        del self.titles[width or len(self.titles) :], self.heads[width or len(self.heads) :]
+
     def place(self, head):
         """The place of the column with a head, or None."""
         return self.heads.index(head) if head in self.heads else None

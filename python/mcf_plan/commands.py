@@ -39,7 +39,11 @@ class Asking:
         """The answer to the tables with further options, whose faults aren't told."""
         more = ["--decimal", self.decimal, *more] if self.decimal else more
         texts = [table.text for table in self.tables]
-        return answer_to(self.program, [self.command, *more], texts)
+        found = answer_to(self.program, [self.command, *more], texts)
+        for word, table in zip(self.words, self.tables):
+            if word in found.sheets:
+                found.sheets[word].narrow(table.width)
+        return found
 
     def answer(self, *more):
         """The answer to the tables with further options. Ends the run if they have faults."""

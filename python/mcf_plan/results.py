@@ -41,8 +41,7 @@ class Results:
             if separator not in SEPARATORS:
                 output.write(f"sep={separator}\n")
             writer = csv.writer(output, delimiter=separator, lineterminator="\n")
-            writer.writerow(heads)
-            writer.writerows([self.cell(value) for value in row] for row in rows)
+            writer.writerows([self.cell(value) for value in row] for row in [heads, *rows])
         if self.sheets is not None:
             self.sheets.append((name, heads, rows))
 

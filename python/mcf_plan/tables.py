@@ -39,11 +39,12 @@ class Table:
     """A table as a text in UTF-8, in Unicode normal form C, whose lines end with line feeds: as
     `mcfplan` reads all of them. `has_mark` says whether its file
     has a byte-order mark; `own` has the user's titles by those that replace them in the text;
-    `figures` has the numbers of a sheet by their lines and places; `sha256` is that of
-    its file, once it was read."""
+    `figures` has the numbers of a sheet by their lines and places, `width` the number of its
+    columns; `sha256` is that of its file, once it was read."""
 
     def __init__(self, name, text, has_mark=False, book=None, figures=None):
         self.name, self.has_mark, self.book, self.figures = name, has_mark, book, figures or {}
+        self.width = None
         self.text, self.own, self.sha256 = unicodedata.normalize("NFC", with_feeds(text)), {}, None
         if not self.text.strip(BLANKS):
             raise bad_table(
@@ -183,7 +184,9 @@ def sheet_with(path, sheets, wanted, reading):
         for place, cell in enumerate(row)
         if isinstance(cell, Figure)
     }
-    return Table(f"{path}, sheet {title}", text.getvalue(), False, path, figures)
+    found = Table(f"{path}, sheet {title}", text.getvalue(), False, path, figures)
+    found.width = max(map(len, rows))
+    return found
 
 
 def tables_of(paths, wanted, reading, faults):

@@ -215,10 +215,11 @@ class Reading(WithFolder):
     def test_results_are_tables_again(self):
         self.flow(
             PLACES,
-            ROUTES.replace("cost\n", "cost,carrier\n").replace(",4\n", ",4,=HYPERLINK(1)\n"),
+            ROUTES.replace("cost\n", "cost,=A1\n").replace(",4\n", ",4,=HYPERLINK(1)\n"),
             "--guard-formulas",
         )
         once = (self.out / "flows.csv").read_text()
+        self.assertIn("from,to,least,most,cost,'=A1,carries,", once)
         self.assertIn("Mill,Wien,0,15,4,'=HYPERLINK(1),15,60,0,5,yes\n", once)
         self.assertEqual(
             run(
@@ -333,6 +334,15 @@ class Workbooks(WithFolder):
         self.assertEqual((status, told), (0, ""))
         self.assertIn("cost 7.2630007.", said)
         self.assertIn("101,0.3,", (self.out / "prices.csv").read_text(encoding="utf-8-sig"))
+
+    def test_separators_in_heads_add_no_columns(self):
+        places = [["name", "Menge; t", "note"], ["A", 1, "x"], ["B", -1, "y"]]
+        book = self.book(a=places, b=[["from", "to", "most", "cost"], ["A", "B", None, 2]])
+        self.assertEqual(run("flow", book, "-o", self.out, "--map", "supply=Menge; t")[0], 0)
+        self.assertEqual(
+            (self.out / "prices.csv").read_text(encoding="utf-8-sig"),
+            "name,Menge; t,note,one_more_costs,group\nA,1,x,0,1\nB,-1,y,2,1\n",
+        )
 
     def test_numbers_and_texts_of_a_workbook(self):
         import openpyxl
