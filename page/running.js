@@ -18,7 +18,7 @@ import { Problem } from './model.js';
 import { networkOf } from './network.js';
 import { Roster } from './pairs.js';
 import { FlowPlan } from './plan.js';
-import { NO_COST, Teller } from './sentences.js';
+import { Teller } from './sentences.js';
 import { NoAnswer, bottlenecksOf, linesOf, planOf } from './solving.js';
 import { textsOf } from './tables.js';
 import { grouped } from './view.js';
@@ -28,7 +28,7 @@ import { CODES, words } from './words.js';
 // than SEARCHED, it shows the set that the answer names.
 const TABLES = 3e7, SEARCHED = 100000;
 // A penalty, perhaps with a mark before its decimals.
-const PENALTY = /^[0-9]+(?:([.,])[0-9]+)?$/;
+const PENALTY = /^[0-9]{1,18}(?:([.,])[0-9]{1,18})?$/;
 
 /** @typedef {import('./tables.js').TableText} TableText */
 
@@ -84,7 +84,7 @@ async function priced(solver, texts, reading, penalty, faults) {
     decimal = found.mark || markIn(penalty);
   }
   if (!isNumber || (mark && mark !== decimal)) {
-    throw new BadTable([`${words().penalty(penalty)}: ${NO_COST}`]);
+    throw new BadTable([`${words().penalty(penalty)}: this is no cost, written as in the tables`]);
   }
   return { penalty, decimal: decimal || '' };
 }
@@ -110,9 +110,8 @@ export async function flowOf(solver, sources, { reading, policy }) {
   let eased = null;
   if (surplus) {
     const unused = policy.unused || surplus > 0n, short = policy.short || surplus < 0n;
-    const { found: answer } = await untold(
-      solver, [places, routes], reading, { ...more, unused, short }
-    );
+    const options = { ...more, unused, short };
+    const { found: answer } = await untold(solver, [places, routes], reading, options);
     eased = { policy: { unused, short }, answer };
   }
   return { problem, blocked: new Blocked(problem, policy, found, eased), result };

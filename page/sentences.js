@@ -20,6 +20,7 @@ export const NEEDED = {
   routes: ['from', 'to', 'most', 'cost'],
   costs: ['who', 'what', 'cost'],
 };
+const TOO_GREAT = '{this} is beyond the limits, by itself or in total ({limits})';
 // What is wrong, as the module calls it, perhaps with its column, and the sentence.
 /** @type {Record<string, string>} */
 const SENTENCES = {
@@ -49,8 +50,8 @@ const SENTENCES = {
   'other decimal mark': "{cell} isn't written with {mark} before decimals, {chosen}",
   'no number': '{cell} is no number',
   'too many digits': '{cell} has too many digits',
-  'too great': '{this} is beyond the limits, by itself or in total ({limits})',
-  'beyond the limits': '{this} is beyond the limits, by itself or in total ({limits})',
+  'too great': TOO_GREAT,
+  'beyond the limits': TOO_GREAT,
   'after a step without a limit': 'the step before is without a limit',
   'neither yes nor no': '{cell} is neither yes nor no',
   'falling cost':
@@ -73,8 +74,6 @@ const NOTHING =
   'is read: the heads are {heads} (split at {separator}), with {lines} below; a list has the '
     + 'columns who, what and cost, a matrix things in its first line and persons in its first '
     + 'column';
-// What is wrong with a penalty.
-export const NO_COST = 'this is no cost, written as in the tables';
 // What is wrong with a title that isn't read, and the head that it is about.
 const TITLE = /^(nearly|not read without) (.*)$/;
 // The heads of numbers.
@@ -116,8 +115,10 @@ export class Teller {
     }
     this.shows = [...numberCells(this.tables)].filter(({ cell }) => markIn(cell));
     for (const [word, ...more] of found) {
-      if (word !== 'options') this.note([word || 'places', ...more]);
-      else this.faults.add(at(words().penalty(this.penalty), 0), more[2], NO_COST);
+      if (word === 'options' || (!word && this.penalty)) {
+        const text = TOO_GREAT.replace('{this}', 'this').replace('{limits}', words().limits);
+        this.faults.add(at(words().penalty(this.penalty), 0), more[2], text);
+      } else this.note([word || 'places', ...more]);
     }
     if (this.tables.places) spotsOf(this.tables.places, this.faults);
   }
