@@ -15,7 +15,18 @@ HERE = pathlib.Path(__file__).resolve().parent
 TOP = HERE.parent
 PLANS = TOP / "examples" / "plans"
 IMPORT = re.compile(r"^import \{[^}]*\} from '\./(\w+)\.js';\n", re.M)
-DECLARED = re.compile(r"^(?:export )?(?:async )?(?:function|class|const|let) (\w+)", re.M)
+DECLARED = re.compile(r"^(?:export )?(?:async )?(?:function|class) (\w+)", re.M)
+STORED = re.compile(r"^(?:export )?(?:const|let) (.*)", re.M)
+BRACKETS = re.compile(r"\([^()]*\)|\[[^][]*\]")
+NAMED = re.compile(r"(?:^|, )(\w+)(?= =|;|,)")
+
+
+def names(text):
+    """This function returns the names that a source declares outside of functions."""
+    stored = [
+        name for line in STORED.findall(text) for name in NAMED.findall(BRACKETS.sub("", line))
+    ]
+    return DECLARED.findall(text) + stored
 
 
 def script(begin):
@@ -32,7 +43,7 @@ def script(begin):
         text = (HERE / f"{name}.js").read_text(encoding="utf-8")
         for below in IMPORT.findall(text):
             add(below)
-        for word in DECLARED.findall(text):
+        for word in names(text):
             assert (
                 declared.setdefault(word, name) == name
             ), f"{word} is declared in {declared[word]}.js and in {name}.js"
