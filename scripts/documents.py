@@ -396,7 +396,7 @@ FUNCTIONS = {
 
 # What PLANS names and TABLES defines, in the order in which TABLES needs it.
 TABLE_NAMES = """
-Reads named_separator head_line SplitsBest head_row
+Reads named_separator front_lines SplitsBest head_row
 cells_of mcf_reading.head_faults place_columns route_columns all_step_columns
 mcf_reading.settled_mark number_cells
 is_filled cell_at read_number read_amount is_no_limit read_limit is_yes way_kind number_of

@@ -4,7 +4,7 @@ use Rattle.std.specs.Prelude.{◌≡◌, ℕ, Bool, true, false, ◌⊎◌, List
 use Rattle.std.specs.Option.{is_some}
 use Rattle.mcf_table.specs.HeadRows.{head_row}
 use Rattle.mcf_table.specs.NamedSeparators.{named_separator}
-use Rattle.mcf_table.specs.Separators.{SplitsBest, head_line}
+use Rattle.mcf_table.specs.Separators.{SplitsBest, front_lines}
 use Rattle.mcf_table.specs.Texts.{Reads, Record}
 use Rattle.mcf_table.specs.declared.fault.TextFault.{TextFault}
 
@@ -20,7 +20,7 @@ route_wanted = codes "from" ∷ codes "to" ∷ codes "most" ∷ codes "cost" ∷
 -- splits the line of its heads best
 abbrev pub IsSeparatedBy : List (List ℕ) → List ℕ → ℕ → Type 0
 IsSeparatedBy wanted text byte =
-    (named_separator text ≡ Some byte) ⊎ ((named_separator text ≡ None) × SplitsBest (head_line text) wanted byte)
+    (named_separator text ≡ Some byte) ⊎ ((named_separator text ≡ None) × SplitsBest (front_lines text) wanted byte)
 
 -- one row names the separator, or none
 abbrev pub row_after : Bool → ℕ

@@ -1,6 +1,6 @@
 -- How a byte splits the line of the heads.
-use Rattle.std.proofs.Common.{◌≡◌, ℕ, ◌+◌, ◌<◌, Bool, true, false, List, [], ◌∷◌, length, map, take, drop, get_or, All, Some, refl, sym, ap, subst, ◌∙◌, arith, inl, inr}
-use Rattle.std.specs.Prelude.{◌==◌, ◌||◌, cond, position, count_by}
+use Rattle.std.proofs.Common.{◌≡◌, ℕ, suc, ◌+◌, ◌<◌, Bool, true, false, List, [], ◌∷◌, length, map, take, drop, get_or, All, Option, Some, None, IfSome, IfNone, ◌≢◌, refl, sym, ap, subst, ◌∙◌, arith, inl, inr}
+use Rattle.std.specs.Prelude.{◌==◌, ◌||◌, cond, position, count_by, filter, nat_lt, if◌then◌else◌}
 use Rattle.std.specs.List.{list_any, slice_split}
 use Rattle.std.proofs.lemmas.Bool.{eq-eqb, or_parts, cases_lt}
 use Rattle.std.proofs.lemmas.List.Elements.{All-cons, All-nil}
@@ -8,9 +8,10 @@ use Rattle.std.proofs.lemmas.List.Quantifiers.{position-Some}
 use Rattle.std.proofs.lemmas.List.Sums.{sum_by-cons}
 use Rattle.std.proofs.lemmas.List.Splits.{length-slice_split, slice_split_at, slice_split_none}
 use Rattle.std.specs.Borrow.{Bor}
+use Rattle.mcf_table.specs.Blanks.{back_trimmed, front_trimmed, trimmed}
 use Rattle.mcf_table.specs.LineEnds.{unmarked}
-use Rattle.mcf_table.specs.Separators.{AreBetter, SplitsBest, ends_line, first_written, head_line, is_head, is_written, parts_of}
-use Rattle.mcf_table.specs.Private.Found.{IsAbove, IsFirstAt, IsRank}
+use Rattle.mcf_table.specs.Separators.{AreBetter, SplitsBest, ends_line, front_lines, head_line, head_parts, is_head, is_written, parts_of, wanted_count, written_lines}
+use Rattle.mcf_table.specs.Private.Found.{IsAbove, IsFirstAt, IsRank, with_more}
 use Rattle.mcf_table.specs.declared.separators.Rank.{Rank}
 use Rattle.mcf_table.proofs.CutLemmas.{cut_at, none_before}
 
@@ -28,11 +29,18 @@ split_found test text place inside is none =
 pub split_last : (test : ℕ → Bool) (text : List ℕ) → list_any test text ≡ false → slice_split test text ≡ text ∷ []
 split_last test text none = slice_split_none test text (none_all test text none)
 
-pub written_first : (line : List ℕ) (lines : List (List ℕ)) → is_written line ≡ true → first_written (line ∷ lines) ≡ line
-written_first line lines is = rw is refl
+pub written_next : (text line : List ℕ) (lines : List (List ℕ)) → slice_split ends_line text ≡ line ∷ lines → is_written line ≡ true
+    → written_lines text ≡ line ∷ filter is_written lines
+written_next text line lines are is = ap (filter is_written) are ∙ rw is refl
 
-pub blank_first : (line : List ℕ) (lines : List (List ℕ)) → is_written line ≡ false → first_written (line ∷ lines) ≡ first_written lines
-blank_first line lines other = rw other refl
+pub written_last : (text : List ℕ) → slice_split ends_line text ≡ text ∷ [] → is_written text ≡ true
+    → written_lines text ≡ text ∷ written_lines []
+unfolding trimmed back_trimmed front_trimmed
+written_last text alone is = written_next text text [] alone is
+
+pub blank_next : (text line : List ℕ) (lines : List (List ℕ)) → slice_split ends_line text ≡ line ∷ lines → is_written line ≡ false
+    → written_lines text ≡ filter is_written lines
+blank_next text line lines are other = ap (filter is_written) are ∙ rw other refl
 
 pub any_first : (head part : List ℕ) (parts : List (List ℕ)) → is_head head part ≡ true → list_any (is_head head) (part ∷ parts) ≡ true
 any_first head part parts is = rw is refl
@@ -94,64 +102,100 @@ rank_is wanted line byte rank heads count =
       count = ap (λ (n : ℕ). n + 1) count ∙ sym (length-slice_split (λ b. b == byte) line);
     }
 
-abbrev Better : List ℕ → List (List ℕ) → ℕ → ℕ → Type 0
-Better line wanted byte other = AreBetter wanted (parts_of byte line) (parts_of other line)
+abbrev Ranks : List (List ℕ) → List (List ℕ) → ℕ → Rank → Type 0
+Ranks lines wanted byte rank = IsRank (head_line wanted byte lines) wanted byte rank
 
-abbrev Worse : List ℕ → List (List ℕ) → ℕ → ℕ → Type 0
-Worse line wanted byte other = ¬ AreBetter wanted (parts_of other line) (parts_of byte line)
+-- ---- the line that may have the heads
 
-better : (line : List ℕ) (wanted : List (List ℕ)) (byte other : ℕ) (r s : Rank) → IsRank line wanted byte r → IsRank line wanted other s
-    → IsAbove r s → Better line wanted byte other
-better line wanted byte other r s is also (inl a) = inl (omega (arith, a, is.wanted, also.wanted))
-better line wanted byte other r s is also (inr (same, a)) =
+pub rank_first : (line : List ℕ) (lines wanted : List (List ℕ)) (byte : ℕ) (rank : Rank) → lines ≡ [] → IsRank line wanted byte rank
+    → Ranks (line ∷ lines) wanted byte rank
+rank_first line lines wanted byte rank none is = rw none is
+
+rank_picked : (test : Bool) (line best : List ℕ) (wanted : List (List ℕ)) (byte : ℕ) (here later : Rank) → IsRank line wanted byte here
+    → IsRank best wanted byte later → IsRank (if test then best else line) wanted byte (if test then later else here)
+rank_picked true line best wanted byte here later is also = also
+rank_picked false line best wanted byte here later is also = is
+
+pub rank_with_more : (line other : List ℕ) (lines wanted : List (List ℕ)) (byte : ℕ) (here later : Rank) → IsRank line wanted byte here
+    → Ranks (other ∷ lines) wanted byte later → Ranks (line ∷ other ∷ lines) wanted byte (with_more here (Some later))
+rank_with_more line other lines wanted byte here later is also =
+    let best = head_line wanted byte (other ∷ lines) in
+    let same = ap (λ (n : ℕ). nat_lt n later.wanted) is.wanted ∙ ap (nat_lt (wanted_count wanted (parts_of byte line))) also.wanted in
+    subst (λ (test : Bool). IsRank (if test then best else line) wanted byte (with_more here (Some later))) same
+    (rank_picked (nat_lt here.wanted later.wanted) line best wanted byte here later is also)
+
+rank_by_two : (line : List ℕ) (later_lines wanted : List (List ℕ)) (byte : ℕ) (here later : Rank) → IsRank line wanted byte here
+    → later_lines ≢ [] → Ranks later_lines wanted byte later → Ranks (line ∷ later_lines) wanted byte (with_more here (Some later))
+rank_by_two line [] wanted byte here later is some also = absurd (some refl)
+rank_by_two line (other ∷ lines) wanted byte here later is some also = rank_with_more line other lines wanted byte here later is also
+
+-- the rank of the first of these lines, and that of the later ones
+pub rank_joined : (count fewer : ℕ) (line : List ℕ) (all rest wanted : List (List ℕ)) (byte : ℕ) (here : Rank) (later : Option Rank)
+    → count ≡ suc fewer → all ≡ line ∷ rest → IsRank line wanted byte here
+    → IfSome later (λ rank. take fewer rest ≢ []) → IfSome later (λ rank. Ranks (take fewer rest) wanted byte rank)
+    → IfNone later (take fewer rest ≡ []) → Ranks (take count all) wanted byte (with_more here later)
+rank_joined count fewer line all rest wanted byte here None next are is some ranked none =
+    rw next (rw are (rank_first line (take fewer rest) wanted byte here none is))
+rank_joined count fewer line all rest wanted byte here (Some later) next are is some ranked none =
+    rw next (rw are (rank_by_two line (take fewer rest) wanted byte here later is some ranked))
+
+abbrev Better : List (List ℕ) → List (List ℕ) → ℕ → ℕ → Type 0
+Better lines wanted byte other = AreBetter wanted (head_parts lines wanted byte) (head_parts lines wanted other)
+
+abbrev Worse : List (List ℕ) → List (List ℕ) → ℕ → ℕ → Type 0
+Worse lines wanted byte other = ¬ AreBetter wanted (head_parts lines wanted other) (head_parts lines wanted byte)
+
+better : (lines wanted : List (List ℕ)) (byte other : ℕ) (r s : Rank) → Ranks lines wanted byte r → Ranks lines wanted other s
+    → IsAbove r s → Better lines wanted byte other
+better lines wanted byte other r s is also (inl a) = inl (omega (arith, a, is.wanted, also.wanted))
+better lines wanted byte other r s is also (inr (same, a)) =
     inr (omega (arith, same, is.wanted, also.wanted), omega (arith, a, is.count, also.count))
 
-above : (line : List ℕ) (wanted : List (List ℕ)) (byte other : ℕ) (r s : Rank) → IsRank line wanted byte r → IsRank line wanted other s
-    → Better line wanted byte other → IsAbove r s
-above line wanted byte other r s is also (inl a) = inl (omega (arith, a, is.wanted, also.wanted))
-above line wanted byte other r s is also (inr (same, a)) =
+above : (lines wanted : List (List ℕ)) (byte other : ℕ) (r s : Rank) → Ranks lines wanted byte r → Ranks lines wanted other s
+    → Better lines wanted byte other → IsAbove r s
+above lines wanted byte other r s is also (inl a) = inl (omega (arith, a, is.wanted, also.wanted))
+above lines wanted byte other r s is also (inr (same, a)) =
     inr (omega (arith, same, is.wanted, also.wanted), omega (arith, a, is.count, also.count))
 
-worse : (line : List ℕ) (wanted : List (List ℕ)) (byte other : ℕ) (r s : Rank) → IsRank line wanted byte r → IsRank line wanted other s
-    → ¬ IsAbove s r → Worse line wanted byte other
-worse line wanted byte other r s is also none = λ more. none (above line wanted other byte s r also is more)
+worse : (lines wanted : List (List ℕ)) (byte other : ℕ) (r s : Rank) → Ranks lines wanted byte r → Ranks lines wanted other s
+    → ¬ IsAbove s r → Worse lines wanted byte other
+worse lines wanted byte other r s is also none = λ more. none (above lines wanted other byte s r also is more)
 
-pub best_comma : (line : List ℕ) (wanted : List (List ℕ)) (r s t : Rank) → IsRank line wanted 44 r → IsRank line wanted 59 s
-    → IsRank line wanted 9 t → ¬ IsAbove s r → ¬ IsAbove t r → SplitsBest line wanted 44
-best_comma line wanted r s t ri si ti no_s no_t = record {
+pub best_comma : (lines wanted : List (List ℕ)) (r s t : Rank) → Ranks lines wanted 44 r → Ranks lines wanted 59 s
+    → Ranks lines wanted 9 t → ¬ IsAbove s r → ¬ IsAbove t r → SplitsBest lines wanted 44
+best_comma lines wanted r s t ri si ti no_s no_t = record {
   front = [];
   back = 59 ∷ 9 ∷ [];
   among = refl;
-  better = All-nil (Better line wanted 44);
-  no_worse = All-cons (Worse line wanted 44) 59 (9 ∷ []) (worse line wanted 44 59 r s ri si no_s)
-      (All-cons (Worse line wanted 44) 9 [] (worse line wanted 44 9 r t ri ti no_t) (All-nil (Worse line wanted 44)));
+  better = All-nil (Better lines wanted 44);
+  no_worse = All-cons (Worse lines wanted 44) 59 (9 ∷ []) (worse lines wanted 44 59 r s ri si no_s)
+      (All-cons (Worse lines wanted 44) 9 [] (worse lines wanted 44 9 r t ri ti no_t) (All-nil (Worse lines wanted 44)));
 }
 
-pub best_semicolon : (line : List ℕ) (wanted : List (List ℕ)) (r s t : Rank) → IsRank line wanted 44 r → IsRank line wanted 59 s
-    → IsRank line wanted 9 t → IsAbove s r → ¬ IsAbove t s → SplitsBest line wanted 59
-best_semicolon line wanted r s t ri si ti more no_t = record {
+pub best_semicolon : (lines wanted : List (List ℕ)) (r s t : Rank) → Ranks lines wanted 44 r → Ranks lines wanted 59 s
+    → Ranks lines wanted 9 t → IsAbove s r → ¬ IsAbove t s → SplitsBest lines wanted 59
+best_semicolon lines wanted r s t ri si ti more no_t = record {
   front = 44 ∷ [];
   back = 9 ∷ [];
   among = refl;
-  better = All-cons (Better line wanted 59) 44 [] (better line wanted 59 44 s r si ri more) (All-nil (Better line wanted 59));
-  no_worse = All-cons (Worse line wanted 59) 9 [] (worse line wanted 59 9 s t si ti no_t) (All-nil (Worse line wanted 59));
+  better = All-cons (Better lines wanted 59) 44 [] (better lines wanted 59 44 s r si ri more) (All-nil (Better lines wanted 59));
+  no_worse = All-cons (Worse lines wanted 59) 9 [] (worse lines wanted 59 9 s t si ti no_t) (All-nil (Worse lines wanted 59));
 }
 
-pub best_tab : (line : List ℕ) (wanted : List (List ℕ)) (r s t : Rank) → IsRank line wanted 44 r → IsRank line wanted 59 s
-    → IsRank line wanted 9 t → IsAbove t r → IsAbove t s → SplitsBest line wanted 9
-best_tab line wanted r s t ri si ti over_r over_s = record {
+pub best_tab : (lines wanted : List (List ℕ)) (r s t : Rank) → Ranks lines wanted 44 r → Ranks lines wanted 59 s
+    → Ranks lines wanted 9 t → IsAbove t r → IsAbove t s → SplitsBest lines wanted 9
+best_tab lines wanted r s t ri si ti over_r over_s = record {
   front = 44 ∷ 59 ∷ [];
   back = [];
   among = refl;
-  better = All-cons (Better line wanted 9) 44 (59 ∷ []) (better line wanted 9 44 t r ti ri over_r)
-      (All-cons (Better line wanted 9) 59 [] (better line wanted 9 59 t s ti si over_s) (All-nil (Better line wanted 9)));
-  no_worse = All-nil (Worse line wanted 9);
+  better = All-cons (Better lines wanted 9) 44 (59 ∷ []) (better lines wanted 9 44 t r ti ri over_r)
+      (All-cons (Better lines wanted 9) 59 [] (better lines wanted 9 59 t s ti si over_s) (All-nil (Better lines wanted 9)));
+  no_worse = All-nil (Worse lines wanted 9);
 }
 
-pub at_line : (text plain line : List ℕ) (wanted : List (List ℕ)) (byte : ℕ) → plain ≡ unmarked text
-    → line ≡ first_written (slice_split ends_line plain) → SplitsBest line wanted byte → SplitsBest (head_line text) wanted byte
-at_line text plain line wanted byte is first best =
-    subst (λ (xs : List ℕ). SplitsBest xs wanted byte) (first ∙ ap (λ (xs : List ℕ). first_written (slice_split ends_line xs)) is) best
+pub at_front : (text plain : List ℕ) (wanted : List (List ℕ)) (byte : ℕ) → plain ≡ unmarked text
+    → SplitsBest (take 10 (written_lines plain)) wanted byte → SplitsBest (front_lines text) wanted byte
+at_front text plain wanted byte is best = subst (λ (xs : List ℕ). SplitsBest (take 10 (written_lines xs)) wanted byte) is best
 
 or_false : (b : Bool) → (b || false) ≡ b
 or_false true = refl

@@ -7,7 +7,7 @@ use Rattle.mcf_text.specs.Lines.{line_feed}
 use Rattle.mcf_table.specs.Blanks.{trimmed}
 use Rattle.mcf_table.specs.LineEnds.{carriage_return}
 use Rattle.mcf_table.specs.Rows.{quote, space}
-use Rattle.mcf_table.specs.Separators.{head_line}
+use Rattle.mcf_table.specs.Separators.{first_line}
 use Rattle.mcf_table.specs.Texts.{is_filled}
 
 -- a byte of ASCII that may separate fields (`IsSeparator`)
@@ -34,6 +34,6 @@ named_before end line =
 -- separator, perhaps both between quotes.
 abbrev pub named_separator : List ℕ → Option ℕ
 named_separator text =
-    if starts_with nat_eq (head_line text) (quote ∷ [])
-    then named_before (quote ∷ []) (drop 1 (head_line text))
-    else named_before [] (head_line text)
+    if starts_with nat_eq (first_line text) (quote ∷ [])
+    then named_before (quote ∷ []) (drop 1 (first_line text))
+    else named_before [] (first_line text)

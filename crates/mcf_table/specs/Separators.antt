@@ -1,6 +1,6 @@
--- What separates the fields of a text, as the line of its heads shows.
+-- What separates the fields of a text, as its heads show.
 -- Source: own
-use Rattle.std.specs.Prelude.{◌≡◌, ℕ, ◌<◌, ◌==◌, Bool, ◌||◌, ◌⊎◌, if◌then◌else◌, List, [], ◌∷◌, ◌++◌, length, filter, reverse, count_by, slice_index_or, All}
+use Rattle.std.specs.Prelude.{◌≡◌, ℕ, ◌<◌, ◌==◌, Bool, ◌||◌, ◌⊎◌, if◌then◌else◌, nat_lt, List, [], ◌∷◌, ◌++◌, length, take, filter, reverse, count_by, slice_index_or, All}
 use Rattle.std.specs.List.{list_any, slice_split}
 use Rattle.std.specs.Str.{str_eq_ignore_ascii_case}
 use Rattle.mcf_text.specs.Lines.{line_feed}
@@ -21,13 +21,17 @@ ends_line b = b == line_feed || b == carriage_return
 abbrev pub is_written : List ℕ → Bool
 is_written line = is_filled (trimmed line)
 
--- the first of these lines that isn't blank; empty if there is none
-abbrev pub first_written : List (List ℕ) → List ℕ
-first_written lines = slice_index_or (filter is_written lines) 0 []
+-- the lines that aren't blank, of a text without a byte order mark
+abbrev pub written_lines : List ℕ → List (List ℕ)
+written_lines text = filter is_written (slice_split ends_line text)
 
--- the first line of the text that isn't blank
-abbrev pub head_line : List ℕ → List ℕ
-head_line text = first_written (slice_split ends_line (unmarked text))
+-- the first line that isn't blank; empty if there is none
+abbrev pub first_line : List ℕ → List ℕ
+first_line text = slice_index_or (written_lines (unmarked text)) 0 []
+
+-- the lines that may have the heads: the first ten that aren't blank
+abbrev pub front_lines : List ℕ → List (List ℕ)
+front_lines text = take 10 (written_lines (unmarked text))
 
 -- the text without the quotes with which it begins
 abbrev pub front_unquoted : List ℕ → List ℕ
@@ -50,17 +54,31 @@ parts_of byte line = slice_split (λ b. b == byte) line
 abbrev pub wanted_count : List (List ℕ) → List (List ℕ) → ℕ
 wanted_count wanted parts = count_by (λ head. list_any (is_head head) parts) wanted
 
+-- of these lines the first that the byte splits into most of the wanted heads; empty if there is
+-- none
+abbrev pub head_line : List (List ℕ) → ℕ → List (List ℕ) → List ℕ
+head_line wanted byte [] = []
+head_line wanted byte (line ∷ []) = line
+head_line wanted byte (line ∷ other ∷ lines) =
+    if nat_lt (wanted_count wanted (parts_of byte line)) (wanted_count wanted (parts_of byte (head_line wanted byte (other ∷ lines))))
+    then head_line wanted byte (other ∷ lines)
+    else line
+
+-- the parts of that line
+abbrev pub head_parts : List (List ℕ) → List (List ℕ) → ℕ → List (List ℕ)
+head_parts lines wanted byte = parts_of byte (head_line wanted byte lines)
+
 -- the first parts have more of the wanted heads than the second, or as many, and are more
 abbrev pub AreBetter : List (List ℕ) → List (List ℕ) → List (List ℕ) → Type 0
 AreBetter wanted parts other =
     (wanted_count wanted other < wanted_count wanted parts)
     ⊎ ((wanted_count wanted other ≡ wanted_count wanted parts) × (length other < length parts))
 
--- The byte is the first of a comma, a semicolon and a tab that splits the line best: better than
--- each before it, and no worse than each after it.
-pub record SplitsBest (line : List ℕ) (wanted : List (List ℕ)) (byte : ℕ) : Type 0 where
+-- The byte is the first of a comma, a semicolon and a tab that splits one of these lines best:
+-- better than each before it, and no worse than each after it.
+pub record SplitsBest (lines : List (List ℕ)) (wanted : List (List ℕ)) (byte : ℕ) : Type 0 where
   pub front : List ℕ
   pub back : List ℕ
   pub among : shown_separators ≡ front ++ byte ∷ back
-  pub better : All (λ other. AreBetter wanted (parts_of byte line) (parts_of other line)) front
-  pub no_worse : All (λ other. ¬ AreBetter wanted (parts_of other line) (parts_of byte line)) back
+  pub better : All (λ other. AreBetter wanted (head_parts lines wanted byte) (head_parts lines wanted other)) front
+  pub no_worse : All (λ other. ¬ AreBetter wanted (head_parts lines wanted other) (head_parts lines wanted byte)) back

@@ -8,7 +8,7 @@ use mcf_text::NoMemory;
 use std::alloc::Global;
 
 // How many rows may be that of the heads.
-const LOOKED: usize = 10;
+pub(crate) const LOOKED: usize = 10;
 
 /// Where a table has the column with a head.
 #[derive(Clone, Copy, Debug, PartialEq, Eq)]

@@ -5,7 +5,7 @@ ghost use Rattle.mcf_table.specs.Rows.{IsSeparator};
 
 use crate::blanks::trimmed;
 use crate::line_ends::unmarked;
-use crate::separators::first_written;
+use crate::separators::first_line;
 
 /// The separator that a text names, if the first line that isn't blank is `sep=` and the separator,
 /// both between quotes or neither, and then blanks or nothing; `sep` may be in capitals. The
@@ -15,7 +15,7 @@ pub fn named_separator(text: &[u8]) -> Option<u8>
     ensures value { result ≡ named_separator text.now }
     ensures allowed { IfSome result IsSeparator }
 {
-    let line = first_written(unmarked(text));
+    let line = first_line(unmarked(text));
     if line.starts_with(b"\"") {
         named_before(b"\"", &line[1..])
     } else {

@@ -118,7 +118,7 @@ static BEYOND: [(&[u8], u8, &[Spot]); 5] = [
 static HEADS: [&[u8]; 3] = [b"from", b"to", b"cost"];
 
 // Texts, and what separates their fields if these heads are wanted.
-static SEPARATORS: [(&[u8], u8); 12] = [
+static SEPARATORS: [(&[u8], u8); 17] = [
     (b"from;to;cost,x,y,z\n", b';'),
     (b"\r\n \r\nfrom\tTo\tcost\r\na,b,c,d\r\n", b'\t'),
     (b"a;b,c\n", b','),
@@ -128,7 +128,12 @@ static SEPARATORS: [(&[u8], u8); 12] = [
     (b"\xEF\xBB\xBF\"from\" ; \"\"To\"\";x,from,y,z,u\n", b';'),
     (b"from,to;cost;x\n", b';'),
     (b"cost;cost;cost,to\n", b';'),
-    (b"x\ty;z\rfrom,to,cost\n", b';'),
+    (b"x\ty;z\rfrom,to,cost\n", b','),
+    (b"Routes, week 48, all of them\n\nfrom;to;cost\n", b';'),
+    (b"from;\"to,\nand where\";cost,x,y\nA;B;1\n", b';'),
+    (b"a,b\n\n2\n3\n4\n5\n6\n7\n8\n9\nfrom;to\n", b';'),
+    (b"a,b\n\n2\n3\n4\n5\n6\n7\n8\n9\n10\nfrom;to\n", b','),
+    (b"from;x\ncost,y,z\nto;y;z;u\n", b','),
     (b"\xC5\xBF;\xEF\xAC\x81,x\n", b','),
     (b"from", b','),
 ];

@@ -1,5 +1,5 @@
 -- What the reading of a field finds.
-use Rattle.std.specs.Prelude.{◌≡◌, ℕ, ◌+◌, ◌<◌, ◌≤◌, ◌==◌, ◌⊎◌, Bool, true, false, ⊤, List, [], ◌∷◌, ◌++◌, length, take, drop, replicate, slice_index, nat_eq, if◌then◌else◌, All, map, filter}
+use Rattle.std.specs.Prelude.{◌≡◌, ℕ, ◌+◌, ◌<◌, ◌≤◌, ◌==◌, ◌⊎◌, Bool, true, false, ⊤, List, [], ◌∷◌, ◌++◌, length, take, drop, replicate, slice_index, nat_eq, nat_lt, if◌then◌else◌, Option, Some, None, All, map, filter}
 use Rattle.std.specs.List.{AllZip, list_any, starts_with}
 use Rattle.memchr.specs.Find.{is_byte}
 use Rattle.mcf_text.specs.Lines.{line_feed}
@@ -145,3 +145,8 @@ IsAbove one other = (other.wanted < one.wanted) ⊎ ((other.wanted ≡ one.wante
 pub record IsRank (line : List ℕ) (heads : List (List ℕ)) (byte : ℕ) (rank : Rank) : Type 0 where
   pub wanted : rank.wanted ≡ wanted_count heads (parts_of byte line)
   pub count : rank.count + 1 ≡ length (parts_of byte line)
+
+-- the later one, if there is one with more of the wanted heads
+abbrev pub with_more : Rank → Option Rank → Rank
+with_more here None = here
+with_more here (Some later) = if nat_lt here.wanted later.wanted then later else here
