@@ -67,13 +67,26 @@ class Notation:
         lines = [[titled[k] for k in order], *([row[k] for k in order] for row in rows)]
         if rng.random() < 0.2:
             lines = [line + ["note" if line is lines[0] else "n/a"] for line in lines]
+        shown = self.lines(lines)
         if rng.random() < 0.15:
-            lines.insert(0, ["My tables", *[""] * (len(lines[0]) - 1)])
-        shown = [self.separator.join(map(self.cell, line)) for line in lines]
-        if rng.random() < 0.2:
-            shown.insert(rng.randint(1, len(shown)), self.separator * rng.randint(0, 2))
-        mark = "\ufeff" if rng.random() < 0.2 else ""
-        return mark + self.end.join(shown) + (self.end if rng.random() < 0.8 else "")
+            shown.insert(0, rng.choice(["My tables", "My tables, as of; week 48"]))
+        return self.joined(shown)
+
+    def matrix(self, heads, rows):
+        """A table whose first line has names."""
+        return self.joined(self.lines([heads, *rows]))
+
+    def lines(self, rows):
+        """Rows as lines, and a row without cells."""
+        shown = [self.separator.join(map(self.cell, row)) for row in rows]
+        if self.rng.random() < 0.2:
+            shown.insert(self.rng.randint(1, len(shown)), self.separator * self.rng.randint(0, 2))
+        return shown
+
+    def joined(self, lines):
+        """The text of lines."""
+        mark = "\ufeff" if self.rng.random() < 0.2 else ""
+        return mark + self.end.join(lines) + (self.end if self.rng.random() < 0.8 else "")
 
 
 def amount(rng, notation, low, high):
