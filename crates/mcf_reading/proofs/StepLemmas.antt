@@ -1,8 +1,8 @@
 -- The steps of routes, in one table.
-use Rattle.std.proofs.Common.{◌≡◌, ℕ, zero, suc, true, false, ◌+◌, ◌-◌, ◌<◌, ◌≤◌, List, [], ◌∷◌, ◌++◌, length, map, All, take, drop, refl, sym, ap, ap₂, ◌∙◌, arith, length-append}
+use Rattle.std.proofs.Common.{◌≡◌, ℕ, zero, suc, true, false, not, ◌+◌, ◌-◌, ◌<◌, ◌≤◌, List, [], ◌∷◌, ◌++◌, length, map, All, take, drop, refl, ap, ap₂, ◌∙◌, arith, length-append}
 use Rattle.std.proofs.lemmas.List.{drop-append-le, length-drop, map-append, take-append-le}
 use Rattle.std.proofs.lemmas.List.Elements.{All-head, All-tail}
-use Rattle.std.proofs.lemmas.List.Sums.{prefix_len_is}
+use Rattle.std.proofs.lemmas.List.Sums.{suffix_len_is}
 use Rattle.std.proofs.Math.Seq.{drop-append_seam, take-length}
 use Rattle.mcf_reading.specs.Private.Found.{IsWithin, route_in, route_row}
 use Rattle.mcf_reading.specs.RouteRows.{Route, route_with}
@@ -47,18 +47,21 @@ one_route steps more after rows rows2 read first count grown from so_many pushed
     ∙ map-append (route_in (steps ++ more)) rows (route_row read first count ∷ [])
     ∙ ap₂ (λ (xs : List Route) (y : Route). xs ++ y ∷ []) (rows_more steps more rows within) last
 
--- the steps of a row end before the first that it doesn't have
-pub count_is : (columns : List StepColumns) (cells : List (List ℕ)) (n : ℕ) → 1 ≤ n → n ≤ length columns
-    → ((k : ℕ) → 1 ≤ k → k < n → is_step cells (columns_at columns k) ≡ true)
-    → (n < length columns → is_step cells (columns_at columns n) ≡ false) → n ≡ step_count columns cells
-count_is [] cells n some inside passes stops = absurd (omega (arith, some, inside))
-count_is (first ∷ more) cells zero some inside passes stops = absurd (omega (arith, some))
-count_is (first ∷ more) cells (suc m) some inside passes stops =
-    ap suc (sym (prefix_len_is (is_step cells) more m no_columns (omega (arith, inside))
-    (λ k below. passes (suc k) (omega arith) (omega (arith, below))) (λ below. stops (omega (arith, below)))))
+last_step : (first : StepColumns) (more : List StepColumns) (cells : List (List ℕ)) (m : ℕ) → 1 ≤ m
+    → is_step cells (columns_at (first ∷ more) m) ≡ true → is_step cells (columns_at more (m - 1)) ≡ true
+last_step first more cells zero some is = absurd (omega (arith, some))
+last_step first more cells (suc p) some is =
+    let same : suc p - 1 ≡ p = omega arith in
+    ap (λ (k : ℕ). is_step cells (columns_at more k)) same ∙ is
 
-pub count_all : (columns : List StepColumns) (cells : List (List ℕ))
-    → ((k : ℕ) → 1 ≤ k → k < length columns → is_step cells (columns_at columns k) ≡ true) → length columns ≡ step_count columns cells
-count_all [] cells passes = refl
-count_all (first ∷ more) cells passes =
-    count_is (first ∷ more) cells (suc (length more)) (omega arith) (omega arith) passes (λ below. absurd (omega (arith, below)))
+-- the steps of a row end with the first, or with one that is written and has none after it
+pub count_is : (columns : List StepColumns) (cells : List (List ℕ)) (n : ℕ) → n ≤ length columns → (n ≡ 0 → length columns ≡ 0)
+    → ((k : ℕ) → n ≤ k → k < length columns → is_step cells (columns_at columns k) ≡ false)
+    → ((last : ℕ) → suc last ≡ n → 1 ≤ last → is_step cells (columns_at columns last) ≡ true) → n ≡ step_count columns cells
+count_is [] cells n inside some passes stops = omega (arith, inside)
+count_is (first ∷ more) cells zero inside some passes stops = absurd (omega (arith, some refl))
+count_is (first ∷ more) cells (suc m) inside some passes stops =
+    let is_last = suffix_len_is (λ columns. not (is_step cells columns)) more m no_columns (omega (arith, inside))
+    (λ k from below. ap not (passes (suc k) (omega (arith, from)) (omega (arith, below))))
+    (λ above. ap not (last_step first more cells m above (stops m refl above))) in
+    omega (arith, is_last, inside)

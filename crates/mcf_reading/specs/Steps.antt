@@ -1,7 +1,7 @@
 -- The steps of a row of the table of routes, which are counted from 0 here.
 -- Source: own
-use Rattle.std.specs.Prelude.{ℕ, suc, ◌+◌, ◌-◌, nat_lt, Bool, ◌&&◌, ◌||◌, if◌then◌else◌, List, [], ◌∷◌, ◌++◌, map, slice_index_or, Option, Some, None}
-use Rattle.std.specs.List.{flat_map, prefix_len, range_with_len}
+use Rattle.std.specs.Prelude.{ℕ, suc, ◌+◌, ◌-◌, nat_lt, Bool, not, ◌&&◌, ◌||◌, if◌then◌else◌, List, [], ◌∷◌, ◌++◌, length, map, slice_index_or, Option, Some, None}
+use Rattle.std.specs.List.{flat_map, suffix_len, range_with_len}
 use Rattle.std.specs.Result.{result_err}
 use Rattle.mcf_decimal.specs.Numbers.{read_number}
 use Rattle.mcf_decimal.specs.declared.mark.Mark.{Mark}
@@ -25,19 +25,20 @@ no_columns = record { most = None; cost = None }
 abbrev pub columns_at : List StepColumns → ℕ → StepColumns
 columns_at columns step = slice_index_or columns step no_columns
 
--- the row has the step: its most or its cost isn't empty
+-- the step is written: its most or its cost isn't empty
 abbrev pub is_step : List (List ℕ) → StepColumns → Bool
 is_step cells columns = is_filled (cell_at cells columns.most) || is_filled (cell_at cells columns.cost)
 
--- how many steps the row has: the first, and those after it up to the first that it doesn't have
+-- how many steps the row has: the first, and those after it up to the last that is written
 abbrev pub step_count : List StepColumns → List (List ℕ) → ℕ
 step_count [] cells = 0
-step_count (first ∷ more) cells = suc (prefix_len (is_step cells) more)
+step_count (first ∷ more) cells = suc (length more - suffix_len (λ columns. not (is_step cells columns)) more)
 
--- the step before has no limit
+-- the step before has a cost, and no limit
 abbrev pub is_after_open : List StepColumns → List (List ℕ) → ℕ → Bool
 is_after_open columns cells step =
-    nat_lt 0 step && is_no_limit (cell_at cells (columns_at columns (step - 1)).most)
+    nat_lt 0 step
+    && (is_no_limit (cell_at cells (columns_at columns (step - 1)).most) && is_filled (cell_at cells (columns_at columns (step - 1)).cost))
 
 -- the numbers of a step
 unfoldable pub read_step : Option Mark → List StepColumns → List (List ℕ) → ℕ → StepRead

@@ -24,7 +24,7 @@ pub struct StepEntry {
 // What was read of a step.
 #[derive(Clone, Copy)]
 pub(crate) struct StepRead {
-    // Whether the step before has no limit.
+    // Whether the step before has a cost, and no limit.
     pub(crate) after_open: bool,
     pub(crate) most: Result<Option<Decimal>, NumberFault>,
     pub(crate) cost: Result<Decimal, NumberFault>,
@@ -52,21 +52,20 @@ pub(crate) fn push_steps(
     Ok(())
 }
 
-// How many steps a row has: the first, and those after it up to the first that it doesn't have.
+// How many steps a row has: the first, and those after it up to the last that is written.
 fn step_count(records: &Records, row: usize, columns: &[StepColumns]) -> usize
     requires { row < length records.now }
     ensures count { result ≡ step_count columns.now (cells_of records.now row) }
     ensures inside { result ≤ length columns.now }
 {
-    for step in 1..columns.len() {
-        if !is_step(records, row, columns[step]) {
-            return step;
-        }
+    let mut count = columns.len();
+    'steps: while count > 1 && !is_step(records, row, columns[count - 1]) {
+        count -= 1;
     }
-    columns.len()
+    count
 }
 
-// Whether a row has a step: its most or its cost isn't empty.
+// Whether a row has a step written: its most or its cost isn't empty.
 fn is_step(records: &Records, row: usize, columns: StepColumns) -> bool
     requires { row < length records.now }
     ensures { result ≡ is_step (cells_of records.now row) columns }
@@ -76,7 +75,7 @@ fn is_step(records: &Records, row: usize, columns: StepColumns) -> bool
     has_most || has_cost
 }
 
-// Whether the step before has no limit; steps are counted from 0.
+// Whether the step before has a cost, and no limit; steps are counted from 0.
 fn is_after_open(records: &Records, row: usize, columns: &[StepColumns], step: usize) -> bool
     requires row { row < length records.now }
     requires step { step < length columns.now }
@@ -85,7 +84,9 @@ fn is_after_open(records: &Records, row: usize, columns: &[StepColumns], step: u
     if step == 0 {
         return false;
     }
-    is_no_limit(cell_at(records, row, columns[step - 1].most))
+    let has_limit = !is_no_limit(cell_at(records, row, columns[step - 1].most));
+    let has_cost = is_filled(cell_at(records, row, columns[step - 1].cost));
+    has_cost && !has_limit
 }
 
 // The numbers of a step; steps are counted from 0.

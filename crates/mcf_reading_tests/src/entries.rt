@@ -8,7 +8,7 @@ const PLACES: &[u8] =
     b"Supply;NAME;most;least;cost\n12,50;Mill;;;\n-12,5;Wien;inf;1.000;\n;Graz;7;;0,2\n";
 
 const ROUTES: &[u8] =
-    b"cost;to;from;most;most 2;cost 2;most 3;cost 3;both;least\n1,5;Wien;Mill;20;;2;;;;2\n-4;Mill;Graz;5;;;6;9;ja;\n";
+    b"cost;to;from;most;most 2;cost 2;most 3;cost 3;both;least\n1,5;Wien;Mill;20;;2;;;;2\n-4;Mill;Graz;5;;;;;ja;\n";
 
 // The decimal of this mantissa and so many places.
 fn decimal(mantissa: i128, places: u32) -> Decimal {

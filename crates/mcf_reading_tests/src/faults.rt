@@ -15,7 +15,7 @@ type FaultRow = (
     FaultKind,
 );
 
-static ROWS: [FaultRow; 14] = [
+static ROWS: [FaultRow; 15] = [
     (
         b"name\nA\n",
         b"from;to;most;cost\n",
@@ -119,6 +119,14 @@ static ROWS: [FaultRow; 14] = [
         1,
         ColumnAt::Under(Head::Most(2)),
         FaultKind::AfterNoLimit,
+    ),
+    (
+        b"name;supply\nA;1\nB;1\n",
+        b"from;to;most;cost;most 2;cost 2;most 3;cost 3\nA;B;1;1;;;2;3\n",
+        Table::Routes,
+        1,
+        ColumnAt::Under(Head::Cost(2)),
+        FaultKind::Number(NumberFault::Empty),
     ),
     (
         b"name;supply\nA;1\nB;1\n",
