@@ -165,7 +165,7 @@ def limit(rng, notation, most):
 
 
 def place_table(rng, notation, places):
-    """The text of the table of places."""
+    """The heads and the rows of the table of places."""
     heads, rows = ["name", "supply"], []
     if any(place.bounds for place in places):
         heads += ["least", "most", "cost"]
@@ -181,11 +181,11 @@ def place_table(rng, notation, places):
         elif len(heads) > 2:
             row += ["", "", ""]
         rows.append(row)
-    return notation.text(heads, rows)
+    return heads, rows
 
 
 def route_table(rng, notation, places, routes):
-    """The text of the table of routes."""
+    """The heads and the rows of the table of routes."""
     depth = max(len(route.steps) for route in routes)
     heads = ["from", "to", "most", "cost"]
     for number in range(2, depth + 1):
@@ -205,11 +205,11 @@ def route_table(rng, notation, places, routes):
                 rng.choice(["yes", "Y", "x", "ja"] if route.both else ["", "no", "0", "Nein"])
             )
         rows.append(row)
-    return notation.text(heads, rows)
+    return heads, rows
 
 
-def texts_of(rng, notation, problem):
-    """Both tables as texts."""
+def tables_of(rng, notation, problem):
+    """Both tables, as heads and rows."""
     return (
         place_table(rng, notation, problem.places),
         route_table(rng, notation, problem.places, problem.routes),

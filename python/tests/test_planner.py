@@ -8,9 +8,10 @@ import random
 import subprocess
 import unittest
 
+from plain_faults import cell_faults, spoil
 from plain_pairs import are_competing, least_cost, random_roster, table_of, why_no_choice
 from plain_plans import Rows, is_bottleneck, told_figures, why_no_plan, why_wrong_figures
-from random_tables import TIGHT, Notation, random_problem, texts_of
+from random_tables import TIGHT, Notation, random_problem, tables_of
 from support import TOP, WithFolder
 
 PROGRAM = pathlib.Path(os.environ.get("MCF_BIN") or TOP / "bin") / "mcfplan"
@@ -66,35 +67,53 @@ class Plans(Answering):
             words.append(f"--penalty={notation.plain(policy.penalty)}")
         return self.answered(["flow", *words], texts)
 
+    def tables(self, rng, notation, problem, spoiled=0.0):
+        """The texts of both tables, and their rows by line. Some of the tables are spoiled."""
+        tables = tables_of(rng, notation, problem)
+        if rng.random() < spoiled:
+            spoil(rng, tables)
+        texts = [notation.text(*table) for table in tables]
+        return texts, [rows_of(notation, *pair) for pair in zip(texts, ("name", "from"))]
+
+    def check(self, problem, status, rows):
+        """The answer to tables without faults of cells."""
+        best = None if problem.has_fault() else problem.least()
+        self.assertEqual(status, 2 if problem.has_fault() else 0 if best else 1)
+        if status == 0:
+            self.assertIsNone(why_no_plan(problem, rows))
+            self.assertEqual(rows.number("cost"), best[0])
+            # With a penalty, least plans may differ in what is missing.
+            if problem.policy.penalty is None:
+                self.assertEqual(rows.number("missing"), best[1])
+        if status == 1:
+            self.assertTrue(is_bottleneck(problem.policy, rows))
+
     def test_random_problems(self):
         rng, statuses = random.Random(20261129), collections.Counter()
         for case in range(PLAN_CASES):
             notation = Notation(rng)
             problem = random_problem(rng, notation)
-            texts = texts_of(rng, notation, problem)
+            texts, tables = self.tables(rng, notation, problem, 0.2)
             status, rows = self.answer(problem, notation, texts)
-            statuses[status] += 1
+            faults = cell_faults(*tables)
+            statuses["cells" if faults else status] += 1
             with self.subTest(case=case, texts=texts, policy=problem.policy):
-                best = None if problem.has_fault() else problem.least()
-                self.assertEqual(status, 2 if problem.has_fault() else 0 if best else 1)
-                if status == 0:
-                    self.assertIsNone(why_no_plan(problem, rows))
-                    self.assertEqual(rows.number("cost"), best[0])
-                    # With a penalty, least plans may differ in what is missing.
-                    if problem.policy.penalty is None:
-                        self.assertEqual(rows.number("missing"), best[1])
-                if status == 1:
-                    self.assertTrue(is_bottleneck(problem.policy, rows))
-                for word, text, head in zip(("places", "routes"), texts, ("name", "from")):
-                    self.assertEqual(repeated(rows, word), rows_of(notation, text, head))
-        self.assertLess(PLAN_CASES / 10, min(statuses[status] for status in range(3)))
+                if faults:
+                    told = rows.by_word["fault"]
+                    found = [(table, int(line), *cells[:2]) for table, line, *cells in told]
+                    self.assertEqual((status, sorted(found)), (2, sorted(faults)))
+                else:
+                    self.check(problem, status, rows)
+                for word, table in zip(("places", "routes"), tables):
+                    self.assertEqual(repeated(rows, word), table)
+        self.assertLess(PLAN_CASES / 12, min(statuses[status] for status in (0, 1, 2, "cells")))
 
     def planned_problem(self, rng):
         """A random problem that has a plan, its texts, and the rows of its answer."""
         while True:
             notation = Notation(rng)
             problem = random_problem(rng, notation, TIGHT)
-            texts = texts_of(rng, notation, problem)
+            texts, _ = self.tables(rng, notation, problem)
             status, rows = self.answer(problem, notation, texts)
             if status == 0:
                 return problem, texts, rows
