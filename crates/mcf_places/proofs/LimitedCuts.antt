@@ -16,14 +16,14 @@ use Rattle.mcf_places.specs.declared.places.Bounds.{Bounds}
 use Rattle.mcf_places.specs.declared.places.Place.{Place}
 use Rattle.mcf_places.specs.declared.told.PlannerBottleneck.{PlannerBottleneck}
 use Rattle.mcf_places.specs.Answers.{HasNoPlannerPlan, IsBestPlannerPlan, IsPlannerAnswer, IsStagedAnswer, set_in}
-use Rattle.mcf_places.specs.FinerPlanners.{finer, finer_plan}
+use Rattle.mcf_places.specs.FinerPlanners.{finer_plan}
 use Rattle.mcf_places.specs.LimitedPlanners.{lacks_limits, limit_for, limited, limited_bounds, limited_place}
 use Rattle.mcf_places.specs.PlannerBottlenecks.{IsPlannerBottleneck, IsStuck, IsWhole, PlaceSet, given_in, leads_in, leads_out, passes_in, passes_out, through_least, through_most, wanted_in}
 use Rattle.mcf_places.specs.PlannerFaults.{IsLimitedThrough}
-use Rattle.mcf_places.specs.Planners.{EachPlace, IsLeastPlan, IsPlan, Planner, given, place_sum, wanted}
+use Rattle.mcf_places.specs.Planners.{EachPlace, Planner, given, place_sum, wanted}
 use Rattle.mcf_places.specs.Planning.{plan_in}
-use Rattle.mcf_places.specs.Throughput.{bounds_span, route_span, throughput, ways_span}
-use Rattle.mcf_places.proofs.LimitedPlans.{cost_limited, kept_limited, least_limited, limited_finer, missing_limited}
+use Rattle.mcf_places.specs.Throughput.{ample_limit, bounds_span, route_span, throughput, ways_span}
+use Rattle.mcf_places.proofs.LimitedPlans.{cost_limited, kept_finer, kept_limited, least_finer, least_limited, missing_limited}
 use Rattle.mcf_places.proofs.PlaceCuts.{when-none}
 use Rattle.mcf_places.proofs.PlaceSums.{place_sum-add}
 use Rattle.mcf_places.proofs.Shortages.{each_unmapped, place_sum-map}
@@ -289,14 +289,14 @@ module _ (P : Planner) where
   limit_low : IsLow (limit_for P)
   limit_low = go (lacks_limits P.places P.routes)
     where
-      go : (b : Bool) → IsLow (if b then Some (throughput P.places P.routes) else None)
-      go true = throughput_low P.places P.routes
+      go : (b : Bool) → IsLow (if b then Some (ample_limit P.places P.routes) else None)
+      go true = omega (arith, ints, throughput_low P.places P.routes)
       go false = tt
 
   limit_enough : IsEnough P (limit_for P)
   limit_enough = go (lacks_limits P.places P.routes)
     where
-      go : (b : Bool) → IsEnough P (if b then Some (throughput P.places P.routes) else None)
+      go : (b : Bool) → IsEnough P (if b then Some (ample_limit P.places P.routes) else None)
       go true = omega (arith, ints)
       go false = tt
 
@@ -306,9 +306,7 @@ module _ (P : Planner) where
         least = least_limited P (plan_in p.plan) h.least;
         cost_is = h.cost_is ∙ cost_limited P (plan_in p.plan);
         missing_is = h.missing_is ∙ missing_limited P (plan_in p.plan);
-        least_in_finer_units = λ k k1.
-            least_limited (finer k P) (finer_plan k (plan_in p.plan))
-            (subst (λ R. IsLeastPlan R (finer_plan k (plan_in p.plan))) (limited_finer k k1 P) (h.least_in_finer_units k k1));
+        least_in_finer_units = λ k k1. least_finer k k1 P (finer_plan k (plan_in p.plan)) (h.least_in_finer_units k k1);
       }
 
   none_limited : (b : PlannerBottleneck) → HasNoPlannerPlan (limited P) b → HasNoPlannerPlan P b
@@ -318,8 +316,7 @@ module _ (P : Planner) where
         exit_by_place = h.exit_by_place ∙ length-map P.places (limited_place (limit_for P));
         is_bottleneck = bottleneck_less P (set_in b) (limit_for P) limit_low limit_enough b.side h.is_bottleneck;
         none = λ x is. h.none x (kept_limited P x is);
-        none_in_finer_units = λ k x k1 is.
-            h.none_in_finer_units k x k1 (subst (λ R. IsPlan R x) (sym (limited_finer k k1 P)) (kept_limited (finer k P) x is));
+        none_in_finer_units = λ k x k1 is. h.none_in_finer_units k x k1 (kept_finer k k1 P x is);
       }
 
   pub answer_limited : (a : PlannerAnswer) → IsStagedAnswer (limited P) a → IsPlannerAnswer P a

@@ -1,28 +1,27 @@
 -- The problem in which each place with bounds has a limit has the plans of the problem.
-use Rattle.std.proofs.Common.{◌≡◌, ℕ, Bool, true, false, ◌&&◌, List, [], ◌∷◌, map, refl, ap, sym, ◌∙◌, arith, ℤ, pos, neg_ℤ, int_lt, ◌+ℤ◌, ◌≤ℤ◌, ◌<ℤ◌, inl, inr}
-use Rattle.std.specs.Prelude.{◌||◌, if◌then◌else◌, not, Option, Some, None, option_map}
+use Rattle.std.proofs.Common.{◌≡◌, ℕ, Bool, true, false, List, [], ◌∷◌, map, refl, ap, sym, ◌∙◌, subst, arith, ℤ, pos, neg_ℤ, ◌+ℤ◌, ◌≤ℤ◌, ◌<ℤ◌, inl, inr}
+use Rattle.std.specs.Prelude.{if◌then◌else◌, not, Option, Some, None, option_map}
 use Rattle.std.specs.List.{All, list_any}
 use Rattle.std.specs.Option.{is_none, option_or}
 use Rattle.std.proofs.Math.IntN.{◌*ℤ◌}
 use Rattle.std.proofs.lemmas.Int.{by_lt_z, clamps, ints}
 use Rattle.std.proofs.lemmas.List.{length-map}
+use Rattle.std.proofs.lemmas.List.Elements.{All-map}
 use Rattle.mcf_flows.specs.Network.{at_node, when}
 use Rattle.mcf_flows.proofs.IntLaws.{mul-add, mul-mono, mul-neg, mul-zero, mul_at_least_zero}
 use Rattle.mcf_model.specs.declared.rows.Step.{Step}
 use Rattle.mcf_model.specs.Bottlenecks.{limit_or_zero, route_sum}
-use Rattle.mcf_model.specs.Faults.{earns}
 use Rattle.mcf_model.specs.Model.{IsLimited, Route, size}
 use Rattle.mcf_model.specs.Scaling.{scaled_route, scaled_step}
 use Rattle.mcf_model.proofs.FaultTests.{all_of, and_true, any_none, limited_from}
 use Rattle.mcf_places.specs.declared.places.Bounds.{Bounds}
 use Rattle.mcf_places.specs.declared.places.Place.{Place}
 use Rattle.mcf_places.specs.FinerPlanners.{finer, finer_bounds, finer_place}
-use Rattle.mcf_places.specs.LimitedPlanners.{LimitsChangeNoPlan, lacks_limits, limit_for, limited, limited_bounds, limited_place}
-use Rattle.mcf_places.specs.PlannerFaults.{is_open, place_earns}
+use Rattle.mcf_places.specs.LimitedPlanners.{IsBelow, LimitsChangeNoPlan, PlansFillNoLimit, lacks_limits, limit_for, limited, limited_bounds, limited_place}
 use Rattle.mcf_places.specs.Planners.{EachPlace, IsAtMost, IsBalancedAt, IsLeastPlan, IsNoWorse, IsPlan, KeepsBounds, Plan, Planner, cost, passes, place_sum, through_cost, total_missing, unit_penalty}
-use Rattle.mcf_places.specs.Throughput.{bounds_span, place_span, route_span, steps_span, throughput, ways_span}
+use Rattle.mcf_places.specs.Throughput.{ample_limit, bounds_span, place_span, route_span, steps_span, throughput, ways_span}
 use Rattle.mcf_places.proofs.FinerCuts.{limit_times, places_times, sum_times, when_times}
-use Rattle.mcf_places.proofs.PlaceSums.{each_all, place_sum-same}
+use Rattle.mcf_places.proofs.PlaceSums.{each_all, each_map, place_sum-same}
 use Rattle.mcf_places.proofs.Shortages.{each_mapped, each_unmapped, place_sum-map}
 use Rattle.mcf_places.proofs.Throughputs.{each_both, passes_high}
 
@@ -50,27 +49,35 @@ through_same limit None z = refl
 
 -- ---- plans
 
-pub not_so : (b : Bool) → not b ≡ true → b ≡ false
+not_so : (b : Bool) → not b ≡ true → b ≡ false
 not_so true e = cc e
 not_so false e = refl
 
-pub routes_limited : (rs : List Route) → list_any (λ r. is_none r.last_most) rs ≡ false → All (λ r. IsLimited r.last_most) rs
+routes_limited : (rs : List Route) → list_any (λ r. is_none r.last_most) rs ≡ false → All (λ r. IsLimited r.last_most) rs
 routes_limited rs e =
     all_of (λ r. is_none r.last_most ≡ false) (λ r. IsLimited r.last_most) rs (λ r k. limited_from r.last_most k) (any_none (λ r. is_none r.last_most) rs e)
 
-module _ (P : Planner) (x : Plan) where
-  within : IsPlan P x → EachPlace (λ v p. IsAtMost (limit_for P) (passes P x v p)) 1 P.places
-  within h = go (lacks_limits P.places P.routes) refl
-    where
-      go : (b : Bool) → lacks_limits P.places P.routes ≡ b
-          → EachPlace (λ v p. IsAtMost (if b then Some (throughput P.places P.routes) else None) (passes P x v p)) 1 P.places
-      go true e =
-          let parts = and_true _ _ (and_true _ _ e).1 in
-          passes_high P x (routes_limited P.routes (not_so (list_any (λ r. is_none r.last_most) P.routes) parts.0)) h
-      go false e = each_all (λ v p. Unit {0}) 1 P.places (λ v p a b. tt)
+-- no plan of the problem brings more to a place than this limit, if there is one
+abbrev IsAmple : Planner → Option ℤ → Type 0
+IsAmple P (Some m) = All (λ r. IsLimited r.last_most) P.routes × (throughput P.places P.routes ≤ℤ m)
+IsAmple P None = Unit {0}
 
-  balanced_more : (v : ℕ) (p : Place) → IsBalancedAt P x v p × IsAtMost (limit_for P) (passes P x v p)
-      → IsBalancedAt (limited P) x v (limited_place (limit_for P) p)
+-- the problem in which bounds without a limit have this one
+abbrev pub limited_by : Option ℤ → Planner → Planner
+limited_by limit P =
+    record { places = map (limited_place limit) P.places; routes = P.routes; returning = P.returning; policy = P.policy }
+
+module _ (P : Planner) (limit : Option ℤ) (ample : IsAmple P limit) (x : Plan) where
+  within : IsPlan P x → EachPlace (λ v p. IsAtMost limit (passes P x v p)) 1 P.places
+  within h = go limit ample
+    where
+      go : (limit : Option ℤ) → IsAmple P limit → EachPlace (λ v p. IsAtMost limit (passes P x v p)) 1 P.places
+      go (Some m) k =
+          each_map (λ v p. passes P x v p ≤ℤ throughput P.places P.routes) (λ v p. passes P x v p ≤ℤ m) (λ v p a. omega (arith, ints, a, k.1)) 1 P.places
+          (passes_high P x k.0 h)
+      go None k = each_all (λ v p. Unit {0}) 1 P.places (λ v p a b. tt)
+
+  balanced_more : (v : ℕ) (p : Place) → IsBalancedAt P x v p × IsAtMost limit (passes P x v p) → IsBalancedAt (limited_by limit P) x v (limited_place limit p)
   balanced_more v p h =
       record {
         stays_some = (h.0).stays_some;
@@ -78,10 +85,10 @@ module _ (P : Planner) (x : Plan) where
         misses_some = (h.0).misses_some;
         misses_no_more = (h.0).misses_no_more;
         balances = (h.0).balances;
-        keeps_bounds = keeps_more (limit_for P) p.through (passes P x v p) (h.0).keeps_bounds h.1;
+        keeps_bounds = keeps_more limit p.through (passes P x v p) (h.0).keeps_bounds h.1;
       }
 
-  balanced_less : (v : ℕ) (p : Place) → IsBalancedAt (limited P) x v (limited_place (limit_for P) p) → IsBalancedAt P x v p
+  balanced_less : (v : ℕ) (p : Place) → IsBalancedAt (limited_by limit P) x v (limited_place limit p) → IsBalancedAt P x v p
   balanced_less v p h =
       record {
         stays_some = h.stays_some;
@@ -89,93 +96,109 @@ module _ (P : Planner) (x : Plan) where
         misses_some = h.misses_some;
         misses_no_more = h.misses_no_more;
         balances = h.balances;
-        keeps_bounds = keeps_less (limit_for P) p.through (passes P x v p) h.keeps_bounds;
+        keeps_bounds = keeps_less limit p.through (passes P x v p) h.keeps_bounds;
       }
 
-  pub kept_limited : IsPlan P x → IsPlan (limited P) x
-  kept_limited h =
+  pub kept_by : IsPlan P x → IsPlan (limited_by limit P) x
+  kept_by h =
       record {
         may_carry = h.may_carry;
-        stays_by_place = h.stays_by_place ∙ sym (length-map P.places (limited_place (limit_for P)));
-        missing_by_place = h.missing_by_place ∙ sym (length-map P.places (limited_place (limit_for P)));
-        balanced = each_mapped (λ v p. IsBalancedAt P x v p × IsAtMost (limit_for P) (passes P x v p)) (IsBalancedAt (limited P) x)
-            (limited_place (limit_for P)) balanced_more 1 P.places
-            (each_both (IsBalancedAt P x) (λ v p. IsAtMost (limit_for P) (passes P x v p))
-            (λ v p. IsBalancedAt P x v p × IsAtMost (limit_for P) (passes P x v p)) (λ v p a b. (a, b)) 1 P.places h.balanced (within h));
+        stays_by_place = h.stays_by_place ∙ sym (length-map P.places (limited_place limit));
+        missing_by_place = h.missing_by_place ∙ sym (length-map P.places (limited_place limit));
+        balanced = each_mapped (λ v p. IsBalancedAt P x v p × IsAtMost limit (passes P x v p)) (IsBalancedAt (limited_by limit P) x)
+            (limited_place limit) balanced_more 1 P.places
+            (each_both (IsBalancedAt P x) (λ v p. IsAtMost limit (passes P x v p))
+            (λ v p. IsBalancedAt P x v p × IsAtMost limit (passes P x v p)) (λ v p a b. (a, b)) 1 P.places h.balanced (within h));
       }
 
-  pub back_limited : IsPlan (limited P) x → IsPlan P x
-  back_limited h =
+  back_by : IsPlan (limited_by limit P) x → IsPlan P x
+  back_by h =
       record {
         may_carry = h.may_carry;
-        stays_by_place = h.stays_by_place ∙ length-map P.places (limited_place (limit_for P));
-        missing_by_place = h.missing_by_place ∙ length-map P.places (limited_place (limit_for P));
-        balanced = each_unmapped (IsBalancedAt P x) (IsBalancedAt (limited P) x) (limited_place (limit_for P)) balanced_less 1 P.places h.balanced;
+        stays_by_place = h.stays_by_place ∙ length-map P.places (limited_place limit);
+        missing_by_place = h.missing_by_place ∙ length-map P.places (limited_place limit);
+        balanced = each_unmapped (IsBalancedAt P x) (IsBalancedAt (limited_by limit P) x) (limited_place limit) balanced_less 1 P.places h.balanced;
       }
 
-  pub missing_limited : total_missing (limited P) x ≡ total_missing P x
-  missing_limited = place_sum-map (λ v p. at_node x.missing v) (limited_place (limit_for P)) 1 P.places
+  missing_by : total_missing (limited_by limit P) x ≡ total_missing P x
+  missing_by = place_sum-map (λ v p. at_node x.missing v) (limited_place limit) 1 P.places
 
-  pub cost_limited : cost (limited P) x ≡ cost P x
-  cost_limited =
-      let places = place_sum-map (λ v p. through_cost p.through (passes (limited P) x v p)) (limited_place (limit_for P)) 1 P.places
-      ∙ place_sum-same (λ v p. through_cost (option_map (limited_bounds (limit_for P)) p.through) (passes P x v p))
+  cost_by : cost (limited_by limit P) x ≡ cost P x
+  cost_by =
+      let places = place_sum-map (λ v p. through_cost p.through (passes (limited_by limit P) x v p)) (limited_place limit) 1 P.places
+      ∙ place_sum-same (λ v p. through_cost (option_map (limited_bounds limit) p.through) (passes P x v p))
       (λ v p. through_cost p.through (passes P x v p)) 1 P.places
-      (each_all (λ v p. through_cost (option_map (limited_bounds (limit_for P)) p.through) (passes P x v p) ≡ through_cost p.through (passes P x v p)) 1 P.places
-      (λ v p a b. through_same (limit_for P) p.through (passes P x v p))) in
-      omega (arith, ints, places, ap (λ z. unit_penalty P.policy.penalty *ℤ z) missing_limited)
+      (each_all (λ v p. through_cost (option_map (limited_bounds limit) p.through) (passes P x v p) ≡ through_cost p.through (passes P x v p)) 1 P.places
+      (λ v p a b. through_same limit p.through (passes P x v p))) in
+      omega (arith, ints, places, ap (λ z. unit_penalty P.policy.penalty *ℤ z) missing_by)
+
+pub least_by : (P : Planner) (limit : Option ℤ) → IsAmple P limit → (x : Plan) → IsLeastPlan (limited_by limit P) x → IsLeastPlan P x
+least_by P limit ample x h =
+    record {
+      is_plan = back_by P limit ample x h.is_plan;
+      least = λ other is. go P.policy.short P.policy.penalty other (h.least other (kept_by P limit ample other is));
+    }
+  where
+    go : (b : Bool) (o : Option ℤ) (other : Plan) → IsNoWorse (limited_by limit P) b o x other → IsNoWorse P b o x other
+    go true None other (inl less) = inl (omega (arith, ints, less, missing_by P limit ample x, missing_by P limit ample other))
+    go true None other (inr same) =
+        inr (
+          sym (missing_by P limit ample x) ∙ same.0 ∙ missing_by P limit ample other,
+          omega (arith, ints, same.1, cost_by P limit ample x, cost_by P limit ample other),
+        )
+    go true (Some penalty) other k = omega (arith, ints, k, cost_by P limit ample x, cost_by P limit ample other)
+    go false o other k = omega (arith, ints, k, cost_by P limit ample x, cost_by P limit ample other)
+
+-- ---- the limit that is missing
+
+module _ (P : Planner) where
+  lacking_limited : lacks_limits P.places P.routes ≡ true → All (λ r. IsLimited r.last_most) P.routes
+  lacking_limited e =
+      let parts = and_true _ _ (and_true _ _ e).1 in
+      routes_limited P.routes (not_so (list_any (λ r. is_none r.last_most) P.routes) parts.0)
+
+  pub limit_ample : IsAmple P (limit_for P)
+  limit_ample = go (lacks_limits P.places P.routes) refl
+    where
+      go : (b : Bool) → lacks_limits P.places P.routes ≡ b → IsAmple P (if b then Some (ample_limit P.places P.routes) else None)
+      go true e = (lacking_limited e, omega (arith, ints))
+      go false e = tt
+
+  pub below_limit : (x : Plan) → IsPlan P x → EachPlace (λ v p. IsBelow (limit_for P) (passes P x v p)) 1 P.places
+  below_limit x h = go (lacks_limits P.places P.routes) refl
+    where
+      go : (b : Bool) → lacks_limits P.places P.routes ≡ b
+          → EachPlace (λ v p. IsBelow (if b then Some (ample_limit P.places P.routes) else None) (passes P x v p)) 1 P.places
+      go true e =
+          each_map (λ v p. passes P x v p ≤ℤ throughput P.places P.routes) (λ v p. passes P x v p <ℤ ample_limit P.places P.routes)
+          (λ v p a. omega (arith, ints, a)) 1 P.places (passes_high P x (lacking_limited e) h)
+      go false e = each_all (λ v p. Unit {0}) 1 P.places (λ v p a b. tt)
+
+  pub kept_limited : (x : Plan) → IsPlan P x → IsPlan (limited P) x
+  kept_limited x = kept_by P (limit_for P) limit_ample x
+
+  pub back_limited : (x : Plan) → IsPlan (limited P) x → IsPlan P x
+  back_limited x = back_by P (limit_for P) limit_ample x
+
+  pub missing_limited : (x : Plan) → total_missing (limited P) x ≡ total_missing P x
+  missing_limited x = missing_by P (limit_for P) limit_ample x
+
+  pub cost_limited : (x : Plan) → cost (limited P) x ≡ cost P x
+  cost_limited x = cost_by P (limit_for P) limit_ample x
+
+  pub least_limited : (x : Plan) → IsLeastPlan (limited P) x → IsLeastPlan P x
+  least_limited x = least_by P (limit_for P) limit_ample x
 
 pub limits_change_no_plan_lem : LimitsChangeNoPlan
 limits_change_no_plan_lem P x =
     record { kept = kept_limited P x; back = back_limited P x; same_cost = cost_limited P x; same_missing = missing_limited P x }
 
-pub least_limited : (P : Planner) (x : Plan) → IsLeastPlan (limited P) x → IsLeastPlan P x
-least_limited P x h =
-    record { is_plan = back_limited P x h.is_plan; least = λ other is. go P.policy.short P.policy.penalty other (h.least other (kept_limited P other is)) }
-  where
-    go : (b : Bool) (o : Option ℤ) (other : Plan) → IsNoWorse (limited P) b o x other → IsNoWorse P b o x other
-    go true None other (inl less) = inl (omega (arith, ints, less, missing_limited P x, missing_limited P other))
-    go true None other (inr same) =
-        inr (
-          sym (missing_limited P x) ∙ same.0 ∙ missing_limited P other,
-          omega (arith, ints, same.1, cost_limited P x, cost_limited P other),
-        )
-    go true (Some penalty) other k = omega (arith, ints, k, cost_limited P x, cost_limited P other)
-    go false o other k = omega (arith, ints, k, cost_limited P x, cost_limited P other)
+pub plans_fill_no_limit_lem : PlansFillNoLimit
+plans_fill_no_limit_lem P x = below_limit P x
 
 -- ---- finer units
 
-pub any_map : {X Y : Type 0} (f : X → Y) (p : X → Bool) (q : Y → Bool) → ((x : X) → q (f x) ≡ p x) → (xs : List X) → list_any q (map f xs) ≡ list_any p xs
-any_map f p q e [] = refl
-any_map f p q e (x ∷ xs) = ap (λ b. b || list_any q (map f xs)) (e x) ∙ ap (λ b. p x || b) (any_map f p q e xs)
-
 module _ (k : ℤ) (k1 : pos 1 ≤ℤ k) where
-  none_finer_limit : (o : Option ℤ) → is_none (option_map (λ m. k *ℤ m) o) ≡ is_none o
-  none_finer_limit (Some m) = refl
-  none_finer_limit None = refl
-
-  open_finer : (o : Option Bounds) → is_open (option_map (finer_bounds k) o) ≡ is_open o
-  open_finer (Some b) = none_finer_limit b.most
-  open_finer None = refl
-
-  earns_finer : (o : Option Bounds) → place_earns (option_map (finer_bounds k) o) ≡ place_earns o
-  earns_finer (Some b) = refl
-  earns_finer None = refl
-
-  steps_earn : (steps : List Step) (c : ℤ) → earns (map (scaled_step k) steps) c ≡ earns steps c
-  steps_earn steps c = ap (λ b. b || int_lt c (pos 0)) (any_map (scaled_step k) (λ s. int_lt s.cost (pos 0)) (λ s. int_lt s.cost (pos 0)) (λ s. refl) steps)
-
-  lacks_finer : (ps : List Place) (rs : List Route) → lacks_limits (map (finer_place k) ps) (map (scaled_route k) rs) ≡ lacks_limits ps rs
-  lacks_finer ps rs =
-      let a = any_map (finer_place k) (λ p. is_open p.through) (λ p. is_open p.through) (λ p. open_finer p.through) ps in
-      let b = any_map (scaled_route k) (λ r. is_none r.last_most) (λ r. is_none r.last_most) (λ r. none_finer_limit r.last_most) rs in
-      let c = any_map (finer_place k) (λ p. place_earns p.through) (λ p. place_earns p.through) (λ p. earns_finer p.through) ps in
-      let d = any_map (scaled_route k) (λ r. earns r.steps r.last_cost) (λ r. earns r.steps r.last_cost) (λ r. steps_earn r.steps r.last_cost) rs in
-      ap (λ t. t && (not (list_any (λ r. is_none r.last_most) (map (scaled_route k) rs)) && (list_any (λ p. place_earns p.through) (map (finer_place k) ps) || list_any (λ r. earns r.steps r.last_cost) (map (scaled_route k) rs)))) a
-      ∙ ap (λ t. list_any (λ p. is_open p.through) ps && (not t && (list_any (λ p. place_earns p.through) (map (finer_place k) ps) || list_any (λ r. earns r.steps r.last_cost) (map (scaled_route k) rs)))) b
-      ∙ ap (λ t. list_any (λ p. is_open p.through) ps && (not (list_any (λ r. is_none r.last_most) rs) && (t || list_any (λ r. earns r.steps r.last_cost) (map (scaled_route k) rs)))) c
-      ∙ ap (λ t. list_any (λ p. is_open p.through) ps && (not (list_any (λ r. is_none r.last_most) rs) && (list_any (λ p. place_earns p.through) ps || t))) d
-
   size_finer : (x : ℤ) → size (k *ℤ x) ≡ k *ℤ size x
   size_finer x =
       let low : pos 0 ≤ℤ k = omega (arith, ints, k1) in
@@ -243,15 +266,18 @@ module _ (k : ℤ) (k1 : pos 1 ≤ℤ k) where
         mul-add k (place_sum (λ v p. place_span p) 1 ps) (route_sum ways_span rs),
       )
 
-  limit_finer : (P : Planner) → limit_for (finer k P) ≡ option_map (λ m. k *ℤ m) (limit_for P)
-  limit_finer P =
-      ap (λ b. if b then Some (throughput (map (finer_place k) P.places) (map (scaled_route k) P.routes)) else None) (lacks_finer P.places P.routes)
-      ∙ go (lacks_limits P.places P.routes)
-    where
-      go : (b : Bool) → (if b then Some (throughput (map (finer_place k) P.places) (map (scaled_route k) P.routes)) else None)
-          ≡ option_map (λ m. k *ℤ m) (if b then Some (throughput P.places P.routes) else None)
-      go true = ap (λ z. Some z) (throughput_finer P.places P.routes)
-      go false = refl
+  limited_still : (o : Option ℤ) → IsLimited o → IsLimited (option_map (λ m. k *ℤ m) o)
+  limited_still (Some m) h = tt
+  limited_still None h = absurd h
+
+  -- a limit that no plan brings more than is one in finer units
+  ample_finer : (P : Planner) (limit : Option ℤ) → IsAmple P limit → IsAmple (finer k P) (option_map (λ m. k *ℤ m) limit)
+  ample_finer P (Some m) h = (
+    All-map (λ r. IsLimited r.last_most) (scaled_route k) P.routes
+        (all_of (λ r. IsLimited r.last_most) (λ r. IsLimited (option_map (λ m. k *ℤ m) r.last_most)) P.routes (λ r l. limited_still r.last_most l) h.0),
+    omega (arith, ints, throughput_finer P.places P.routes, mul-mono k (throughput P.places P.routes) m (omega (arith, ints, k1)) h.1),
+  )
+  ample_finer P None h = tt
 
   or_finer : (o limit : Option ℤ) → option_map (λ m. k *ℤ m) (option_or o limit) ≡ option_or (option_map (λ m. k *ℤ m) o) (option_map (λ m. k *ℤ m) limit)
   or_finer (Some m) limit = refl
@@ -272,7 +298,17 @@ module _ (k : ℤ) (k1 : pos 1 ≤ℤ k) where
       (through_finer limit p.through)
       ∙ ap (λ (qs : List Place). limited_place (option_map (λ m. k *ℤ m) limit) (finer_place k p) ∷ qs) (places_finer limit ps)
 
-  pub limited_finer : (P : Planner) → finer k (limited P) ≡ limited (finer k P)
-  limited_finer P =
+  limited_finer : (P : Planner) (limit : Option ℤ) → finer k (limited_by limit P) ≡ limited_by (option_map (λ m. k *ℤ m) limit) (finer k P)
+  limited_finer P limit =
       ap (λ (ps : List Place). record { places = ps; routes = map (scaled_route k) P.routes; returning = P.returning; policy = P.policy })
-      (places_finer (limit_for P) P.places ∙ ap (λ o. map (limited_place o) (map (finer_place k) P.places)) (sym (limit_finer P)))
+      (places_finer limit P.places)
+
+  pub least_finer : (P : Planner) (x : Plan) → IsLeastPlan (finer k (limited P)) x → IsLeastPlan (finer k P) x
+  least_finer P x h =
+      least_by (finer k P) (option_map (λ m. k *ℤ m) (limit_for P)) (ample_finer P (limit_for P) (limit_ample P)) x
+      (subst (λ R. IsLeastPlan R x) (limited_finer P (limit_for P)) h)
+
+  pub kept_finer : (P : Planner) (x : Plan) → IsPlan (finer k P) x → IsPlan (finer k (limited P)) x
+  kept_finer P x h =
+      subst (λ R. IsPlan R x) (sym (limited_finer P (limit_for P)))
+      (kept_by (finer k P) (option_map (λ m. k *ℤ m) (limit_for P)) (ample_finer P (limit_for P) (limit_ample P)) x h)

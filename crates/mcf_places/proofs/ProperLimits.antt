@@ -21,9 +21,8 @@ use Rattle.mcf_places.specs.LimitedPlanners.{lacks_limits, limit_for, limited, l
 use Rattle.mcf_places.specs.PlannerFaults.{CostsThrough, EarnsNothing, HasLimits, IsLimitedPlanner, IsLimitedThrough, IsProperPlanner, earning, is_open, place_earns}
 use Rattle.mcf_places.specs.PlannerLaws.{ReturnsFreely, has_bounds}
 use Rattle.mcf_places.specs.Planners.{Planner, given, wanted}
-use Rattle.mcf_places.specs.Throughput.{cut, throughput}
+use Rattle.mcf_places.specs.Throughput.{ample_limit, cut}
 use Rattle.mcf_places.specs.Ways.{with_tables}
-use Rattle.mcf_places.proofs.LimitedPlans.{any_map}
 use Rattle.mcf_places.proofs.ProperModels.{planner_is}
 use Rattle.mcf_places.proofs.ProperPlanners.{costs_through, limited_through}
 use Rattle.mcf_places.proofs.Shortages.{place_sum-map}
@@ -146,8 +145,8 @@ module _ (P : Planner) where
       filled true o e =
           let lacks : lacks_limits P.places P.routes ≡ true =
           ap (λ t. t && (not (list_any (λ r. is_none r.last_most) P.routes) && earned P)) o ∙ ap (λ t. not t && earned P) (all_limited P.routes k.routes) ∙ e in
-          inl (places_filled (limit_for P) (throughput P.places P.routes)
-          (ap (λ b. if b then Some (throughput P.places P.routes) else None) lacks))
+          inl (places_filled (limit_for P) (ample_limit P.places P.routes)
+          (ap (λ b. if b then Some (ample_limit P.places P.routes) else None) lacks))
 
       go : (b : Bool) → list_any (λ p. is_open p.through) P.places ≡ b → HasLimits (limited P)
       go false o = inl (places_limited (none_open P.places o))
@@ -210,23 +209,23 @@ module _ (P : Planner) where
   limits_if_none h e = subst HasLimits (unlimited_same e) (has_limits h.bounded)
 
   abbrev limit_if : Bool → Option ℤ
-  limit_if b = if b then Some (throughput P.places P.routes) else None
+  limit_if b = if b then Some (ample_limit P.places P.routes) else None
 
   pub limit_found : IsProperPlanner P → list_any (λ p. is_open p.through) P.places ≡ true → earned P ≡ true → (z : ℤ)
-      → z ≡ cut (throughput P.places P.routes) → limit_for P ≡ Some z
+      → z ≡ cut (ample_limit P.places P.routes) → limit_for P ≡ Some z
   limit_found h unlimited earns_some z e = go h.bounded
     where
       lacks : All (λ r. IsLimited r.last_most) P.routes → lacks_limits P.places P.routes ≡ true
       lacks k = ap (λ t. t && (not (list_any (λ r. is_none r.last_most) P.routes) && earned P)) unlimited ∙ ap (λ t. not t && earned P) (all_limited P.routes k) ∙ earns_some
 
-      whole : throughput P.places P.routes ≤ℤ pos THROUGHPUT_LIMIT → z ≡ throughput P.places P.routes
+      whole : ample_limit P.places P.routes ≤ℤ pos THROUGHPUT_LIMIT → z ≡ ample_limit P.places P.routes
       whole small = omega (arith, ints, clamps, e, small)
 
       go : IsLimitedPlanner P ⊎ EarnsNothing P → limit_for P ≡ Some z
       go (inr none) = cc (sym earns_some ∙ unearned P none)
       go (inl k) = places k.places
         where
-          places : All (λ p. IsLimitedThrough p.through) P.places ⊎ (throughput P.places P.routes ≤ℤ pos THROUGHPUT_LIMIT) → limit_for P ≡ Some z
+          places : All (λ p. IsLimitedThrough p.through) P.places ⊎ (ample_limit P.places P.routes ≤ℤ pos THROUGHPUT_LIMIT) → limit_for P ≡ Some z
           places (inl all) = cc (sym unlimited ∙ closed P.places all)
           places (inr small) = ap limit_if (lacks k.routes) ∙ ap (λ t. Some t) (sym (whole small))
 
@@ -237,6 +236,10 @@ module _ (P : Planner) where
       go false b c e = refl
       go true true c e = refl
       go true false c e = e
+
+any_map : {X Y : Type 0} (f : X → Y) (p : X → Bool) (q : Y → Bool) → ((x : X) → q (f x) ≡ p x) → (xs : List X) → list_any q (map f xs) ≡ list_any p xs
+any_map f p q e [] = refl
+any_map f p q e (x ∷ xs) = ap (λ b. b || list_any q (map f xs)) (e x) ∙ ap (λ b. p x || b) (any_map f p q e xs)
 
 -- what the rows earn is what their routes earn
 pub earned_by_rows : (places : List Place) (steps : List Step) (rows : List RouteRow)
@@ -256,11 +259,11 @@ module _ (P : Planner) (places : List Place) (steps : List Step) (rows : List Ro
       ∙ ap (λ (rs : List Route). list_any (λ p. place_earns p.through) P.places || list_any (λ r. earns r.steps r.last_cost) rs) f
 
   pub found_by_tables : IsProperPlanner P → (a b : Bool) → a ≡ list_any (λ p. is_open p.through) places → b ≡ earning places steps rows → (a && b) ≡ true
-      → (z : ℤ) → z ≡ cut (throughput places (map (route_of steps) rows)) → Some z ≡ limit_for P
+      → (z : ℤ) → z ≡ cut (ample_limit places (map (route_of steps) rows)) → Some z ≡ limit_for P
   found_by_tables proper a b a_is b_is both z z_is =
       let parts = and_true a b both in
       sym (limit_found P proper (sym (a_is ∙ opens_same) ∙ parts.0) (sym (b_is ∙ earned_same) ∙ parts.1) z
-      (z_is ∙ ap (λ (ps : List Place). cut (throughput ps (map (route_of steps) rows))) e ∙ ap (λ (rs : List Route). cut (throughput P.places rs)) f))
+      (z_is ∙ ap (λ (ps : List Place). cut (ample_limit ps (map (route_of steps) rows))) e ∙ ap (λ (rs : List Route). cut (ample_limit P.places rs)) f))
 
   pub none_by_tables : (a b : Bool) → a ≡ list_any (λ p. is_open p.through) places → b ≡ earning places steps rows → (a && b) ≡ false → None ≡ limit_for P
   none_by_tables a b a_is b_is neither =

@@ -22,7 +22,7 @@ use Rattle.mcf_places.specs.declared.places.Place.{Place}
 use Rattle.mcf_places.specs.declared.places.Policy.{Policy}
 use Rattle.mcf_places.specs.PlannerFaults.{CostsThrough, EarnsNothing, IsLimitedPlanner, IsLimitedThrough, IsProperPlanner, earning, fault_if, is_open, open_faults, place_earns, planner_faults, planner_of}
 use Rattle.mcf_places.specs.Planners.{all_given, all_wanted, unit_penalty}
-use Rattle.mcf_places.specs.Throughput.{is_beyond, throughput}
+use Rattle.mcf_places.specs.Throughput.{ample_limit, is_beyond}
 use Rattle.mcf_places.specs.Ways.{numbers_of, row_returns, way_rows, ways_of, with_tables}
 use Rattle.mcf_places.proofs.Throughputs.{ways_throughput}
 use Rattle.mcf_places.proofs.MadeWays.{all_ways, few_ways, planner_same, rows_inside, ways_free, ways_listed, ways_same, ways_sound}
@@ -90,13 +90,13 @@ module _ (places : List Place) (steps : List Step) (rows : List RouteRow) (polic
       few x y h = grind arith
 
       places_bounded : (c : Bool) → is_beyond places (map (route_of steps) rows) ≡ c → open_faults c places ≡ []
-          → All (λ p. IsLimitedThrough p.through) places ⊎ (throughput places (ways_of places (map (route_of steps) rows)) ≤ℤ pos THROUGHPUT_LIMIT)
+          → All (λ p. IsLimitedThrough p.through) places ⊎ (ample_limit places (ways_of places (map (route_of steps) rows)) ≤ℤ pos THROUGHPUT_LIMIT)
       places_bounded true f o =
           inl (all_of (λ p. is_open p.through ≡ false) (λ p. IsLimitedThrough p.through) places (λ p k. limited_through p.through k)
           (none_of (λ p. is_open p.through) 1 places (unmapped NoLimit (numbers_of (λ p. is_open p.through) 1 places) o)))
       places_bounded false f o =
-          inr (subst (λ z. z ≤ℤ pos THROUGHPUT_LIMIT) (sym (ways_throughput places (map (route_of steps) rows)))
-          (not_below (pos THROUGHPUT_LIMIT) (throughput places (map (route_of steps) rows)) f))
+          inr (subst (λ z. (pos 1 +ℤ z) ≤ℤ pos THROUGHPUT_LIMIT) (sym (ways_throughput places (map (route_of steps) rows)))
+          (not_below (pos THROUGHPUT_LIMIT) (ample_limit places (map (route_of steps) rows)) f))
 
       bounded : (b c : Bool) → earning places steps rows ≡ b → is_beyond places (map (route_of steps) rows) ≡ c → open_faults (b && c) places ≡ []
           → All (λ row. (b && is_none row.last_most) ≡ false) rows

@@ -1,8 +1,8 @@
 -- The problem in which each place with bounds has a limit. Where all routes have limits, none of
--- its plans brings more to a place than all amounts of the problem together; so that is a limit
--- that changes no plan. It is needed where some cost is below 0.
+-- its plans brings more to a place than all amounts of the problem together; so one more than that
+-- is a limit that changes no plan, and that no plan fills. It is needed where some cost is below 0.
 -- Source: own
-use Rattle.std.specs.Prelude.{◌≡◌, Bool, not, ◌&&◌, ◌||◌, List, map, ℤ, if◌then◌else◌, Option, Some, None, option_map}
+use Rattle.std.specs.Prelude.{◌≡◌, Bool, not, ◌&&◌, ◌||◌, List, map, ℤ, ◌<ℤ◌, if◌then◌else◌, Option, Some, None, option_map}
 use Rattle.std.specs.List.{list_any}
 use Rattle.std.specs.Option.{is_none, option_or}
 use Rattle.mcf_model.specs.Faults.{earns}
@@ -10,8 +10,8 @@ use Rattle.mcf_model.specs.Model.{Route}
 use Rattle.mcf_places.specs.declared.places.Bounds.{Bounds}
 use Rattle.mcf_places.specs.declared.places.Place.{Place}
 use Rattle.mcf_places.specs.PlannerFaults.{is_open, place_earns}
-use Rattle.mcf_places.specs.Planners.{IsPlan, Plan, Planner, cost, total_missing}
-use Rattle.mcf_places.specs.Throughput.{throughput}
+use Rattle.mcf_places.specs.Planners.{EachPlace, IsPlan, Plan, Planner, cost, passes, total_missing}
+use Rattle.mcf_places.specs.Throughput.{ample_limit}
 
 -- ---- the limit that is missing
 
@@ -24,7 +24,7 @@ lacks_limits places routes =
 
 -- the limit of bounds that need one and have none
 abbrev pub limit_for : Planner → Option ℤ
-limit_for P = if lacks_limits P.places P.routes then Some (throughput P.places P.routes) else None
+limit_for P = if lacks_limits P.places P.routes then Some (ample_limit P.places P.routes) else None
 
 -- bounds with this limit, if they have none
 abbrev pub limited_bounds : Option ℤ → Bounds → Bounds
@@ -56,3 +56,14 @@ pub record IsSamePlan (P : Planner) (x : Plan) : Type 0 where
 -- limits change no plan
 abbrev pub LimitsChangeNoPlan : Type 0
 LimitsChangeNoPlan = (P : Planner) (x : Plan) → IsSamePlan P x
+
+-- ---- no plan fills its limits
+
+-- z is less than the limit, if there is one
+abbrev pub IsBelow : Option ℤ → ℤ → Type 0
+IsBelow (Some most) z = z <ℤ most
+IsBelow None z = Unit {0}
+
+-- less passes through each place than the limit of bounds that need one and have none
+abbrev pub PlansFillNoLimit : Type 0
+PlansFillNoLimit = (P : Planner) (x : Plan) → IsPlan P x → EachPlace (λ v p. IsBelow (limit_for P) (passes P x v p)) 1 P.places

@@ -20,7 +20,7 @@ use Rattle.mcf_places.specs.declared.places.Place.{Place}
 use Rattle.mcf_places.specs.declared.places.Policy.{Policy}
 use Rattle.mcf_places.specs.PlannerLaws.{IsSound}
 use Rattle.mcf_places.specs.Planners.{Planner, all_given, all_wanted, given, row_count, unit_penalty, wanted}
-use Rattle.mcf_places.specs.Throughput.{is_beyond, throughput}
+use Rattle.mcf_places.specs.Throughput.{ample_limit, is_beyond}
 use Rattle.mcf_places.specs.Ways.{numbers_of, problem_of}
 
 -- a unit that passes through a place costs less than 0
@@ -42,13 +42,13 @@ abbrev pub fault_if : Bool → PlannerFault → List PlannerFault
 fault_if true fault = fault ∷ []
 fault_if false fault = []
 
--- the places whose bounds have no limit, if they need one and all amounts are too great for it
+-- the places whose bounds have no limit, if they need one and it is too great
 abbrev pub open_faults : Bool → List Place → List PlannerFault
 open_faults true places = map NoLimit (numbers_of (λ p. is_open p.through) 1 places)
 open_faults false places = []
 
 -- all faults: too many places, too great supplies, a penalty below 0, bounds without a limit where
--- some cost is below 0 and all amounts are too great for a limit, and faults of rows of routes
+-- some cost is below 0 and all amounts are too great for one, and faults of rows of routes
 abbrev pub planner_faults : List Place → List Step → List RouteRow → Policy → List PlannerFault
 planner_faults places steps rows policy =
     fault_if (nat_lt PLACE_LIMIT (length places)) Size
@@ -78,11 +78,11 @@ abbrev pub CostsThrough : Option Bounds → Type 0
 CostsThrough (Some b) = pos 0 ≤ℤ b.cost
 CostsThrough None = Unit {0}
 
--- all routes have limits, and all bounds have, or all amounts together may be the limit of bounds
--- that have none
+-- all routes have limits, and all bounds have, or one more than all amounts together may be the
+-- limit of bounds that have none
 pub record IsLimitedPlanner (P : Planner) : Type 0 where
   pub routes : All (λ r. IsLimited r.last_most) P.routes
-  pub places : All (λ p. IsLimitedThrough p.through) P.places ⊎ (throughput P.places P.routes ≤ℤ pos THROUGHPUT_LIMIT)
+  pub places : All (λ p. IsLimitedThrough p.through) P.places ⊎ (ample_limit P.places P.routes ≤ℤ pos THROUGHPUT_LIMIT)
 
 -- no cost is below 0
 pub record EarnsNothing (P : Planner) : Type 0 where

@@ -1,5 +1,5 @@
 -- All amounts of a problem together, by their absolute values. Where all routes have limits, no
--- plan brings more to a place.
+-- plan brings more to a place, so no plan fills a limit of one more.
 -- Source: own
 use Rattle.std.specs.Prelude.{ℕ, suc, ◌≤◌, Bool, List, [], ◌∷◌, ℤ, pos, ◌+ℤ◌, int_lt, Option, Some, None}
 use Rattle.std.specs.Int.{int_min}
@@ -38,7 +38,11 @@ place_span p = size p.supply +ℤ bounds_span p.through
 abbrev pub throughput : List Place → List Route → ℤ
 throughput places routes = place_sum (λ v p. place_span p) 1 places +ℤ route_sum ways_span routes
 
--- a sum, or one more than the limit if it is beyond the limit
+-- one more than all amounts together: a limit that no plan fills
+abbrev pub ample_limit : List Place → List Route → ℤ
+ample_limit places routes = pos 1 +ℤ throughput places routes
+
+-- a sum, or one more than the greatest limit if it is beyond that
 abbrev pub cut : ℤ → ℤ
 cut z = int_min z (pos (suc THROUGHPUT_LIMIT))
 
@@ -46,6 +50,6 @@ cut z = int_min z (pos (suc THROUGHPUT_LIMIT))
 abbrev pub IsCut : ℕ → Type 0
 IsCut sum = sum ≤ suc THROUGHPUT_LIMIT
 
--- all amounts together are beyond the limit
+-- the limit that no plan fills is greater than a limit may be
 abbrev pub is_beyond : List Place → List Route → Bool
-is_beyond places routes = int_lt (pos THROUGHPUT_LIMIT) (throughput places routes)
+is_beyond places routes = int_lt (pos THROUGHPUT_LIMIT) (ample_limit places routes)

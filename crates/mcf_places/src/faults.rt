@@ -27,8 +27,8 @@ pub enum PlannerFault {
     Total,
     /// The penalty is below 0.
     Penalty,
-    /// The bounds of this place, counted from 1, have no limit, some cost is below 0, and all
-    /// amounts of the problem sum to more than `THROUGHPUT_LIMIT`.
+    /// The bounds of this place, counted from 1, have no limit, some cost is below 0, and one more
+    /// than all amounts of the problem together is more than `THROUGHPUT_LIMIT`.
     NoLimit(usize),
     /// A row of routes that has a fault, and the fault.
     Routes(ModelFault),

@@ -1,6 +1,6 @@
 //! Laws about planners' problems. Each is the contract of a function with an empty body.
 ghost use Rattle.mcf_places.specs.PlannerBottlenecks.{PlannerBottlenecksHaveNoPlan};
-ghost use Rattle.mcf_places.specs.LimitedPlanners.{LimitsChangeNoPlan};
+ghost use Rattle.mcf_places.specs.LimitedPlanners.{LimitsChangeNoPlan, PlansFillNoLimit};
 ghost use Rattle.mcf_places.specs.PlannerLaws.{LeastModelPlansAreLeast, PlannersAreModels, PlansMissNoMore, SoundPlannersHaveSoundModels};
 
 use mcf_model::bottlenecks_have_no_plan;
@@ -21,6 +21,11 @@ pub fn least_model_plans_are_least()
 /// The limits that bounds get where they need one and have none change no plan.
 pub fn limits_change_no_plan()
     ensures { LimitsChangeNoPlan }
+{}
+
+/// No plan fills the limits that bounds get where they need one and have none.
+pub fn plans_fill_no_limit()
+    ensures { PlansFillNoLimit }
 {}
 
 /// No plan misses more than all that places want, and none misses anything if no demand may be

@@ -34,7 +34,7 @@ pub use crossings::Crossing;
 pub use faults::{PLACE_LIMIT, PlannerFault, SUM_LIMIT, Totals, given, wanted};
 pub use laws::{
     least_model_plans_are_least, limits_change_no_plan, planner_bottlenecks_have_no_plan,
-    planners_are_models, plans_miss_no_more, sound_planners_have_sound_models,
+    planners_are_models, plans_fill_no_limit, plans_miss_no_more, sound_planners_have_sound_models,
 };
 pub use limits::THROUGHPUT_LIMIT;
 pub use making::model_of;

@@ -7,7 +7,7 @@ ghost use Rattle.mcf_model.specs.Tables.{route_of};
 ghost use Rattle.mcf_places.specs.LimitedPlanners.{limit_for, limited, limited_bounds, limited_place};
 ghost use Rattle.mcf_places.specs.PlannerFaults.{IsProperPlanner, is_open};
 ghost use Rattle.mcf_places.specs.Planners.{place_sum};
-ghost use Rattle.mcf_places.specs.Throughput.{IsCut, bounds_span, cut, is_beyond, place_span, route_span, steps_span, throughput, ways_span};
+ghost use Rattle.mcf_places.specs.Throughput.{IsCut, ample_limit, bounds_span, cut, is_beyond, place_span, route_span, steps_span, ways_span};
 
 use crate::faults::{earning, is_open};
 use crate::making::copied_steps;
@@ -18,7 +18,7 @@ use mcf_model::{RouteRow, Step, own_steps};
 use mcf_text::NoMemory;
 use std::alloc::Global;
 
-/// The greatest sum of all amounts of a problem that may be a limit.
+/// The greatest limit that bounds without one may get.
 pub const THROUGHPUT_LIMIT: u64 = 1_000_000_000_000_000_000;
 
 // One more.
@@ -32,7 +32,8 @@ fn size(number: i64) -> u64
     number.unsigned_abs()
 }
 
-// Returns a sum and one more absolute value, or one more than the limit if it is beyond the limit.
+// Returns a sum and one more absolute value, or one more than the greatest limit if it is beyond
+// that.
 fn more(total: u64, amount: i64) -> u64
     requires { IsCut total }
     ensures value { pos result ≡ cut (pos total +ℤ size amount) }
@@ -142,20 +143,20 @@ fn places_more(total: u64, places: &[Place]) -> u64
     sum
 }
 
-// Returns the sum of all amounts, cut to one more than the limit.
-fn throughput(places: &[Place], steps: &[Step], rows: &[RouteRow]) -> u64
-    ensures value { pos result ≡ cut (throughput places.now (map (route_of steps.now) rows.now)) }
+// Returns a limit that no plan fills, cut to one more than the greatest limit.
+fn ample_limit(places: &[Place], steps: &[Step], rows: &[RouteRow]) -> u64
+    ensures value { pos result ≡ cut (ample_limit places.now (map (route_of steps.now) rows.now)) }
     ensures within { IsCut result }
 {
-    let of_places = places_more(0, places);
+    let of_places = places_more(1, places);
     routes_more(of_places, steps, rows)
 }
 
-// Returns whether the sum of all amounts is beyond the limit.
+// Returns whether the limit that no plan fills is greater than a limit may be.
 pub(crate) fn is_beyond(places: &[Place], steps: &[Step], rows: &[RouteRow]) -> bool
     ensures { result ≡ is_beyond places.now (map (route_of steps.now) rows.now) }
 {
-    throughput(places, steps, rows) > THROUGHPUT_LIMIT
+    ample_limit(places, steps, rows) > THROUGHPUT_LIMIT
 }
 
 // Returns whether some bounds have no limit.
@@ -186,7 +187,7 @@ pub(crate) fn limit_for(planner: &Planner) -> Option<i64>
     let open = some_open(parts.places);
     let earning = earning(parts.places, parts.steps, parts.rows);
     if both(open, earning) {
-        let limit = throughput(parts.places, parts.steps, parts.rows);
+        let limit = ample_limit(parts.places, parts.steps, parts.rows);
         Some(limit as i64)
     } else {
         None

@@ -58,7 +58,7 @@ pub(crate) fn copied_steps(alloc: Global, steps: &[Step]) -> Result<Vec<Step>, N
 /// Returns the model of a planner's problem in which no more than `most` units are missing in
 /// total. Its first places are those of the problem, and its first routes are those of the problem.
 /// Bounds that have no limit have one in the model, if some cost is below 0: one that changes no
-/// plan (`limits_change_no_plan`).
+/// plan (`limits_change_no_plan`), and that none fills (`plans_fill_no_limit`).
 ///
 /// # Errors
 /// `NoMemory` if an allocation is refused. The model always has places, so it always allocates.

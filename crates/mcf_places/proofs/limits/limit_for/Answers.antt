@@ -8,11 +8,11 @@ pub returns-then-both-clause-value : goal.returns-then-both-clause-value
 returns-then-both-clause-value c =
     let parts = c.parts-parts.result in
     let test : c.both.result ≡ true = search rules in
-    let fits : to_z w64 (of_z w64 (pos c.throughput-limit.result)) ≡ pos c.throughput-limit.result = omega (arith, ints, c.throughput-limit.ensures.within) in
+    let fits : to_z w64 (of_z w64 (pos c.ample_limit-limit.result)) ≡ pos c.ample_limit-limit.result = omega (arith, ints, c.ample_limit-limit.ensures.within) in
     ap (λ z. Some z) fits
     ∙ found_by_tables c.args.planner.now parts.places.now parts.steps.now parts.rows.now c.parts-parts.ensures.places c.parts-parts.ensures.routes
     c.parts-parts.ensures.proper c.some_open-open.result c.earning-earning.result c.some_open-open.ensures c.earning-earning.ensures
-    (sym c.both.ensures ∙ test) (pos c.throughput-limit.result) c.throughput-limit.ensures.value
+    (sym c.both.ensures ∙ test) (pos c.ample_limit-limit.result) c.ample_limit-limit.ensures.value
 
 pub returns-else-both-clause-value : goal.returns-else-both-clause-value
 returns-else-both-clause-value c =
