@@ -401,7 +401,7 @@ cells_of mcf_reading.head_faults place_columns route_columns all_step_columns
 mcf_reading.settled_mark number_cells
 is_filled cell_at read_number read_amount is_no_limit read_limit is_yes way_kind number_of
 mcf_reading.name_kind no_place_kind mcf_reading.cell_faults
-great_faults planner_faults IsProperPlanner steps_in rows_in
+scales_of great_faults planner_faults IsProperPlanner steps_in rows_in
 numbers_of is_bounded
 IsBeyond limited shortage_of IsShownIn mcf_places.origin_of
 """

@@ -3,10 +3,12 @@ use Rattle.std.proofs.Common.{◌≡◌, ℕ, zero, suc, refl, ◌+◌, ◌-◌,
 use Rattle.std.specs.Prelude.{Option, replicate}
 use Rattle.std.proofs.lemmas.List.{append_assoc, get_or-append_right, get_or-replicate, get_or_append_left, length-replicate}
 use Rattle.mcf_places.specs.declared.origins.Origin.{Origin}
-use Rattle.mcf_places.specs.declared.origins.Origin.TheVariants.{OfAll, OfPlace, OfRoute}
+use Rattle.mcf_places.specs.declared.origins.Origin.TheVariants.{OfAll, OfRoute}
 use Rattle.mcf_places.specs.declared.places.Place.{Place}
-use Rattle.mcf_places.specs.Origins.{arc_count, arc_origins, found_in, next_in, one_if, place_origins, route_origins}
+use Rattle.mcf_places.specs.Origins.{arc_count, arc_origins, found_in, kind_origin, next_in, one_if, place_origins, route_origins}
 use Rattle.mcf_places.specs.declared.origins.Sought.{Sought}
+use Rattle.mcf_places.specs.declared.places.Policy.{Policy}
+use Rattle.mcf_places.specs.declared.rows.Kind.{Kind}
 use Rattle.mcf_places.specs.declared.rows.Kind.TheVariants.{Through, Stay, Missing}
 use Rattle.mcf_places.specs.Kinds.{kind_has}
 use Rattle.mcf_places.specs.Planners.{Planner}
@@ -24,16 +26,18 @@ pub next_later : (n left : ℕ) (o : Origin) (others : List Origin) → n ≤ le
 next_later n left o others h = get_or-append_right (replicate n o) others n left OfAll (length-replicate n o) h
 
 -- one more place
-pub place_next : (has : Place → Bool) (ps : List Place) (i : ℕ) (d : Place) (others : List Origin) → i < length ps
-    → place_origins has (i + 1) (drop i ps) ++ others
-    ≡ replicate (one_if (has (get_or ps i d))) (OfPlace (i + 1)) ++ (place_origins has (i + 1 + 1) (drop (i + 1) ps) ++ others)
-place_next has ps i d others h =
+pub place_next : (kind : Kind) (policy : Policy) (ps : List Place) (i : ℕ) (d : Place) (others : List Origin) → i < length ps
+    → place_origins kind policy (i + 1) (drop i ps) ++ others
+    ≡ replicate (one_if (kind_has kind policy (get_or ps i d))) (kind_origin kind (i + 1) (get_or ps i d))
+    ++ (place_origins kind policy (i + 1 + 1) (drop (i + 1) ps) ++ others)
+place_next kind policy ps i d others h =
     let one : suc i ≡ i + 1 = omega arith in
     let two : suc (i + 1) ≡ i + 1 + 1 = omega arith in
-    ap (λ qs. place_origins has (i + 1) qs ++ others) (drop-cons ps i d h)
-    ∙ append_assoc (replicate (one_if (has (get_or ps i d))) (OfPlace (i + 1))) (place_origins has (suc (i + 1)) (drop (suc i) ps)) others
-    ∙ ap (λ v. replicate (one_if (has (get_or ps i d))) (OfPlace (i + 1)) ++ (place_origins has v (drop (suc i) ps) ++ others)) two
-    ∙ ap (λ v. replicate (one_if (has (get_or ps i d))) (OfPlace (i + 1)) ++ (place_origins has (i + 1 + 1) (drop v ps) ++ others)) one
+    let first = replicate (one_if (kind_has kind policy (get_or ps i d))) (kind_origin kind (i + 1) (get_or ps i d)) in
+    ap (λ qs. place_origins kind policy (i + 1) qs ++ others) (drop-cons ps i d h)
+    ∙ append_assoc first (place_origins kind policy (suc (i + 1)) (drop (suc i) ps)) others
+    ∙ ap (λ v. first ++ (place_origins kind policy v (drop (suc i) ps) ++ others)) two
+    ∙ ap (λ v. first ++ (place_origins kind policy (i + 1 + 1) (drop v ps) ++ others)) one
 
 -- one more route
 pub route_next : (steps : List Step) (rows : List RouteRow) (i : ℕ) (d : RouteRow) (others : List Origin) → i < length rows
@@ -65,11 +69,11 @@ only_all (suc k) = refl
 
 pub origin_found : (P Q : Planner) (arc : ℕ) (a b c d : Sought) → Q ≡ P
     → ((others : List Origin) → found_in a others ≡ get_or (route_origins 1 Q.routes ++ others) arc OfAll)
-    → ((others : List Origin) → found_in b others ≡ found_in a (place_origins (kind_has Through Q.policy) 1 Q.places ++ others))
-    → ((others : List Origin) → found_in c others ≡ found_in b (place_origins (kind_has Stay Q.policy) 1 Q.places ++ others))
-    → ((others : List Origin) → found_in d others ≡ found_in c (place_origins (kind_has Missing Q.policy) 1 Q.places ++ others))
+    → ((others : List Origin) → found_in b others ≡ found_in a (place_origins Through Q.policy 1 Q.places ++ others))
+    → ((others : List Origin) → found_in c others ≡ found_in b (place_origins Stay Q.policy 1 Q.places ++ others))
+    → ((others : List Origin) → found_in d others ≡ found_in c (place_origins Missing Q.policy 1 Q.places ++ others))
     → found_in d (OfAll ∷ []) ≡ get_or (arc_origins P) arc OfAll
 origin_found P Q arc a b c d e f g h k =
-    let last = place_origins (kind_has Missing Q.policy) 1 Q.places ++ OfAll ∷ [] in
-    let later = place_origins (kind_has Stay Q.policy) 1 Q.places ++ last in
-    k (OfAll ∷ []) ∙ h last ∙ g later ∙ f (place_origins (kind_has Through Q.policy) 1 Q.places ++ later) ∙ ap (λ R. get_or (arc_origins R) arc OfAll) e
+    let last = place_origins Missing Q.policy 1 Q.places ++ OfAll ∷ [] in
+    let later = place_origins Stay Q.policy 1 Q.places ++ last in
+    k (OfAll ∷ []) ∙ h last ∙ g later ∙ f (place_origins Through Q.policy 1 Q.places ++ later) ∙ ap (λ R. get_or (arc_origins R) arc OfAll) e

@@ -12,7 +12,7 @@ use Rattle.mcf_places.specs.declared.places.Bounds.{Bounds}
 use Rattle.mcf_places.specs.declared.places.Place.{Place}
 use Rattle.mcf_places.specs.PlannerLaws.{AreSoundRoutes}
 use Rattle.mcf_places.specs.Models.{amounts_by, exit_by, exit_of, from_exit, gate_of, gate_route, hub_of, missing_route, model_of, place_at, plain_route, route_if, routes_by, stay_route, through_route}
-use Rattle.mcf_places.specs.Planners.{EachPlace, Planner, place_sum, wanted}
+use Rattle.mcf_places.specs.Planners.{EachPlace, Planner, missing_cost, place_sum, wanted}
 use Rattle.mcf_places.proofs.PlaceSums.{each_all, each_at}
 use Rattle.mcf_places.proofs.MadeRoutes.{IfRoute, NoneElse, all_at, end_term, length_by, none_at, one_at, only_at, sum_by, term_if, when_is, when_not, whole}
 
@@ -75,7 +75,7 @@ module _ (P : Planner) where
   S = stay_route P.policy.unused (hub_of P.places)
 
   abbrev pub M : ℕ → Place → Option Route
-  M = missing_route P.policy.short P.places
+  M = missing_route P.policy P.places
 
   -- the model's plan of what routes, bounds and hub carry
   abbrev pub joined : List ℤ → (ℕ → Place → ℤ) → (ℕ → ℤ) → (ℕ → ℤ) → ℤ → List ℤ
@@ -217,7 +217,7 @@ module _ (P : Planner) where
     module _ (sound : AreSoundRoutes P) (sNone : EachPlace (λ j p. NoneElse (S j p) (st j)) 1 P.places)
         (mNone : EachPlace (λ j p. NoneElse (M j p) (ms j)) 1 P.places) where
       abbrev no_place : Place
-      no_place = record { supply = pos 0; through = None }
+      no_place = record { supply = pos 0; through = None; penalty = None }
 
       abbrev Off : (ℕ → Place → Option Route) → (Route → ℕ) → ℕ → Type 0
       Off make end w = EachPlace (λ j p. IfRoute (make j p) (λ r. end r ≡ w → ⊥)) 1 P.places
@@ -262,7 +262,7 @@ module _ (P : Planner) where
           (each_at (λ j p. NoneElse (M j p) (ms j)) 1 P.places w no_place mNone n.0 (omega (arith, n)))
         where
           made : Option Bounds → Bool → ℤ → Option Route
-          made o b m = route_if b (plain_route (gate_of P.places) (exit_by (length P.places) w o) (pos 0) (Some m) (pos 0))
+          made o b m = route_if b (plain_route (gate_of P.places) (exit_by (length P.places) w o) (pos 0) (Some m) (missing_cost P.policy (place_at P.places w)))
 
           go : (o : Option Bounds) (b : Bool) (m : ℤ) → NoneElse (made o b m) (ms w) → term_if (made o b m) (λ r. when (eqb r.head w) (ms w)) ≡ if_none o (ms w)
           go (Some bounds) true m k = when_not (length P.places + 2 + w) w (ms w) (λ bad. absurd (omega (arith, bad)))
@@ -280,7 +280,7 @@ module _ (P : Planner) where
           (each_at (λ j p. NoneElse (M j p) (ms j)) 1 P.places w no_place mNone n.0 (omega (arith, n)))
         where
           made : Option Bounds → Bool → ℤ → Option Route
-          made o b m = route_if b (plain_route (gate_of P.places) (exit_by (length P.places) w o) (pos 0) (Some m) (pos 0))
+          made o b m = route_if b (plain_route (gate_of P.places) (exit_by (length P.places) w o) (pos 0) (Some m) (missing_cost P.policy (place_at P.places w)))
 
           go : (o : Option Bounds) (b : Bool) (m : ℤ) → NoneElse (made o b m) (ms w)
               → term_if (made o b m) (λ r. when (eqb r.head (length P.places + 2 + w)) (ms w)) ≡ if_bounds o (ms w)

@@ -11,14 +11,14 @@ use Rattle.std.proofs.Math.IntN.{◌*ℤ◌}
 use Rattle.std.proofs.Math.Seq.{drop-append_seam, take-append_seam}
 use Rattle.mcf_flows.specs.Network.{IsNode, at_node, when}
 use Rattle.mcf_flows.proofs.AllZips.{length-AllZip}
-use Rattle.mcf_flows.proofs.IntLaws.{zero-mul}
+use Rattle.mcf_flows.proofs.IntLaws.{mul-zero, zero-mul}
 use Rattle.mcf_model.specs.Model.{IsPlan as IsModelPlan, IsSoundRoute, MayCarry, Route, arriving, leaving, plan_cost, plan_sum, route_cost}
 use Rattle.mcf_model.proofs.Lists.{join_zip, split_zip}
 use Rattle.mcf_places.specs.declared.places.Bounds.{Bounds}
 use Rattle.mcf_places.specs.declared.places.Place.{Place}
 use Rattle.mcf_places.specs.PlannerLaws.{IsModelPlanOf, IsPlanOf, AreSoundRoutes, PlannersAreModels}
 use Rattle.mcf_places.specs.Models.{amounts_by, by_place, entry_supply, exit_supply, from_exit, gate_of, gate_route, hub_of, hub_supply, missings, model_of, place_at, plain_route, plan_of, route_if, routes_of, side_amounts, some_bounds, stayings, supplies_of, throughs, with_exits}
-use Rattle.mcf_places.specs.Planners.{EachPlace, IsBalancedAt, IsPlan, KeepsBounds, Plan, Planner, given, passes, place_sum, through_cost, total_missing, unit_penalty, wanted}
+use Rattle.mcf_places.specs.Planners.{EachPlace, IsBalancedAt, IsPlan, KeepsBounds, Plan, Planner, given, missing_cost, passes, place_sum, through_cost, total_missing, wanted}
 use Rattle.mcf_places.proofs.PlaceSums.{each_all, each_at, each_from, each_map, place_sum-add, place_sum-one, place_sum-same, place_sum-sub, place_sum-zero}
 use Rattle.mcf_places.proofs.MadeRoutes.{IfRoute, IsReadBy, NoneElse, length_by, length_places, read_by, same_by, term_if, there_again, when_is, when_not, zip_by}
 use Rattle.mcf_places.proofs.Ends.{M, S, T, at_entry, at_exit, at_gate, at_hub, if_bounds, if_none, joined, whole_sum}
@@ -28,7 +28,7 @@ use Rattle.mcf_places.proofs.Sides.{exits_carried, exits_carry, exits_few, gives
 
 ends_once : (v : ℕ) (ps : List Place) (end : ℕ) (x : ℤ) → v ≤ end → end < v + length ps → place_sum (λ j p. when (eqb end j) x) v ps ≡ x
 ends_once v ps end x a b =
-    place_sum-one (λ j p. when (eqb end j) x) v ps end (record { supply = pos 0; through = None }) a b
+    place_sum-one (λ j p. when (eqb end j) x) v ps end (record { supply = pos 0; through = None; penalty = None }) a b
     (each_all (λ j p. (j ≡ end → ⊥) → when (eqb end j) x ≡ pos 0) v ps (λ j p c d other. when_not end j x (λ bad. other (sym bad))))
     ∙ when_is end end x refl
 
@@ -57,7 +57,7 @@ no_net ps (r ∷ rs) (x ∷ xs) sound =
 -- ---- one place
 
 abbrev no_place : Place
-no_place = record { supply = pos 0; through = None }
+no_place = record { supply = pos 0; through = None; penalty = None }
 
 -- what is given less what is wanted is the supply
 supply_parts : (p : Place) → p.supply ≡ given p -ℤ wanted p
@@ -98,10 +98,17 @@ module _ (P : Planner) where
   free_term true tail head high z = zero-mul z
   free_term false tail head high z = refl
 
+  missing_term : (b : Bool) (tail head : ℕ) (high cost z : ℤ) → NoneElse (route_if b (plain_route tail head (pos 0) (Some high) cost)) z
+      → term_if (route_if b (plain_route tail head (pos 0) (Some high) cost)) (λ r. route_cost r z) ≡ cost *ℤ z
+  missing_term true tail head high cost z h = refl
+  missing_term false tail head high cost z h = sym (ap (λ y. cost *ℤ y) h ∙ mul-zero cost)
+
   pub whole_cost : (xs : List ℤ) → length P.routes ≡ length xs → (thr : ℕ → Place → ℤ) (st ms : ℕ → ℤ) (g most : ℤ)
+      → EachPlace (λ j p. NoneElse (M P j p) (ms j)) 1 P.places
       → plan_cost (model_of most P) (joined P xs thr st ms g)
-      ≡ plan_sum route_cost P.routes xs +ℤ (place_sum (λ j p. through_cost p.through (thr j p)) 1 P.places +ℤ unit_penalty P.policy.penalty *ℤ g)
-  whole_cost xs long thr st ms g most =
+      ≡ plan_sum route_cost P.routes xs
+      +ℤ (place_sum (λ j p. through_cost p.through (thr j p)) 1 P.places +ℤ place_sum (λ j p. missing_cost P.policy p *ℤ ms j) 1 P.places)
+  whole_cost xs long thr st ms g most none =
       omega (
         arith,
         ints,
@@ -111,8 +118,10 @@ module _ (P : Planner) where
             (λ j p a b. through_term_cost j p (thr j p))),
         place_sum-zero (λ j p. term_if (S P j p) (λ r. route_cost r (st j))) 1 P.places
             (each_all (λ j p. term_if (S P j p) (λ r. route_cost r (st j)) ≡ pos 0) 1 P.places (λ j p a b. free_term _ _ _ _ (st j))),
-        place_sum-zero (λ j p. term_if (M P j p) (λ r. route_cost r (ms j))) 1 P.places
-            (each_all (λ j p. term_if (M P j p) (λ r. route_cost r (ms j)) ≡ pos 0) 1 P.places (λ j p a b. free_term _ _ _ _ (ms j))),
+        place_sum-same (λ j p. term_if (M P j p) (λ r. route_cost r (ms j))) (λ j p. missing_cost P.policy p *ℤ ms j) 1 P.places
+            (each_map (λ j p. NoneElse (M P j p) (ms j)) (λ j p. term_if (M P j p) (λ r. route_cost r (ms j)) ≡ missing_cost P.policy p *ℤ ms j)
+            (λ j p k. missing_term _ _ _ _ _ (ms j) k) 1 P.places none),
+        zero-mul g,
       )
 
 -- ---- from a plan to one of the model
@@ -149,13 +158,13 @@ module _ (most : ℤ) (P : Planner) (x : Plan) (sound : AreSoundRoutes P) (h : I
   staying : EachPlace (λ j p. IfRoute (S P j p) (λ r. MayCarry r (st j)) × NoneElse (S P j p) (st j)) 1 P.places
   staying =
       each_map (IsBalancedAt P x) (λ j p. IfRoute (S P j p) (λ r. MayCarry r (st j)) × NoneElse (S P j p) (st j))
-      (λ j p b. side_carries P.policy.unused (int_lt (pos 0) p.supply) j (hub_of P.places) (given p) (st j) b.stays_some b.stays_no_more (gives_none p))
+      (λ j p b. side_carries P.policy.unused (int_lt (pos 0) p.supply) j (hub_of P.places) (given p) (pos 0) (st j) b.stays_some b.stays_no_more (gives_none p))
       1 P.places h.balanced
 
   missed : EachPlace (λ j p. IfRoute (M P j p) (λ r. MayCarry r (ms j)) × NoneElse (M P j p) (ms j)) 1 P.places
   missed =
       each_map (IsBalancedAt P x) (λ j p. IfRoute (M P j p) (λ r. MayCarry r (ms j)) × NoneElse (M P j p) (ms j))
-      (λ j p b. side_carries P.policy.short (int_lt p.supply (pos 0)) _ _ (wanted p) (ms j) b.misses_some b.misses_no_more (wants_none p))
+      (λ j p b. side_carries P.policy.short (int_lt p.supply (pos 0)) _ _ (wanted p) (missing_cost P.policy p) (ms j) b.misses_some b.misses_no_more (wants_none p))
       1 P.places h.balanced
 
   s_none : EachPlace (λ j p. NoneElse (S P j p) (st j)) 1 P.places
@@ -260,7 +269,7 @@ plans_are_model_plans_lem most P x sound h few =
     ∙ drop-append_seam (amounts_by (S P) (λ j p. at_node x.stays j) 1 P.places) tail in
     record {
       is_plan = record { may_carry = carry_all most P x sound h few; meets_supplies = meets most P x sound h few };
-      same_cost = whole_cost P x.carries e (passes P x) st ms (total_missing P x) most;
+      same_cost = whole_cost P x.carries e (passes P x) st ms (total_missing P x) most (m_none most P x sound h few);
       back_again = same_plan (plan_of P (routes_of P x)).carries (plan_of P (routes_of P x)).stays (plan_of P (routes_of P x)).missing
           (ap (λ k. take k (routes_of P x)) e ∙ take-append_seam x.carries middle)
           (ap (by_place (S P) 1 P.places) second
@@ -402,10 +411,10 @@ module _ (most : ℤ) (P : Planner) (plan : List ℤ) (sound : AreSoundRoutes P)
   balanced_back =
       each_from (IsBalancedAt P (plan_of P plan)) 1 P.places no_place
       (λ w a b. let p = place_at P.places w in
-      let s = side_carried P.policy.unused (int_lt (pos 0) p.supply) w (hub_of P.places) (given p) (stays_at w) (omega (arith, ints, clamps))
+      let s = side_carried P.policy.unused (int_lt (pos 0) p.supply) w (hub_of P.places) (given p) (pos 0) (stays_at w) (omega (arith, ints, clamps))
       (each_at (λ j p. IfRoute (S P j p) (λ r. MayCarry r (stays_at j))) 1 P.places w no_place read_s.may_carry a b)
       (each_at (λ j p. NoneElse (S P j p) (stays_at j)) 1 P.places w no_place read_s.none_else a b) in
-      let m = side_carried P.policy.short (int_lt p.supply (pos 0)) _ _ (wanted p) (missing_at w) (omega (arith, ints, clamps))
+      let m = side_carried P.policy.short (int_lt p.supply (pos 0)) _ _ (wanted p) (missing_cost P.policy p) (missing_at w) (omega (arith, ints, clamps))
       (each_at (λ j p. IfRoute (M P j p) (λ r. MayCarry r (missing_at j))) 1 P.places w no_place read_m.may_carry a b)
       (each_at (λ j p. NoneElse (M P j p) (missing_at j)) 1 P.places w no_place read_m.none_else a b) in
       record {

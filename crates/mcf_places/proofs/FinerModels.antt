@@ -19,7 +19,7 @@ use Rattle.mcf_places.specs.declared.places.Place.{Place}
 use Rattle.mcf_places.specs.FinerPlanners.{finer, finer_bounds, finer_place, finer_plan}
 use Rattle.mcf_places.specs.Models.{by_place, entry_supply, exit_by, exit_of, exit_supply, first_amount, from_exit, gate_of, gate_route, hub_of, hub_supply, later_amounts, missings, model_of, place_at, plain_route, plan_of, route_if, routes_by, side_amounts, some_bounds, stayings, supplies_of, throughs, with_exits, with_first}
 use Rattle.mcf_places.specs.PlannerLaws.{IsSound, ReturnsFreely, has_bounds}
-use Rattle.mcf_places.specs.Planners.{Plan, Planner, all_wanted, given, place_sum, total_missing, unit_penalty, wanted}
+use Rattle.mcf_places.specs.Planners.{Plan, Planner, all_wanted, given, missing_cost, place_sum, total_missing, wanted}
 use Rattle.mcf_places.specs.Shortage.{counting, free_bounds, free_place, free_route, free_step, shortage_of}
 use Rattle.mcf_places.proofs.Ends.{M, S, T}
 
@@ -172,8 +172,8 @@ module _ (k : ℤ) (k1 : pos 1 ≤ℤ k) where
   long : (ps : List Place) → length (map (finer_place k) ps) ≡ length ps
   long ps = length-map ps (finer_place k)
 
-  at_finer : (ps : List Place) (i : ℕ) → (slice_index_or (map (finer_place k) ps) i (record { supply = pos 0; through = None })).through
-      ≡ option_map (finer_bounds k) (slice_index_or ps i (record { supply = pos 0; through = None })).through
+  at_finer : (ps : List Place) (i : ℕ) → (slice_index_or (map (finer_place k) ps) i (record { supply = pos 0; through = None; penalty = None })).through
+      ≡ option_map (finer_bounds k) (slice_index_or ps i (record { supply = pos 0; through = None; penalty = None })).through
   at_finer [] i = refl
   at_finer (p ∷ ps) zero = refl
   at_finer (p ∷ ps) (suc i) = at_finer ps i
@@ -253,19 +253,19 @@ module _ (k : ℤ) (k1 : pos 1 ≤ℤ k) where
         ap (λ n. exit_by n v (option_map (finer_bounds k) p.through)) (long P.places) ∙ exit_by_finer (length P.places) v p.through in
         ap (λ b. route_if (P.policy.short && b)
         (plain_route (gate_of (map (finer_place k) P.places)) (exit_by (length (map (finer_place k) P.places)) v (option_map (finer_bounds k) p.through)) (pos 0)
-        (Some (wanted (finer_place k p))) (pos 0))) (less_zero p.supply)
+        (Some (wanted (finer_place k p))) (missing_cost P.policy p))) (less_zero p.supply)
         ∙ ap (route_if (P.policy.short && int_lt p.supply (pos 0)))
         (plain_same (gate_of (map (finer_place k) P.places)) (gate_of P.places)
         (exit_by (length (map (finer_place k) P.places)) v (option_map (finer_bounds k) p.through)) (exit_by (length P.places) v p.through) (pos 0)
-        (k *ℤ pos 0) (pos 0) (Some (wanted (finer_place k p))) (Some (k *ℤ wanted p)) (ap (λ n. n + 2) (long P.places)) exit (sym (mul-zero k))
+        (k *ℤ pos 0) (missing_cost P.policy p) (Some (wanted (finer_place k p))) (Some (k *ℤ wanted p)) (ap (λ n. n + 2) (long P.places)) exit (sym (mul-zero k))
         (ap Some (wanted_times p)))
         ∙ if_finer (P.policy.short && int_lt p.supply (pos 0))
-        (plain_route (gate_of P.places) (exit_by (length P.places) v p.through) (pos 0) (Some (wanted p)) (pos 0))
+        (plain_route (gate_of P.places) (exit_by (length P.places) v p.through) (pos 0) (Some (wanted p)) (missing_cost P.policy p))
 
     gate_finer : (most : ℤ) → gate_route (k *ℤ most) (finer k P) ≡ scaled_route k (gate_route most P)
     gate_finer most =
         plain_same (hub_of (map (finer_place k) P.places)) (hub_of P.places) (gate_of (map (finer_place k) P.places)) (gate_of P.places) (pos 0)
-        (k *ℤ pos 0) (unit_penalty P.policy.penalty) (Some (k *ℤ most)) (Some (k *ℤ most)) (ap (λ n. n + 1) (long P.places)) (ap (λ n. n + 2) (long P.places))
+        (k *ℤ pos 0) (pos 0) (Some (k *ℤ most)) (Some (k *ℤ most)) (ap (λ n. n + 1) (long P.places)) (ap (λ n. n + 2) (long P.places))
         (sym (mul-zero k)) refl
 
     throughs_finer : throughs (finer k P) ≡ map (scaled_route k) (throughs P)
@@ -388,7 +388,7 @@ shortage_bounds k None = refl
 shortage_places : (k : ℤ) (ps : List Place) → map (finer_place k) (map free_place ps) ≡ map free_place (map (finer_place k) ps)
 shortage_places k [] = refl
 shortage_places k (p ∷ ps) =
-    ap (λ (o : Option Bounds). record { supply = k *ℤ p.supply; through = o } ∷ map (finer_place k) (map free_place ps)) (shortage_bounds k p.through)
+    ap (λ (o : Option Bounds). record { supply = k *ℤ p.supply; through = o; penalty = None } ∷ map (finer_place k) (map free_place ps)) (shortage_bounds k p.through)
     ∙ ap (λ (qs : List Place). free_place (finer_place k p) ∷ qs) (shortage_places k ps)
 
 shortage_steps : (k : ℤ) (steps : List Step) → map (scaled_step k) (map free_step steps) ≡ map free_step (map (scaled_step k) steps)

@@ -1,8 +1,8 @@
 -- The problem in which each place with bounds has a limit has the plans of the problem.
-use Rattle.std.proofs.Common.{◌≡◌, ℕ, Bool, true, false, List, [], ◌∷◌, map, refl, ap, sym, ◌∙◌, subst, arith, ℤ, pos, neg_ℤ, ◌+ℤ◌, ◌≤ℤ◌, ◌<ℤ◌, inl, inr}
-use Rattle.std.specs.Prelude.{if◌then◌else◌, not, Option, Some, None, option_map}
+use Rattle.std.proofs.Common.{◌≡◌, ℕ, Bool, true, false, ◌&&◌, List, [], ◌∷◌, map, refl, ap, sym, ◌∙◌, subst, arith, ℤ, pos, neg_ℤ, ◌+ℤ◌, ◌≤ℤ◌, ◌<ℤ◌, inl, inr}
+use Rattle.std.specs.Prelude.{◌||◌, if◌then◌else◌, not, Option, Some, None, option_map}
 use Rattle.std.specs.List.{All, list_any}
-use Rattle.std.specs.Option.{is_none, option_or}
+use Rattle.std.specs.Option.{is_none, is_some, option_or}
 use Rattle.std.proofs.Math.IntN.{◌*ℤ◌}
 use Rattle.std.proofs.lemmas.Int.{by_lt_z, clamps, ints}
 use Rattle.std.proofs.lemmas.List.{length-map}
@@ -18,7 +18,7 @@ use Rattle.mcf_places.specs.declared.places.Bounds.{Bounds}
 use Rattle.mcf_places.specs.declared.places.Place.{Place}
 use Rattle.mcf_places.specs.FinerPlanners.{finer, finer_bounds, finer_place}
 use Rattle.mcf_places.specs.LimitedPlanners.{IsBelow, LimitsChangeNoPlan, PlansFillNoLimit, lacks_limits, limit_for, limited, limited_bounds, limited_place}
-use Rattle.mcf_places.specs.Planners.{EachPlace, IsAtMost, IsBalancedAt, IsLeastPlan, IsNoWorse, IsPlan, KeepsBounds, Plan, Planner, cost, passes, place_sum, through_cost, total_missing, unit_penalty}
+use Rattle.mcf_places.specs.Planners.{EachPlace, IsAtMost, IsBalancedAt, IsLeastPlan, IsNoWorse, IsPlan, KeepsBounds, Plan, Planner, cost, has_penalties, misses_least, missing_cost, passes, place_sum, through_cost, total_missing}
 use Rattle.mcf_places.specs.Throughput.{ample_limit, bounds_span, place_span, route_span, steps_span, throughput, ways_span}
 use Rattle.mcf_places.proofs.FinerCuts.{limit_times, places_times, sum_times, when_times}
 use Rattle.mcf_places.proofs.PlaceSums.{each_all, each_map, place_sum-same}
@@ -130,24 +130,35 @@ module _ (P : Planner) (limit : Option ℤ) (ample : IsAmple P limit) (x : Plan)
       (λ v p. through_cost p.through (passes P x v p)) 1 P.places
       (each_all (λ v p. through_cost (option_map (limited_bounds limit) p.through) (passes P x v p) ≡ through_cost p.through (passes P x v p)) 1 P.places
       (λ v p a b. through_same limit p.through (passes P x v p))) in
-      omega (arith, ints, places, ap (λ z. unit_penalty P.policy.penalty *ℤ z) missing_by)
+      omega (arith, ints, places, place_sum-map (λ v p. missing_cost P.policy p *ℤ at_node x.missing v) (limited_place limit) 1 P.places)
+
+pub any_map : {X Y : Type 0} (f : X → Y) (p : X → Bool) (q : Y → Bool) → ((x : X) → q (f x) ≡ p x) → (xs : List X) → list_any q (map f xs) ≡ list_any p xs
+any_map f p q e [] = refl
+any_map f p q e (x ∷ xs) = ap (λ b. b || list_any q (map f xs)) (e x) ∙ ap (λ b. p x || b) (any_map f p q e xs)
+
+-- the same penalties are named
+pub has_penalties_limited : (limit : Option ℤ) (ps : List Place) → has_penalties (map (limited_place limit) ps) ≡ has_penalties ps
+has_penalties_limited limit ps = any_map (limited_place limit) (λ p. is_some p.penalty) (λ p. is_some p.penalty) (λ p. refl) ps
+
+penalties_by : (P : Planner) (limit : Option ℤ) → misses_least (limited_by limit P) ≡ misses_least P
+penalties_by P limit = ap (λ b. P.policy.short && not (is_some P.policy.penalty || b)) (has_penalties_limited limit P.places)
 
 pub least_by : (P : Planner) (limit : Option ℤ) → IsAmple P limit → (x : Plan) → IsLeastPlan (limited_by limit P) x → IsLeastPlan P x
 least_by P limit ample x h =
     record {
       is_plan = back_by P limit ample x h.is_plan;
-      least = λ other is. go P.policy.short P.policy.penalty other (h.least other (kept_by P limit ample other is));
+      least = λ other is. go (misses_least P) other
+          (subst (λ b. IsNoWorse (limited_by limit P) b x other) (penalties_by P limit) (h.least other (kept_by P limit ample other is)));
     }
   where
-    go : (b : Bool) (o : Option ℤ) (other : Plan) → IsNoWorse (limited_by limit P) b o x other → IsNoWorse P b o x other
-    go true None other (inl less) = inl (omega (arith, ints, less, missing_by P limit ample x, missing_by P limit ample other))
-    go true None other (inr same) =
+    go : (b : Bool) (other : Plan) → IsNoWorse (limited_by limit P) b x other → IsNoWorse P b x other
+    go true other (inl less) = inl (omega (arith, ints, less, missing_by P limit ample x, missing_by P limit ample other))
+    go true other (inr same) =
         inr (
           sym (missing_by P limit ample x) ∙ same.0 ∙ missing_by P limit ample other,
           omega (arith, ints, same.1, cost_by P limit ample x, cost_by P limit ample other),
         )
-    go true (Some penalty) other k = omega (arith, ints, k, cost_by P limit ample x, cost_by P limit ample other)
-    go false o other k = omega (arith, ints, k, cost_by P limit ample x, cost_by P limit ample other)
+    go false other k = omega (arith, ints, k, cost_by P limit ample x, cost_by P limit ample other)
 
 -- ---- the limit that is missing
 
@@ -197,6 +208,11 @@ pub plans_fill_no_limit_lem : PlansFillNoLimit
 plans_fill_no_limit_lem P x = below_limit P x
 
 -- ---- finer units
+
+pub misses_least_finer : (k : ℤ) (P : Planner) → misses_least (finer k P) ≡ misses_least P
+misses_least_finer k P =
+    ap (λ b. P.policy.short && not (is_some P.policy.penalty || b))
+    (any_map (finer_place k) (λ p. is_some p.penalty) (λ p. is_some p.penalty) (λ p. refl) P.places)
 
 module _ (k : ℤ) (k1 : pos 1 ≤ℤ k) where
   size_finer : (x : ℤ) → size (k *ℤ x) ≡ k *ℤ size x
@@ -294,7 +310,7 @@ module _ (k : ℤ) (k1 : pos 1 ≤ℤ k) where
       → map (finer_place k) (map (limited_place limit) ps) ≡ map (limited_place (option_map (λ m. k *ℤ m) limit)) (map (finer_place k) ps)
   places_finer limit [] = refl
   places_finer limit (p ∷ ps) =
-      ap (λ (o : Option Bounds). record { supply = k *ℤ p.supply; through = o } ∷ map (finer_place k) (map (limited_place limit) ps))
+      ap (λ (o : Option Bounds). record { supply = k *ℤ p.supply; through = o; penalty = p.penalty } ∷ map (finer_place k) (map (limited_place limit) ps))
       (through_finer limit p.through)
       ∙ ap (λ (qs : List Place). limited_place (option_map (λ m. k *ℤ m) limit) (finer_place k p) ∷ qs) (places_finer limit ps)
 

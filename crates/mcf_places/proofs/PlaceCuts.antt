@@ -138,7 +138,7 @@ no_exit_supply None p false e = refl
 
 module _ (ps : List Place) (set : ℕ → Bool) where
   abbrev no_place : Place
-  no_place = record { supply = pos 0; through = None }
+  no_place = record { supply = pos 0; through = None; penalty = None }
 
   exits_sum : place_sum (λ j p. when (set (length ps + 2 + j)) (at_node (supplies_of ps) (length ps + 2 + j))) 1 (with_exits (some_bounds ps) ps)
       ≡ place_sum (λ j p. when (set (length ps + 2 + j)) (exit_supply p.through p)) 1 ps

@@ -78,7 +78,7 @@ module _ (n w : ℕ) (b : Bool) (c : ℕ → ℕ → Bool) where
   through_limited_back None f h = tt
 
 abbrev no_place : Place
-no_place = record { supply = pos 0; through = None }
+no_place = record { supply = pos 0; through = None; penalty = None }
 
 module _ (most : ℤ) (P : Planner) (sound : IsSound P) (set : ℕ → Bool) (s : PlaceSet) (told : IsTold P set s) where
   module _ (d c : ℕ → ℕ → Bool) (b : ℕ → Bool) (agrees : (r : Route) → IsOwn P sound set s told r → Agrees P.places d c r)

@@ -18,11 +18,13 @@ use Rattle.mcf_places.specs.declared.places.Bounds.{Bounds}
 use Rattle.mcf_places.specs.declared.places.Place.{Place}
 use Rattle.mcf_places.specs.declared.places.Policy.{Policy}
 use Rattle.mcf_places.specs.LimitedPlanners.{lacks_limits, limit_for, limited, limited_bounds, limited_place}
-use Rattle.mcf_places.specs.PlannerFaults.{CostsThrough, EarnsNothing, HasLimits, IsLimitedPlanner, IsLimitedThrough, IsProperPlanner, earning, is_open, place_earns}
+use Rattle.mcf_places.specs.PlannerFaults.{CostsThrough, EarnsNothing, HasLimits, IsLimitedPlanner, IsLimitedThrough, IsProperPlanner, earning, has_flaw, is_open, place_earns}
 use Rattle.mcf_places.specs.PlannerLaws.{ReturnsFreely, has_bounds}
-use Rattle.mcf_places.specs.Planners.{Planner, given, wanted}
+use Rattle.mcf_places.specs.Planners.{Planner, given, unit_penalty, wanted}
 use Rattle.mcf_places.specs.Throughput.{ample_limit, cut}
 use Rattle.mcf_places.specs.Ways.{with_tables}
+use Rattle.mcf_places.specs.declared.faults.PenaltyFlaw.TheVariants.{Lacking}
+use Rattle.mcf_places.proofs.LimitedPlans.{any_map, has_penalties_limited}
 use Rattle.mcf_places.proofs.ProperModels.{planner_is}
 use Rattle.mcf_places.proofs.ProperPlanners.{costs_through, limited_through}
 use Rattle.mcf_places.proofs.Shortages.{place_sum-map}
@@ -56,8 +58,8 @@ some_same limit None = refl
 at_limited : (limit : Option ℤ) (ps : List Place) (v : ℕ) → has_bounds (map (limited_place limit) ps) v ≡ has_bounds ps v
 at_limited limit ps v = go ps (v - 1)
   where
-    go : (ps : List Place) (i : ℕ) → is_some (slice_index_or (map (limited_place limit) ps) i (record { supply = pos 0; through = None })).through
-        ≡ is_some (slice_index_or ps i (record { supply = pos 0; through = None })).through
+    go : (ps : List Place) (i : ℕ) → is_some (slice_index_or (map (limited_place limit) ps) i (record { supply = pos 0; through = None; penalty = None })).through
+        ≡ is_some (slice_index_or ps i (record { supply = pos 0; through = None; penalty = None })).through
     go [] i = refl
     go (p ∷ ps) zero = some_same limit p.through
     go (p ∷ ps) (suc i) = go ps i
@@ -173,6 +175,10 @@ module _ (P : Planner) where
           place_sum-map (λ v p. wanted p) (limited_place (limit_for P)) 1 P.places,
         );
         penalty = h.penalty;
+        penalties = All-map (λ p. pos 0 ≤ℤ unit_penalty p.penalty) (limited_place (limit_for P)) P.places h.penalties;
+        weighed = λ needed.
+            All-map (λ p. has_flaw Lacking P.policy p ≡ false) (limited_place (limit_for P)) P.places
+            (h.weighed (ap (λ b. P.policy.short && b) (sym (has_penalties_limited (limit_for P) P.places)) ∙ needed));
         sound = record {
           routes = subst (λ n. All (IsSoundRoute n) P.routes) (sym same) h.sound.routes;
           return_freely = all_of (ReturnsFreely P.places) (ReturnsFreely (limited P).places) P.routes (λ r k. returns_limited (limit_for P) P.places r k)
@@ -189,7 +195,7 @@ module _ (P : Planner) where
   no_limit_places : (ps : List Place) → map (limited_place None) ps ≡ ps
   no_limit_places [] = refl
   no_limit_places (p ∷ ps) =
-      ap (λ (o : Option Bounds). record { supply = p.supply; through = o } ∷ map (limited_place None) ps) (go p.through)
+      ap (λ (o : Option Bounds). record { supply = p.supply; through = o; penalty = p.penalty } ∷ map (limited_place None) ps) (go p.through)
       ∙ ap (λ (qs : List Place). p ∷ qs) (no_limit_places ps)
     where
       own : (o : Option ℤ) → option_or o None ≡ o
@@ -236,10 +242,6 @@ module _ (P : Planner) where
       go false b c e = refl
       go true true c e = refl
       go true false c e = e
-
-any_map : {X Y : Type 0} (f : X → Y) (p : X → Bool) (q : Y → Bool) → ((x : X) → q (f x) ≡ p x) → (xs : List X) → list_any q (map f xs) ≡ list_any p xs
-any_map f p q e [] = refl
-any_map f p q e (x ∷ xs) = ap (λ b. b || list_any q (map f xs)) (e x) ∙ ap (λ b. p x || b) (any_map f p q e xs)
 
 -- what the rows earn is what their routes earn
 pub earned_by_rows : (places : List Place) (steps : List Step) (rows : List RouteRow)

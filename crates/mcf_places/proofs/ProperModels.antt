@@ -2,7 +2,7 @@
 use Rattle.std.proofs.Common.{◌≡◌, ℕ, suc, ◌+◌, ◌-◌, ◌<◌, ◌≤◌, true, List, [], ◌∷◌, ◌++◌, length, map, refl, ap, sym, ◌∙◌, subst, arith, ℤ, pos, ◌≤ℤ◌, inl, inr}
 use Rattle.std.specs.Prelude.{◌⊎◌, Option, Some, None, Result, Err, is_ok, option_map}
 use Rattle.std.specs.List.{All}
-use Rattle.std.specs.Option.{is_some}
+use Rattle.std.specs.Option.{is_some, option_or}
 use Rattle.std.proofs.lemmas.Int.{ints}
 use Rattle.std.proofs.lemmas.List.Elements.{All-append, All-cons, All-head, All-tail}
 use Rattle.mcf_flows.specs.Network.{IsNode}
@@ -21,7 +21,7 @@ use Rattle.mcf_places.specs.declared.places.Place.{Place}
 use Rattle.mcf_places.specs.Models.{exit_by, exit_of, from_exit, gate_of, gate_route, hub_of, missings, model_of, place_at, plain_route, routes_by, some_bounds, stayings, supplies_of, throughs, with_exits, with_first}
 use Rattle.mcf_places.specs.PlannerFaults.{CostsThrough, EarnsNothing, HasLimits, IsLimitedPlanner, IsLimitedThrough, IsProperPlanner, IsSmallPlace}
 use Rattle.mcf_places.specs.PlannerLaws.{AreSoundRoutes}
-use Rattle.mcf_places.specs.Planners.{EachPlace, Planner, unit_penalty}
+use Rattle.mcf_places.specs.Planners.{EachPlace, Planner, missing_cost, unit_penalty}
 use Rattle.mcf_places.specs.Ways.{with_tables}
 use Rattle.mcf_places.proofs.PlaceSums.{each_from}
 use Rattle.mcf_places.proofs.PlaceSteps.{each_small}
@@ -30,7 +30,7 @@ use Rattle.mcf_places.proofs.Ends.{M, S, T, if_route}
 use Rattle.mcf_places.proofs.Sides.{has_exit, supplies_long}
 
 abbrev no_place : Place
-no_place = record { supply = pos 0; through = None }
+no_place = record { supply = pos 0; through = None; penalty = None }
 
 -- a fact of all made routes
 all_made : (Q : Route → Type 0) (make : ℕ → Place → Option Route) (v : ℕ) (ps : List Place) → EachPlace (λ j p. IfRoute (make j p) Q) v ps
@@ -45,6 +45,14 @@ all_made Q make v (p ∷ ps) h = go (make v p) h.0 (all_made Q make (suc v) ps h
 mapped : (Q : Route → Type 0) (f : Route → Route) (R : Route → Type 0) → ((r : Route) → R r → Q (f r)) → (rs : List Route) → All R rs → All Q (map f rs)
 mapped Q f R g [] h = λ k d l. absurd (omega arith)
 mapped Q f R g (r ∷ rs) h = All-cons Q (f r) (map f rs) (g r (All-head R r rs h)) (mapped Q f R g rs (All-tail R r rs h))
+
+-- what is missing at a place costs no less than 0
+missing_low : (policy : Policy) (p : Place) → pos 0 ≤ℤ unit_penalty policy.penalty → pos 0 ≤ℤ unit_penalty p.penalty → pos 0 ≤ℤ missing_cost policy p
+missing_low policy p all own = go p.penalty own
+  where
+    go : (o : Option ℤ) → pos 0 ≤ℤ unit_penalty o → pos 0 ≤ℤ unit_penalty (option_or o policy.penalty)
+    go (Some penalty) h = h
+    go None h = all
 
 module _ (most : ℤ) (P : Planner) where
   -- a fact of all routes of the model, from one of each kind
@@ -128,13 +136,15 @@ module _ (most : ℤ) (P : Planner) where
       through w (Some c) k = k
       through w None k = tt
 
-  free_model : pos 0 ≤ℤ unit_penalty P.policy.penalty → EarnsNothing P → All (λ r. CostAtLeast (pos 0) r.steps r.last_cost) (model_of most P).routes
-  free_model penalty h =
+  free_model : pos 0 ≤ℤ unit_penalty P.policy.penalty → All (λ p. pos 0 ≤ℤ unit_penalty p.penalty) P.places → EarnsNothing P
+      → All (λ r. CostAtLeast (pos 0) r.steps r.last_cost) (model_of most P).routes
+  free_model penalty own h =
       let none : pos 0 ≤ℤ pos 0 = omega (arith, ints) in
       all_routes (λ r. CostAtLeast (pos 0) r.steps r.last_cost) (λ r. CostAtLeast (pos 0) r.steps r.last_cost) (λ r k. k) h.routes
       (λ w a b. through w (place_at P.places w).through (h.places (w - 1) no_place (omega (arith, a, b))))
       (λ w a b. if_route _ _ (λ r. CostAtLeast (pos 0) r.steps r.last_cost) none)
-      (λ w a b. if_route _ _ (λ r. CostAtLeast (pos 0) r.steps r.last_cost) none) penalty
+      (λ w a b. if_route _ _ (λ r. CostAtLeast (pos 0) r.steps r.last_cost)
+      (missing_low P.policy (place_at P.places w) penalty (own (w - 1) no_place (omega (arith, a, b))))) none
     where
       through : (w : ℕ) (o : Option Bounds) → CostsThrough o
           → IfRoute (option_map (λ (b : Bounds). plain_route w (length P.places + 2 + w) b.least b.most b.cost) o)
@@ -155,8 +165,8 @@ module _ (most : ℤ) (P : Planner) where
     where
       bounded : IsLimitedPlanner P ⊎ EarnsNothing P → HasLimits P → IsBounded (model_of most P)
       bounded (inl k) (inl all) = inl (limited_model k.routes all)
-      bounded (inl k) (inr none) = inr (free_model h.penalty none)
-      bounded (inr none) l = inr (free_model h.penalty none)
+      bounded (inl k) (inr none) = inr (free_model h.penalty h.penalties none)
+      bounded (inr none) l = inr (free_model h.penalty h.penalties none)
 
 -- ---- the model that is made of lists
 

@@ -15,12 +15,14 @@ use Rattle.mcf_model.proofs.FaultTests.{all_of, any_none, limited_from, no_earni
 use Rattle.mcf_model.proofs.Proper.{IsFaultless, each_clear, faultless, neither}
 use Rattle.mcf_places.specs.declared.faults.PlannerFault.{PlannerFault}
 use Rattle.mcf_places.specs.declared.faults.PlannerFault.TheVariants.{Size, Total, Penalty, NoLimit, Routes}
+use Rattle.mcf_places.specs.declared.faults.PenaltyFlaw.{PenaltyFlaw}
+use Rattle.mcf_places.specs.declared.faults.PenaltyFlaw.TheVariants.{Below, Idle, Lacking}
 use Rattle.mcf_places.specs.declared.faults.TheConstants.{PLACE_LIMIT, SUM_LIMIT}
 use Rattle.mcf_places.specs.declared.limits.TheConstants.{THROUGHPUT_LIMIT}
 use Rattle.mcf_places.specs.declared.places.Bounds.{Bounds}
 use Rattle.mcf_places.specs.declared.places.Place.{Place}
 use Rattle.mcf_places.specs.declared.places.Policy.{Policy}
-use Rattle.mcf_places.specs.PlannerFaults.{CostsThrough, EarnsNothing, IsLimitedPlanner, IsLimitedThrough, IsProperPlanner, earning, fault_if, is_open, open_faults, place_earns, planner_faults, planner_of}
+use Rattle.mcf_places.specs.PlannerFaults.{CostsThrough, EarnsNothing, IsLimitedPlanner, IsLimitedThrough, IsProperPlanner, earning, fault_if, flaw_fault, flaw_faults, has_flaw, is_open, lacking_faults, needs_penalties, open_faults, penalty_faults, place_earns, planner_faults, planner_of}
 use Rattle.mcf_places.specs.Planners.{all_given, all_wanted, unit_penalty}
 use Rattle.mcf_places.specs.Throughput.{ample_limit, is_beyond}
 use Rattle.mcf_places.specs.Ways.{numbers_of, row_returns, way_rows, ways_of, with_tables}
@@ -59,7 +61,10 @@ module _ (places : List Place) (steps : List Step) (rows : List RouteRow) (polic
       let earns = earning places steps rows in
       let a = neither (fault_if (nat_lt PLACE_LIMIT n) Size) _ e in
       let b = neither (fault_if (int_lt (pos SUM_LIMIT) (all_given places +ℤ all_wanted places)) Total) _ a.1 in
-      let c = neither (fault_if (int_lt (unit_penalty policy.penalty) (pos 0)) Penalty) _ b.1 in
+      let c = neither (penalty_faults policy places) _ b.1 in
+      let of_all = neither (fault_if (int_lt (unit_penalty policy.penalty) (pos 0)) Penalty) _ c.0 in
+      let below = neither (flaw_faults Below policy places) _ of_all.1 in
+      let idle = neither (flaw_faults Idle policy places) _ below.1 in
       let d = neither (open_faults (earns && is_beyond places (map (route_of steps) rows)) places) _ c.1 in
       let clear = each_clear n steps earns 1 rows (unmapped Routes (faults_from n steps earns 1 rows) d.1) in
       let routes = map (route_of steps) rows in
@@ -70,7 +75,10 @@ module _ (places : List Place) (steps : List Step) (rows : List RouteRow) (polic
           few = few PLACE_LIMIT n (not_so (nat_lt PLACE_LIMIT n) Size a.0);
           small = not_below (pos SUM_LIMIT) (all_given places +ℤ all_wanted places)
               (not_so (int_lt (pos SUM_LIMIT) (all_given places +ℤ all_wanted places)) Total b.0);
-          penalty = not_below (unit_penalty policy.penalty) (pos 0) (not_so (int_lt (unit_penalty policy.penalty) (pos 0)) Penalty c.0);
+          penalty = not_below (unit_penalty policy.penalty) (pos 0) (not_so (int_lt (unit_penalty policy.penalty) (pos 0)) Penalty of_all.0);
+          penalties = all_of (λ p. has_flaw Below policy p ≡ false) (λ p. pos 0 ≤ℤ unit_penalty p.penalty) places
+              (λ p k. not_below (unit_penalty p.penalty) (pos 0) k) (no_flaws Below below.0);
+          weighed = λ needed. weighed (needs_penalties policy places) needed idle.1;
           sound = record {
             routes = ways_sound places n routes
                 (All-map (IsSoundRoute n) (route_of steps) rows (all_of F (λ row. IsSoundRoute n (route_of steps row)) rows (λ row k. k.sound) each));
@@ -86,6 +94,14 @@ module _ (places : List Place) (steps : List Step) (rows : List RouteRow) (polic
         ways_listed places steps rows (all_of F (λ row. (row.first_step + row.step_count) ≤ length steps) rows (λ row k. k.listed) each),
       )
     where
+      no_flaws : (flaw : PenaltyFlaw) → flaw_faults flaw policy places ≡ [] → All (λ p. has_flaw flaw policy p ≡ false) places
+      no_flaws flaw o =
+          none_of (has_flaw flaw policy) 1 places (unmapped (flaw_fault flaw) (numbers_of (has_flaw flaw policy) 1 places) o)
+
+      weighed : (b : Bool) → b ≡ true → lacking_faults b policy places ≡ [] → All (λ p. has_flaw Lacking policy p ≡ false) places
+      weighed true needed o = no_flaws Lacking o
+      weighed false needed o = cc needed
+
       few : (x y : ℕ) → nat_lt x y ≡ false → y ≤ x
       few x y h = grind arith
 

@@ -1,6 +1,6 @@
 -- The problem in which only what is missing costs something has the plans of the problem.
 use Rattle.std.proofs.Common.{◌≡◌, ℕ, zero, suc, ◌+◌, ◌-◌, ◌≤◌, eqb, Bool, true, false, ◌&&◌, List, [], ◌∷◌, length, map, refl, ap, sym, ◌∙◌, subst, arith, ℤ, pos, ◌+ℤ◌, ◌-ℤ◌, ◌≤ℤ◌, inr}
-use Rattle.std.specs.Prelude.{◌||◌, Option, Some, None, take, drop, option_map, slice_index_or}
+use Rattle.std.specs.Prelude.{◌||◌, Option, Some, None, int_lt, take, drop, option_map, slice_index_or}
 use Rattle.std.specs.Option.{is_some}
 use Rattle.std.specs.Int.{int_min}
 use Rattle.std.specs.List.{All, AllZip}
@@ -19,13 +19,15 @@ use Rattle.mcf_model.proofs.FaultTests.{all_of}
 use Rattle.mcf_places.specs.declared.places.Bounds.{Bounds}
 use Rattle.mcf_places.specs.declared.places.Place.{Place}
 use Rattle.mcf_places.specs.declared.places.Policy.{Policy}
-use Rattle.mcf_places.specs.PlannerFaults.{CostsThrough, EarnsNothing, IsProperPlanner}
+use Rattle.mcf_places.specs.PlannerFaults.{CostsThrough, EarnsNothing, IsProperPlanner, has_flaw}
+use Rattle.mcf_places.specs.declared.faults.PenaltyFlaw.TheVariants.{Lacking}
 use Rattle.mcf_places.specs.PlannerLaws.{ReturnsFreely, has_bounds}
-use Rattle.mcf_places.specs.Planners.{EachPlace, IsBalancedAt, IsLeastPlan, IsNoWorse, IsPlan, KeepsBounds, Plan, Planner, all_wanted, cost, given, passes, place_sum, through_cost, total_missing, wanted}
+use Rattle.mcf_places.specs.Planners.{EachPlace, IsBalancedAt, IsLeastPlan, IsNoWorse, IsPlan, KeepsBounds, Plan, Planner, all_wanted, cost, given, missing_cost, passes, place_sum, through_cost, total_missing, unit_penalty, wanted}
 use Rattle.mcf_places.specs.Shortage.{counting, free_bounds, free_place, free_route, free_row, free_step, shortage_of}
 use Rattle.mcf_places.specs.Ways.{with_tables}
 use Rattle.mcf_places.proofs.Ends.{plan_sum-map}
 use Rattle.mcf_places.proofs.ProperModels.{planner_is}
+use Rattle.std.proofs.Math.IntN.{◌*ℤ◌}
 
 -- ---- lists
 
@@ -160,16 +162,21 @@ module _ (P : Planner) (x : Plan) where
   free_through v [] = refl
   free_through v (p ∷ ps) = omega (arith, ints, through_free p.through (passes (shortage_of P) x v (free_place p)), free_through (suc v) ps)
 
+  free_penalties : (v : ℕ) (ps : List Place)
+      → place_sum (λ j p. missing_cost (counting P.policy) p *ℤ at_node x.missing j) v (map free_place ps) ≡ place_sum (λ j p. at_node x.missing j) v ps
+  free_penalties v [] = refl
+  free_penalties v (p ∷ ps) = omega (arith, ints, one-mul (at_node x.missing v), free_penalties (suc v) ps)
+
   -- it costs what is missing
   pub free_cost : cost (shortage_of P) x ≡ total_missing P x
   free_cost =
-      omega (arith, ints, free_costs P.routes x.carries, free_through 1 P.places, one-mul (total_missing (shortage_of P) x), free_missing)
+      omega (arith, ints, free_costs P.routes x.carries, free_through 1 P.places, free_penalties 1 P.places)
 
 -- a least plan of it misses the least
-pub misses_least : (P : Planner) (x : Plan) → IsLeastPlan (shortage_of P) x → (other : Plan) → IsPlan P other → total_missing P x ≤ℤ total_missing P other
-misses_least P x h other is = go P.policy.short (h.least other (plan_free P other is))
+pub misses_the_least : (P : Planner) (x : Plan) → IsLeastPlan (shortage_of P) x → (other : Plan) → IsPlan P other → total_missing P x ≤ℤ total_missing P other
+misses_the_least P x h other is = go P.policy.short (h.least other (plan_free P other is))
   where
-    go : (b : Bool) → IsNoWorse (shortage_of P) b (Some (pos 1)) x other → total_missing P x ≤ℤ total_missing P other
+    go : (b : Bool) → IsNoWorse (shortage_of P) (b && false) x other → total_missing P x ≤ℤ total_missing P other
     go true k = omega (arith, ints, free_cost P x, free_cost P other, k)
     go false k = omega (arith, ints, free_cost P x, free_cost P other, k)
 
@@ -212,8 +219,8 @@ bounds_free None = refl
 at_free : (ps : List Place) (v : ℕ) → has_bounds (map free_place ps) v ≡ has_bounds ps v
 at_free ps v = go ps (v - 1)
   where
-    go : (ps : List Place) (i : ℕ) → is_some (slice_index_or (map free_place ps) i (record { supply = pos 0; through = None })).through
-        ≡ is_some (slice_index_or ps i (record { supply = pos 0; through = None })).through
+    go : (ps : List Place) (i : ℕ) → is_some (slice_index_or (map free_place ps) i (record { supply = pos 0; through = None; penalty = None })).through
+        ≡ is_some (slice_index_or ps i (record { supply = pos 0; through = None; penalty = None })).through
     go [] i = refl
     go (p ∷ ps) zero = bounds_free p.through
     go (p ∷ ps) (suc i) = go ps i
@@ -251,12 +258,21 @@ earns_nothing_free P =
           (any_all (λ p. CostsThrough (option_map free_bounds p.through)) (λ p. through_costs p.through) P.places);
     }
 
+and_none : (b : Bool) → (b && false) ≡ false
+and_none true = refl
+and_none false = refl
+
 pub proper_free : (P : Planner) → IsProperPlanner P → IsProperPlanner (shortage_of P)
 proper_free P h =
     record {
       few = omega (arith, h.few, length-map P.places free_place);
       small = omega (arith, ints, h.small, sum_free given (λ p. refl) 1 P.places, wanted_free P.places);
       penalty = omega (arith, ints);
+      penalties = All-map (λ p. pos 0 ≤ℤ unit_penalty p.penalty) free_place P.places
+          (any_all (λ p. pos 0 ≤ℤ unit_penalty (free_place p).penalty) (λ p. omega (arith, ints)) P.places);
+      weighed = λ needed.
+          All-map (λ p. has_flaw Lacking (counting P.policy) p ≡ false) free_place P.places
+          (any_all (λ p. has_flaw Lacking (counting P.policy) (free_place p) ≡ false) (λ p. and_none (int_lt p.supply (pos 0))) P.places);
       sound = record {
         routes = subst (λ n. All (IsSoundRoute n) (map free_route P.routes)) (sym (length-map P.places free_place))
             (All-map (IsSoundRoute (length P.places)) free_route P.routes

@@ -20,22 +20,22 @@ use Rattle.mcf_places.proofs.MadeRoutes.{IfRoute, NoneElse}
 -- ---- routes to the hub and from the gate
 
 -- what stays or is missing may be carried
-pub side_carries : (u t : Bool) (tail head : ℕ) (high z : ℤ) → pos 0 ≤ℤ z → z ≤ℤ when u high → (t ≡ false → high ≡ pos 0)
-    → IfRoute (route_if (u && t) (plain_route tail head (pos 0) (Some high) (pos 0))) (λ r. MayCarry r z)
-    × NoneElse (route_if (u && t) (plain_route tail head (pos 0) (Some high) (pos 0))) z
-side_carries true true tail head high z a b e = (record { enough = a; fits = b }, tt)
-side_carries true false tail head high z a b e = (tt, omega (arith, ints, a, b, e refl))
-side_carries false true tail head high z a b e = (tt, omega (arith, ints, a, b))
-side_carries false false tail head high z a b e = (tt, omega (arith, ints, a, b))
+pub side_carries : (u t : Bool) (tail head : ℕ) (high cost z : ℤ) → pos 0 ≤ℤ z → z ≤ℤ when u high → (t ≡ false → high ≡ pos 0)
+    → IfRoute (route_if (u && t) (plain_route tail head (pos 0) (Some high) cost)) (λ r. MayCarry r z)
+    × NoneElse (route_if (u && t) (plain_route tail head (pos 0) (Some high) cost)) z
+side_carries true true tail head high cost z a b e = (record { enough = a; fits = b }, tt)
+side_carries true false tail head high cost z a b e = (tt, omega (arith, ints, a, b, e refl))
+side_carries false true tail head high cost z a b e = (tt, omega (arith, ints, a, b))
+side_carries false false tail head high cost z a b e = (tt, omega (arith, ints, a, b))
 
 -- what is carried may stay or be missing
-pub side_carried : (u t : Bool) (tail head : ℕ) (high z : ℤ) → pos 0 ≤ℤ high
-    → IfRoute (route_if (u && t) (plain_route tail head (pos 0) (Some high) (pos 0))) (λ r. MayCarry r z)
-    → NoneElse (route_if (u && t) (plain_route tail head (pos 0) (Some high) (pos 0))) z → (pos 0 ≤ℤ z) × (z ≤ℤ when u high)
-side_carried true true tail head high z h i n = (i.enough, i.fits)
-side_carried true false tail head high z h i n = (omega (arith, ints, n), omega (arith, ints, n, h))
-side_carried false true tail head high z h i n = (omega (arith, ints, n), omega (arith, ints, n))
-side_carried false false tail head high z h i n = (omega (arith, ints, n), omega (arith, ints, n))
+pub side_carried : (u t : Bool) (tail head : ℕ) (high cost z : ℤ) → pos 0 ≤ℤ high
+    → IfRoute (route_if (u && t) (plain_route tail head (pos 0) (Some high) cost)) (λ r. MayCarry r z)
+    → NoneElse (route_if (u && t) (plain_route tail head (pos 0) (Some high) cost)) z → (pos 0 ≤ℤ z) × (z ≤ℤ when u high)
+side_carried true true tail head high cost z h i n = (i.enough, i.fits)
+side_carried true false tail head high cost z h i n = (omega (arith, ints, n), omega (arith, ints, n, h))
+side_carried false true tail head high cost z h i n = (omega (arith, ints, n), omega (arith, ints, n))
+side_carried false false tail head high cost z h i n = (omega (arith, ints, n), omega (arith, ints, n))
 
 pub gives_none : (p : Place) → int_lt (pos 0) p.supply ≡ false → given p ≡ pos 0
 gives_none p e = omega (arith, ints, clamps, not_below (pos 0) p.supply e)
@@ -89,7 +89,7 @@ module _ (ps : List Place) where
   exits = map (λ p. exit_supply p.through p) (with_exits (some_bounds ps) ps)
 
   abbrev no_place : Place
-  no_place = record { supply = pos 0; through = None }
+  no_place = record { supply = pos 0; through = None; penalty = None }
 
   entries_long : length entries ≡ length ps
   entries_long = length-map ps (λ p. entry_supply p.through p)

@@ -1,6 +1,6 @@
 -- The stages in which the least plan of a problem is found.
 use Rattle.std.proofs.Common.{◌≡◌, ℕ, suc, ◌-◌, Bool, true, false, List, [], ◌∷◌, ◌++◌, length, map, get_or, refl, ap, sym, ◌∙◌, subst, arith, ℤ, pos, ◌≤ℤ◌, inl, inr}
-use Rattle.std.specs.Prelude.{◌⊎◌, Option, Some, None}
+use Rattle.std.specs.Prelude.{◌⊎◌, ◌&&◌}
 use Rattle.std.specs.List.{All}
 use Rattle.std.proofs.Common.{length-append}
 use Rattle.std.proofs.Math.Seq.{get_or-append_seam}
@@ -20,20 +20,21 @@ use Rattle.mcf_places.specs.declared.faults.TheConstants.{SUM_LIMIT}
 use Rattle.mcf_places.specs.declared.answering.LeastPlannerPlan.{LeastPlannerPlan}
 use Rattle.mcf_places.specs.declared.places.Place.{Place}
 use Rattle.mcf_places.specs.declared.told.PlannerBottleneck.{PlannerBottleneck}
-use Rattle.mcf_places.specs.Answers.{HasNoPlannerPlan, IsAllowed, IsBestPlannerPlan, IsLeastMissing, IsShownIn, IsToldBottleneck, StandsFor, has_stages}
+use Rattle.mcf_places.specs.Answers.{HasNoPlannerPlan, IsAllowed, IsBestPlannerPlan, IsLeastMissing, IsShownIn, IsToldBottleneck, StandsFor}
 use Rattle.mcf_places.specs.FinerPlanners.{finer, finer_plan}
 use Rattle.mcf_places.specs.Models.{amounts_by, supplies_of, model_of, plan_of, routes_of}
 use Rattle.mcf_places.specs.PlannerBottlenecks.{PlannerBottlenecksHaveNoPlan}
 use Rattle.mcf_places.specs.PlannerFaults.{IsProperPlanner}
 use Rattle.mcf_places.specs.PlannerLaws.{LeavesEnough}
-use Rattle.mcf_places.specs.Planners.{EachPlace, IsBalancedAt, IsLeastPlan, IsPlan, Plan, Planner, all_wanted, cost, given, passes, place_sum, total_missing, wanted}
+use Rattle.mcf_places.specs.Planners.{EachPlace, IsBalancedAt, IsLeastPlan, IsPlan, Plan, Planner, all_wanted, cost, given, misses_least, passes, place_sum, total_missing, wanted}
 use Rattle.mcf_places.specs.Planning.{plan_in}
 use Rattle.mcf_places.specs.Shortage.{shortage_of}
 use Rattle.mcf_places.proofs.Ends.{M, S, T}
 use Rattle.mcf_places.proofs.Exchange.{model_plan_is_plan, plans_are_model_plans_lem}
 use Rattle.mcf_places.proofs.FinerModels.{all_wanted_finer, missing_times, model_finer, plan_finer, shortage_finer, sound_finer}
+use Rattle.mcf_places.proofs.LimitedPlans.{misses_least_finer}
 use Rattle.mcf_places.proofs.LeastPlans.{least_model_plans_are_least_lem, misses_no_more}
-use Rattle.mcf_places.proofs.Shortages.{free_cost, misses_least, plan_unfree, proper_free}
+use Rattle.mcf_places.proofs.Shortages.{free_cost, misses_the_least, plan_unfree, proper_free}
 use Rattle.mcf_places.proofs.ToldAnswers.{no_plan_unfree, none_finer, told_bottleneck}
 
 -- the last of a list
@@ -133,14 +134,14 @@ module _ (most : ℤ) (P : Planner) (proper : IsProperPlanner P) (stands : Stand
         least_in_finer_units = λ k k1.
             subst (IsLeastPlan (finer k P)) (plan_finer k k1 P plan ∙ ap (finer_plan k) (sym e))
             (least_model_plans_are_least_lem (k *ℤ most) (finer k P) (map (λ z. k *ℤ z) plan) (sound_finer k k1 P proper.sound)
-            (stands.enough_in_finer_units k k1)
+            (subst (LeavesEnough (k *ℤ most) (finer k P)) (sym (misses_least_finer k P)) (stands.enough_in_finer_units k k1))
             (subst (λ m. IsLeastModelPlan m (map (λ z. k *ℤ z) plan)) (sym (model_finer k k1 P most)) (best.least_in_finer_units k k1)));
         missing_is = g (before_gate P (plan_of P plan)) (total_missing P (plan_of P plan)) (sym mine.back_again ∙ sym (gate_last P (plan_of P plan)))
             ∙ ap (total_missing P) (sym e);
       }
 
   -- the prices of the model's least plan show the plan that is read from it
-  pub shown_plan : IsAllowed (has_stages P.policy.short P.policy.penalty) most P → (found : LeastPlan) (made : LeastPlannerPlan)
+  pub shown_plan : IsAllowed (misses_least P) most P → (found : LeastPlan) (made : LeastPlannerPlan)
       → IsBestPlan (model_of most P) found → plan_in made.plan ≡ plan_of P found.carries.items → made.shown.model ≡ model_of most P
       → made.shown.carries.items ≡ found.carries.items → made.shown.prices.items ≡ found.prices.items → IsShownIn P made
   shown_plan allowed found made best e f g h =
@@ -179,49 +180,45 @@ finer_no_more k k1 most P is x h =
 
 -- ---- one stage
 
-pub stands_at_once : (most : ℤ) (P : Planner) → IsProperPlanner P → has_stages P.policy.short P.policy.penalty ≡ false
+pub stands_at_once : (most : ℤ) (P : Planner) → IsProperPlanner P → misses_least P ≡ false
     → most ≡ when P.policy.short (all_wanted P.places) → StandsFor most P
 stands_at_once most P proper one is =
     record {
-      enough = go P.policy.short P.policy.penalty one no_more;
-      enough_in_finer_units = λ k k1. go_finer k P.policy.short P.policy.penalty one (finer_no_more k k1 most P is);
+      enough = go (misses_least P) one no_more;
+      enough_in_finer_units = λ k k1. go_finer k (misses_least P) one (finer_no_more k k1 most P is);
       all_or_least = inl is;
     }
   where
-    go_finer : (k : ℤ) (b : Bool) (o : Option ℤ) → has_stages b o ≡ false → ((x : Plan) → IsPlan (finer k P) x → total_missing (finer k P) x ≤ℤ (k *ℤ most))
-        → LeavesEnough (k *ℤ most) (finer k P) b o
-    go_finer k true None bad h = cc bad
-    go_finer k true (Some penalty) e h = h
-    go_finer k false o e h = h
+    go_finer : (k : ℤ) (b : Bool) → b ≡ false → ((x : Plan) → IsPlan (finer k P) x → total_missing (finer k P) x ≤ℤ (k *ℤ most))
+        → LeavesEnough (k *ℤ most) (finer k P) b
+    go_finer k true bad h = cc bad
+    go_finer k false e h = h
 
     no_more : (x : Plan) → IsPlan P x → total_missing P x ≤ℤ most
     no_more x h = subst (λ z. total_missing P x ≤ℤ z) (sym is) (misses_no_more P x h)
 
-    go : (b : Bool) (o : Option ℤ) → has_stages b o ≡ false → ((x : Plan) → IsPlan P x → total_missing P x ≤ℤ most) → LeavesEnough most P b o
-    go true None bad k = cc bad
-    go true (Some penalty) e k = k
-    go false o e k = k
+    go : (b : Bool) → b ≡ false → ((x : Plan) → IsPlan P x → total_missing P x ≤ℤ most) → LeavesEnough most P b
+    go true bad k = cc bad
+    go false e k = k
 
 -- ---- two stages
 
-pub stands_for_least : (most : ℤ) (P : Planner) → IsProperPlanner P → has_stages P.policy.short P.policy.penalty ≡ true → IsLeastMissing most P → StandsFor most P
+pub stands_for_least : (most : ℤ) (P : Planner) → IsProperPlanner P → misses_least P ≡ true → IsLeastMissing most P → StandsFor most P
 stands_for_least most P proper two m =
     record {
-      enough = go P.policy.short P.policy.penalty two m.least;
-      enough_in_finer_units = λ k k1. go_finer k P.policy.short P.policy.penalty two (λ other. m.least_in_finer_units k other k1);
+      enough = go (misses_least P) two m.least;
+      enough_in_finer_units = λ k k1. go_finer k (misses_least P) two (λ other. m.least_in_finer_units k other k1);
       all_or_least = inr m;
     }
   where
-    go_finer : (k : ℤ) (b : Bool) (o : Option ℤ) → has_stages b o ≡ true → ((x : Plan) → IsPlan (finer k P) x → (k *ℤ most) ≤ℤ total_missing (finer k P) x)
-        → LeavesEnough (k *ℤ most) (finer k P) b o
-    go_finer k true None e h = h
-    go_finer k true (Some penalty) bad h = cc bad
-    go_finer k false o bad h = cc bad
+    go_finer : (k : ℤ) (b : Bool) → b ≡ true → ((x : Plan) → IsPlan (finer k P) x → (k *ℤ most) ≤ℤ total_missing (finer k P) x)
+        → LeavesEnough (k *ℤ most) (finer k P) b
+    go_finer k true e h = h
+    go_finer k false bad h = cc bad
 
-    go : (b : Bool) (o : Option ℤ) → has_stages b o ≡ true → ((x : Plan) → IsPlan P x → most ≤ℤ total_missing P x) → LeavesEnough most P b o
-    go true None e k = k
-    go true (Some penalty) bad k = cc bad
-    go false o bad k = cc bad
+    go : (b : Bool) → b ≡ true → ((x : Plan) → IsPlan P x → most ≤ℤ total_missing P x) → LeavesEnough most P b
+    go true e k = k
+    go false bad k = cc bad
 
 module _ (most : ℤ) (P : Planner) (proper : IsProperPlanner P)
     (is : most ≡ when (shortage_of P).policy.short (all_wanted (shortage_of P).places)) where
@@ -229,11 +226,11 @@ module _ (most : ℤ) (P : Planner) (proper : IsProperPlanner P)
   no_more_short : (x : Plan) → IsPlan (shortage_of P) x → total_missing (shortage_of P) x ≤ℤ most
   no_more_short x h = subst (λ z. total_missing (shortage_of P) x ≤ℤ z) (sym is) (misses_no_more (shortage_of P) x h)
 
-  enough_short : (b : Bool) → LeavesEnough most (shortage_of P) b (Some (pos 1))
+  enough_short : (b : Bool) → LeavesEnough most (shortage_of P) (b && false)
   enough_short true = no_more_short
   enough_short false = no_more_short
 
-  enough_finer : (k : ℤ) → pos 1 ≤ℤ k → (b : Bool) → LeavesEnough (k *ℤ most) (finer k (shortage_of P)) b (Some (pos 1))
+  enough_finer : (k : ℤ) → pos 1 ≤ℤ k → (b : Bool) → LeavesEnough (k *ℤ most) (finer k (shortage_of P)) (b && false)
   enough_finer k k1 true = finer_no_more k k1 most (shortage_of P) is
   enough_finer k k1 false = finer_no_more k k1 most (shortage_of P) is
 
@@ -249,7 +246,7 @@ module _ (most : ℤ) (P : Planner) (proper : IsProperPlanner P)
         plan = plan_of Q plan;
         is_plan = plan_unfree P (plan_of Q plan) mine.is_plan;
         misses = misses;
-        least = λ other h. omega (arith, ints, misses, misses_least P (plan_of Q plan) least other h);
+        least = λ other h. omega (arith, ints, misses, misses_the_least P (plan_of Q plan) least other h);
         least_in_finer_units = λ k other k1 h.
             let finest = least_model_plans_are_least_lem (k *ℤ most) (finer k Q) (map (λ z. k *ℤ z) plan) (sound_finer k k1 Q sound)
             (enough_finer k k1 P.policy.short)
@@ -259,7 +256,7 @@ module _ (most : ℤ) (P : Planner) (proper : IsProperPlanner P)
             omega (
               arith,
               ints,
-              misses_least (finer k P) (finer_plan k (plan_of Q plan)) same other h,
+              misses_the_least (finer k P) (finer_plan k (plan_of Q plan)) same other h,
               missing_times k k1 P (plan_of Q plan),
               ap (λ z. k *ℤ z) misses,
             );

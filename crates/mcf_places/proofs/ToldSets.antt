@@ -13,7 +13,7 @@ use Rattle.mcf_places.specs.declared.places.Place.{Place}
 use Rattle.mcf_places.specs.Models.{exit_by, exit_of, from_exit, gate_of, hub_of, model_of, place_at, plain_route, route_if}
 use Rattle.mcf_places.specs.PlannerBottlenecks.{PlaceSet, leads_in, leads_out, passes_in, passes_out, through_least, through_most}
 use Rattle.mcf_places.specs.PlannerLaws.{IsSound, ReturnsFreely, has_bounds}
-use Rattle.mcf_places.specs.Planners.{Planner, given, place_sum, wanted}
+use Rattle.mcf_places.specs.Planners.{Planner, given, missing_cost, place_sum, wanted}
 use Rattle.mcf_places.proofs.Ends.{M, S, T}
 use Rattle.mcf_places.proofs.MadeRoutes.{term_if}
 use Rattle.mcf_places.proofs.PlaceCuts.{route_sum-same, when-none, whole_routes}
@@ -128,9 +128,9 @@ module _ (n j : ℕ) (b : Bool) (c : ℕ → ℕ → Bool) where
   through_least_is None f = sym (when-none b)
 
 -- to the hub, and from the gate
-module _ (tail head : ℕ) (high : ℤ) (c : ℕ → ℕ → Bool) where
+module _ (tail head : ℕ) (high cost : ℤ) (c : ℕ → ℕ → Bool) where
   abbrev side : Bool → Bool → Option Route
-  side u t = route_if (u && t) (plain_route tail head (pos 0) (Some high) (pos 0))
+  side u t = route_if (u && t) (plain_route tail head (pos 0) (Some high) cost)
 
   pub side_most : (u t e : Bool) → c tail head ≡ e → (t ≡ false → high ≡ pos 0) → term_if (side u t) (most_across c) ≡ when u (when e high)
   side_most true true e is none = omega (arith, ints, ap (λ b. when b high) is)
@@ -159,7 +159,7 @@ when_sum false t v ps = place_sum-zero (λ j p. pos 0) v ps (each_all (λ j p. p
 
 module _ (P : Planner) (sound : IsSound P) (set : ℕ → Bool) (s : PlaceSet) (told : IsTold P set s) where
   abbrev no_place : Place
-  no_place = record { supply = pos 0; through = None }
+  no_place = record { supply = pos 0; through = None; penalty = None }
 
   abbrev node_of : (w : ℕ) → 1 ≤ w → w < 1 + length P.places → IsNode (length P.places) w
   node_of w a b = (a, omega (arith, b))
@@ -202,10 +202,10 @@ module _ (P : Planner) (sound : IsSound P) (set : ℕ → Bool) (s : PlaceSet) (
   sides_least c = (
     place_sum-zero (λ j p. term_if (S P j p) (least_across c)) 1 P.places
         (each_all (λ j p. term_if (S P j p) (least_across c) ≡ pos 0) 1 P.places
-        (λ j p a b. side_least j (hub_of P.places) (given p) c P.policy.unused (int_lt (pos 0) p.supply))),
+        (λ j p a b. side_least j (hub_of P.places) (given p) (pos 0) c P.policy.unused (int_lt (pos 0) p.supply))),
     place_sum-zero (λ j p. term_if (M P j p) (least_across c)) 1 P.places
         (each_all (λ j p. term_if (M P j p) (least_across c) ≡ pos 0) 1 P.places
-        (λ j p a b. side_least (gate_of P.places) (exit_by (length P.places) j p.through) (wanted p) c P.policy.short (int_lt p.supply (pos 0)))),
+        (λ j p a b. side_least (gate_of P.places) (exit_by (length P.places) j p.through) (wanted p) (missing_cost P.policy p) c P.policy.short (int_lt p.supply (pos 0)))),
   )
 
   -- the least that crosses
@@ -239,7 +239,7 @@ module _ (P : Planner) (sound : IsSound P) (set : ℕ → Bool) (s : PlaceSet) (
       place_sum-same (λ j p. term_if (S P j p) (most_across (out_of set))) (λ j p. when P.policy.unused (when (s.entries j) (given p))) 1 P.places
       (each_from (λ j p. term_if (S P j p) (most_across (out_of set)) ≡ when P.policy.unused (when (s.entries j) (given p))) 1 P.places no_place
       (λ w a b. let p = place_at P.places w in
-      side_most w (hub_of P.places) (given p) (out_of set) P.policy.unused (int_lt (pos 0) p.supply) (s.entries w)
+      side_most w (hub_of P.places) (given p) (pos 0) (out_of set) P.policy.unused (int_lt (pos 0) p.supply) (s.entries w)
       (ap (λ z. set w && not z) told.hub ∙ and_true (set w) ∙ sym (told.entries w (node_of w a b))) (gives_none p)))
       ∙ when_sum P.policy.unused (λ j p. when (s.entries j) (given p)) 1 P.places
 
@@ -248,7 +248,7 @@ module _ (P : Planner) (sound : IsSound P) (set : ℕ → Bool) (s : PlaceSet) (
   stays_in =
       place_sum-zero (λ j p. term_if (S P j p) (most_across (into set))) 1 P.places
       (each_all (λ j p. term_if (S P j p) (most_across (into set)) ≡ pos 0) 1 P.places
-      (λ j p a b. side_most j (hub_of P.places) (given p) (into set) P.policy.unused (int_lt (pos 0) p.supply) false
+      (λ j p a b. side_most j (hub_of P.places) (given p) (pos 0) (into set) P.policy.unused (int_lt (pos 0) p.supply) false
       (ap (λ z. z && not (set j)) told.hub) (gives_none p) ∙ when-none P.policy.unused))
 
   -- what is missing takes nothing from the set
@@ -262,7 +262,7 @@ module _ (P : Planner) (sound : IsSound P) (set : ℕ → Bool) (s : PlaceSet) (
           omega (
             arith,
             ints,
-            side_some (gate_of P.places) (exit_by (length P.places) v p.through) (wanted p) (out_of set) P.policy.short (int_lt p.supply (pos 0)) low,
+            side_some (gate_of P.places) (exit_by (length P.places) v p.through) (wanted p) (missing_cost P.policy p) (out_of set) P.policy.short (int_lt p.supply (pos 0)) low,
             go (suc v) ps,
           )
 
@@ -270,7 +270,7 @@ module _ (P : Planner) (sound : IsSound P) (set : ℕ → Bool) (s : PlaceSet) (
   missing_out_none e =
       place_sum-zero (λ j p. term_if (M P j p) (most_across (out_of set))) 1 P.places
       (each_all (λ j p. term_if (M P j p) (most_across (out_of set)) ≡ pos 0) 1 P.places
-      (λ j p a b. side_most (gate_of P.places) (exit_by (length P.places) j p.through) (wanted p) (out_of set) P.policy.short (int_lt p.supply (pos 0)) false
+      (λ j p a b. side_most (gate_of P.places) (exit_by (length P.places) j p.through) (wanted p) (missing_cost P.policy p) (out_of set) P.policy.short (int_lt p.supply (pos 0)) false
       (ap (λ z. z && not (set (exit_by (length P.places) j p.through))) e) (wants_none p) ∙ when-none P.policy.short))
 
   -- what may be missing, where the set takes and the gate isn't in it
@@ -280,7 +280,7 @@ module _ (P : Planner) (sound : IsSound P) (set : ℕ → Bool) (s : PlaceSet) (
       place_sum-same (λ j p. term_if (M P j p) (most_across (into set))) (λ j p. when P.policy.short (when (s.exits j) (wanted p))) 1 P.places
       (each_from (λ j p. term_if (M P j p) (most_across (into set)) ≡ when P.policy.short (when (s.exits j) (wanted p))) 1 P.places no_place
       (λ w a b. let p = place_at P.places w in
-      side_most (gate_of P.places) (exit_of P.places w) (wanted p) (into set) P.policy.short (int_lt p.supply (pos 0)) (s.exits w)
+      side_most (gate_of P.places) (exit_of P.places w) (wanted p) (missing_cost P.policy p) (into set) P.policy.short (int_lt p.supply (pos 0)) (s.exits w)
       (ap (λ z. set (exit_of P.places w) && not z) e ∙ and_true (set (exit_of P.places w))
       ∙ sym (told.exits w (node_of w a b))) (wants_none p)))
       ∙ when_sum P.policy.short (λ j p. when (s.exits j) (wanted p)) 1 P.places
@@ -295,6 +295,6 @@ module _ (P : Planner) (sound : IsSound P) (set : ℕ → Bool) (s : PlaceSet) (
           omega (
             arith,
             ints,
-            side_some (gate_of P.places) (exit_by (length P.places) v p.through) (wanted p) (into set) P.policy.short (int_lt p.supply (pos 0)) low,
+            side_some (gate_of P.places) (exit_by (length P.places) v p.through) (wanted p) (missing_cost P.policy p) (into set) P.policy.short (int_lt p.supply (pos 0)) low,
             go (suc v) ps,
           )

@@ -1,6 +1,6 @@
 -- The answers for a planner's problem.
 -- Source: own
-use Rattle.std.specs.Prelude.{◌≡◌, ℕ, Bool, true, false, ℤ, pos, ◌*ℤ◌, ◌≤ℤ◌, ◌⊎◌, Option, Some, None, length}
+use Rattle.std.specs.Prelude.{◌≡◌, ℕ, Bool, true, false, ℤ, pos, ◌*ℤ◌, ◌≤ℤ◌, ◌⊎◌, Some, length}
 use Rattle.mcf_flows.specs.Blocking.{in_list, in_table}
 use Rattle.mcf_flows.specs.Limits.{limits}
 use Rattle.mcf_flows.specs.Network.{IsNode, when}
@@ -21,7 +21,7 @@ use Rattle.mcf_places.specs.LimitedPlanners.{limited}
 use Rattle.mcf_places.specs.Models.{exit_of, hub_of, model_of, plan_of}
 use Rattle.mcf_places.specs.PlannerBottlenecks.{IsPlannerBottleneck, PlaceSet}
 use Rattle.mcf_places.specs.PlannerLaws.{LeavesEnough}
-use Rattle.mcf_places.specs.Planners.{IsLeastPlan, IsPlan, Plan, Planner, all_wanted, cost, total_missing}
+use Rattle.mcf_places.specs.Planners.{IsLeastPlan, IsPlan, Plan, Planner, all_wanted, cost, misses_least, total_missing}
 use Rattle.mcf_places.specs.Planning.{plan_in}
 use Rattle.mcf_places.specs.Shortage.{shortage_of}
 use Rattle.mcf_model.specs.Complements.{side_told, turned_if}
@@ -53,14 +53,8 @@ pub record IsLeastMissing (most : ℤ) (P : Planner) : Type 0 where
   pub least : (other : Plan) → IsPlan P other → most ≤ℤ total_missing P other
   pub least_in_finer_units : (k : ℤ) (other : Plan) → pos 1 ≤ℤ k → IsPlan (finer k P) other → (k *ℤ most) ≤ℤ total_missing (finer k P) other
 
--- the least that may be missing has to be found first
-abbrev pub has_stages : Bool → Option ℤ → Bool
-has_stages true None = true
-has_stages true (Some penalty) = false
-has_stages false penalty = false
-
 -- so much may be missing in the model of the problem that is solved last: the least that is missing
--- in a plan, if that has to be found first, and otherwise what places want
+-- in a plan, if as little as possible is to be missing, and otherwise what places want
 abbrev pub IsAllowed : Bool → ℤ → Planner → Type 0
 IsAllowed true most P = IsLeastMissing most P
 IsAllowed false most P = most ≡ when P.policy.short (all_wanted P.places)
@@ -68,7 +62,7 @@ IsAllowed false most P = most ≡ when P.policy.short (all_wanted P.places)
 -- the model that is solved last, a plan of it that the plan is read from, and prices that show it
 pub record IsShownIn (P : Planner) (p : LeastPlannerPlan) : Type 0 where
   pub most : ℤ
-  pub allowed : IsAllowed (has_stages P.policy.short P.policy.penalty) most P
+  pub allowed : IsAllowed (misses_least P) most P
   pub model_is : p.shown.model ≡ model_of most P
   pub plan_is : plan_in p.plan ≡ plan_of P p.shown.carries.items
   pub is_plan : IsModelPlan p.shown.model p.shown.carries.items
@@ -100,8 +94,8 @@ IsStagedAnswer P (Beyond fault) = IsBeyond P fault ⊎ IsBeyond (shortage_of P) 
 -- plans of the problem, in finer units, too; and it has all plans, or it has the one that misses
 -- the least
 pub record StandsFor (most : ℤ) (P : Planner) : Type 0 where
-  pub enough : LeavesEnough most P P.policy.short P.policy.penalty
-  pub enough_in_finer_units : (k : ℤ) → pos 1 ≤ℤ k → LeavesEnough (k *ℤ most) (finer k P) P.policy.short P.policy.penalty
+  pub enough : LeavesEnough most P (misses_least P)
+  pub enough_in_finer_units : (k : ℤ) → pos 1 ≤ℤ k → LeavesEnough (k *ℤ most) (finer k P) (misses_least P)
   pub all_or_least : (most ≡ when P.policy.short (all_wanted P.places)) ⊎ IsLeastMissing most P
 
 -- what the first stage finds

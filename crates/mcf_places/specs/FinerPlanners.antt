@@ -12,7 +12,7 @@ finer_bounds k b = record { least = k *ℤ b.least; most = option_map (λ m. k *
 
 -- the place in finer units
 abbrev pub finer_place : ℤ → Place → Place
-finer_place k p = record { supply = k *ℤ p.supply; through = option_map (finer_bounds k) p.through }
+finer_place k p = record p { supply = k *ℤ p.supply; through = option_map (finer_bounds k) p.through }
 
 -- the problem in units that are k times as fine
 abbrev pub finer : ℤ → Planner → Planner

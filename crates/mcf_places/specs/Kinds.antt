@@ -13,7 +13,7 @@ use Rattle.mcf_places.specs.Models.{hub_of, missing_route, stay_route, through_r
 abbrev pub kind_route : Kind → List Place → Policy → ℕ → Place → Option Route
 kind_route Through places policy = through_route places
 kind_route Stay places policy = stay_route policy.unused (hub_of places)
-kind_route Missing places policy = missing_route policy.short places
+kind_route Missing places policy = missing_route policy places
 
 -- whether a route of a kind is made for a place
 abbrev pub kind_has : Kind → Policy → Place → Bool

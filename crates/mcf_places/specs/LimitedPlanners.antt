@@ -32,7 +32,7 @@ limited_bounds limit b = record { least = b.least; most = option_or b.most limit
 
 -- the place with such bounds
 abbrev pub limited_place : Option ℤ → Place → Place
-limited_place limit p = record { supply = p.supply; through = option_map (limited_bounds limit) p.through }
+limited_place limit p = record { supply = p.supply; through = option_map (limited_bounds limit) p.through; penalty = p.penalty }
 
 -- the problem with such bounds
 abbrev pub limited : Planner → Planner

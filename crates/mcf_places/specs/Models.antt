@@ -10,7 +10,8 @@ use Rattle.mcf_flows.specs.Network.{at_node}
 use Rattle.mcf_model.specs.Model.{Model, Route}
 use Rattle.mcf_places.specs.declared.places.Bounds.{Bounds}
 use Rattle.mcf_places.specs.declared.places.Place.{Place}
-use Rattle.mcf_places.specs.Planners.{Plan, Planner, given, passes, place_sum, total_missing, unit_penalty, wanted}
+use Rattle.mcf_places.specs.declared.places.Policy.{Policy}
+use Rattle.mcf_places.specs.Planners.{Plan, Planner, given, missing_cost, passes, place_sum, total_missing, wanted}
 
 -- ---- the places of the model: entries, the hub, the gate, exits
 
@@ -29,7 +30,7 @@ exit_by n v None = v
 
 -- the place with a number
 abbrev pub place_at : List Place → ℕ → Place
-place_at places v = slice_index_or places (v - 1) (record { supply = pos 0; through = None })
+place_at places v = slice_index_or places (v - 1) (record { supply = pos 0; through = None; penalty = None })
 
 -- the number of the exit of the place with a number
 abbrev pub exit_of : List Place → ℕ → ℕ
@@ -99,11 +100,12 @@ abbrev pub stay_route : Bool → ℕ → ℕ → Place → Option Route
 stay_route unused hub v p =
     route_if (unused && int_lt (pos 0) p.supply) (plain_route v hub (pos 0) (Some (given p)) (pos 0))
 
--- from the gate to the exit of a place that wants, if demands may be missing
-abbrev pub missing_route : Bool → List Place → ℕ → Place → Option Route
-missing_route short places v p =
-    route_if (short && int_lt p.supply (pos 0))
-    (plain_route (gate_of places) (exit_by (length places) v p.through) (pos 0) (Some (wanted p)) (pos 0))
+-- from the gate to the exit of a place that wants, if demands may be missing; each unit costs the
+-- penalty
+abbrev pub missing_route : Policy → List Place → ℕ → Place → Option Route
+missing_route policy places v p =
+    route_if (policy.short && int_lt p.supply (pos 0))
+    (plain_route (gate_of places) (exit_by (length places) v p.through) (pos 0) (Some (wanted p)) (missing_cost policy p))
 
 -- an element before others, if there is one
 abbrev pub with_first : {X : Type 0} → Option X → List X → List X
@@ -125,12 +127,11 @@ stayings P = routes_by (stay_route P.policy.unused (hub_of P.places)) 1 P.places
 
 -- the routes of what is missing
 abbrev pub missings : Planner → List Route
-missings P = routes_by (missing_route P.policy.short P.places) 1 P.places
+missings P = routes_by (missing_route P.policy P.places) 1 P.places
 
--- all that is missing comes from the hub to the gate, where each unit costs the penalty
+-- all that is missing comes from the hub to the gate
 abbrev pub gate_route : ℤ → Planner → Route
-gate_route most P =
-    plain_route (hub_of P.places) (gate_of P.places) (pos 0) (Some most) (unit_penalty P.policy.penalty)
+gate_route most P = plain_route (hub_of P.places) (gate_of P.places) (pos 0) (Some most) (pos 0)
 
 -- the model of a planner's problem in which no more than `most` units are missing
 abbrev pub model_of : ℤ → Planner → Model
@@ -154,7 +155,7 @@ routes_of P x =
     x.carries
     ++ (amounts_by (through_route P.places) (passes P x) 1 P.places
     ++ (amounts_by (stay_route P.policy.unused (hub_of P.places)) (λ v p. at_node x.stays v) 1 P.places
-    ++ (amounts_by (missing_route P.policy.short P.places) (λ v p. at_node x.missing v) 1 P.places ++ total_missing P x ∷ [])))
+    ++ (amounts_by (missing_route P.policy P.places) (λ v p. at_node x.missing v) 1 P.places ++ total_missing P x ∷ [])))
 
 -- the first amount, if there is a route that carries it
 abbrev pub first_amount : Option Route → List ℤ → ℤ
@@ -182,5 +183,5 @@ plan_of P plan =
     record {
       carries = take (length P.routes) plan;
       stays = by_place (stay_route P.policy.unused (hub_of P.places)) 1 P.places (side_amounts P plan);
-      missing = by_place (missing_route P.policy.short P.places) 1 P.places (drop (length (stayings P)) (side_amounts P plan));
+      missing = by_place (missing_route P.policy P.places) 1 P.places (drop (length (stayings P)) (side_amounts P plan));
     }

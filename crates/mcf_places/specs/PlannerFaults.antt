@@ -1,9 +1,9 @@
 -- Faults of planners' problems: all of them.
 -- Source: own
-use Rattle.std.specs.Prelude.{◌&&◌, ◌≡◌, ◌≤◌, nat_lt, Bool, true, false, ◌||◌, List, [], ◌∷◌, ◌++◌, length, map, pos, ◌+ℤ◌, ◌≤ℤ◌, int_lt, ◌⊎◌, Option, Some, None, Result, Ok, Err}
+use Rattle.std.specs.Prelude.{◌&&◌, ◌≡◌, ◌≤◌, ℕ, nat_lt, Bool, true, false, ◌||◌, List, [], ◌∷◌, ◌++◌, length, map, pos, ◌+ℤ◌, ◌≤ℤ◌, int_lt, ◌⊎◌, Option, Some, None, Result, Ok, Err}
 use Rattle.std.specs.Global.{Vec}
 use Rattle.std.specs.List.{All, list_any}
-use Rattle.std.specs.Option.{is_none}
+use Rattle.std.specs.Option.{is_none, is_some}
 use Rattle.mcf_flows.specs.Network.{IsNode}
 use Rattle.mcf_model.specs.declared.rows.RouteRow.{RouteRow}
 use Rattle.mcf_model.specs.declared.rows.Step.{Step}
@@ -12,14 +12,16 @@ use Rattle.mcf_model.specs.Laws.{StepsTake}
 use Rattle.mcf_model.specs.Model.{CostAtLeast, IsLimited}
 use Rattle.mcf_model.specs.Tables.{route_of}
 use Rattle.mcf_places.specs.declared.faults.PlannerFault.{PlannerFault}
-use Rattle.mcf_places.specs.declared.faults.PlannerFault.TheVariants.{Size, Total, Penalty, NoLimit, Routes}
+use Rattle.mcf_places.specs.declared.faults.PenaltyFlaw.{PenaltyFlaw}
+use Rattle.mcf_places.specs.declared.faults.PenaltyFlaw.TheVariants.{Below, Idle, Lacking}
+use Rattle.mcf_places.specs.declared.faults.PlannerFault.TheVariants.{Size, Total, Penalty, BelowPenalty, IdlePenalty, NoPenalty, NoLimit, Routes}
 use Rattle.mcf_places.specs.declared.faults.TheConstants.{PLACE_LIMIT, SUM_LIMIT}
 use Rattle.mcf_places.specs.declared.limits.TheConstants.{THROUGHPUT_LIMIT}
 use Rattle.mcf_places.specs.declared.places.Bounds.{Bounds}
 use Rattle.mcf_places.specs.declared.places.Place.{Place}
 use Rattle.mcf_places.specs.declared.places.Policy.{Policy}
 use Rattle.mcf_places.specs.PlannerLaws.{IsSound}
-use Rattle.mcf_places.specs.Planners.{Planner, all_given, all_wanted, given, row_count, unit_penalty, wanted}
+use Rattle.mcf_places.specs.Planners.{Planner, all_given, all_wanted, given, has_penalties, penalty_of, row_count, unit_penalty, wanted}
 use Rattle.mcf_places.specs.Throughput.{ample_limit, is_beyond}
 use Rattle.mcf_places.specs.Ways.{numbers_of, problem_of}
 
@@ -47,13 +49,47 @@ abbrev pub open_faults : Bool → List Place → List PlannerFault
 open_faults true places = map NoLimit (numbers_of (λ p. is_open p.through) 1 places)
 open_faults false places = []
 
--- all faults: too many places, too great supplies, a penalty below 0, bounds without a limit where
+-- a place's own penalty is below 0; a place that gives has one; or a place that wants something has
+-- none, and none is named for all places
+abbrev pub has_flaw : PenaltyFlaw → Policy → Place → Bool
+has_flaw Below policy p = int_lt (unit_penalty p.penalty) (pos 0)
+has_flaw Idle policy p = int_lt (pos 0) p.supply && is_some p.penalty
+has_flaw Lacking policy p = int_lt p.supply (pos 0) && is_none (penalty_of policy p)
+
+-- the fault of the place with a number
+abbrev pub flaw_fault : PenaltyFlaw → ℕ → PlannerFault
+flaw_fault Below v = BelowPenalty v
+flaw_fault Idle v = IdlePenalty v
+flaw_fault Lacking v = NoPenalty v
+
+-- the faults of all places that have a flaw
+abbrev pub flaw_faults : PenaltyFlaw → Policy → List Place → List PlannerFault
+flaw_faults flaw policy places = map (flaw_fault flaw) (numbers_of (has_flaw flaw policy) 1 places)
+
+-- each place that wants something needs a penalty: demands may be missing, and some place has a
+-- penalty of its own
+abbrev pub needs_penalties : Policy → List Place → Bool
+needs_penalties policy places = policy.short && has_penalties places
+
+-- the places that lack a penalty, if each place needs one
+abbrev pub lacking_faults : Bool → Policy → List Place → List PlannerFault
+lacking_faults true policy places = flaw_faults Lacking policy places
+lacking_faults false policy places = []
+
+-- the faults of penalties: below 0, of places that give, and lacking where others are named
+abbrev pub penalty_faults : Policy → List Place → List PlannerFault
+penalty_faults policy places =
+    fault_if (int_lt (unit_penalty policy.penalty) (pos 0)) Penalty
+    ++ (flaw_faults Below policy places
+    ++ (flaw_faults Idle policy places ++ lacking_faults (needs_penalties policy places) policy places))
+
+-- all faults: too many places, too great supplies, those of penalties, bounds without a limit where
 -- some cost is below 0 and all amounts are too great for one, and faults of rows of routes
 abbrev pub planner_faults : List Place → List Step → List RouteRow → Policy → List PlannerFault
 planner_faults places steps rows policy =
     fault_if (nat_lt PLACE_LIMIT (length places)) Size
     ++ (fault_if (int_lt (pos SUM_LIMIT) (all_given places +ℤ all_wanted places)) Total
-    ++ (fault_if (int_lt (unit_penalty policy.penalty) (pos 0)) Penalty
+    ++ (penalty_faults policy places
     ++ (open_faults (earning places steps rows && is_beyond places (map (route_of steps) rows)) places
     ++ map Routes (faults_from (length places) steps (earning places steps rows) 1 rows))))
 
@@ -98,6 +134,8 @@ pub record IsProperPlanner (P : Planner) : Type 0 where
   pub few : length P.places ≤ PLACE_LIMIT
   pub small : (all_given P.places +ℤ all_wanted P.places) ≤ℤ pos SUM_LIMIT
   pub penalty : pos 0 ≤ℤ unit_penalty P.policy.penalty
+  pub penalties : All (λ p. pos 0 ≤ℤ unit_penalty p.penalty) P.places
+  pub weighed : needs_penalties P.policy P.places ≡ true → All (λ p. has_flaw Lacking P.policy p ≡ false) P.places
   pub sound : IsSound P
   pub steps_take : All StepsTake P.routes
   pub few_returning : length P.returning ≤ length P.routes

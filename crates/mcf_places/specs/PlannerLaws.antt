@@ -1,13 +1,13 @@
 -- The laws between planners' problems and their models.
 -- Source: own
-use Rattle.std.specs.Prelude.{◌≡◌, ℕ, Bool, true, false, ◌&&◌, ◌||◌, List, length, ℤ, ◌≤ℤ◌, Option, Some, None}
+use Rattle.std.specs.Prelude.{◌≡◌, ℕ, Bool, true, false, ◌&&◌, ◌||◌, List, length, ℤ, ◌≤ℤ◌}
 use Rattle.std.specs.List.{All}
 use Rattle.std.specs.Option.{is_some}
 use Rattle.mcf_flows.specs.Network.{IsNode, when}
 use Rattle.mcf_model.specs.Model.{IsLeastPlan as IsLeastModelPlan, IsPlan as IsModelPlan, IsSound as IsSoundModel, IsSoundRoute, Route, plan_cost}
 use Rattle.mcf_places.specs.declared.places.Place.{Place}
 use Rattle.mcf_places.specs.Models.{exit_of, model_of, place_at, plan_of, routes_of}
-use Rattle.mcf_places.specs.Planners.{IsLeastPlan, IsPlan, Plan, Planner, all_wanted, cost, total_missing}
+use Rattle.mcf_places.specs.Planners.{IsLeastPlan, IsPlan, Plan, Planner, all_wanted, cost, misses_least, total_missing}
 
 -- what passes through the place with a number has bounds
 abbrev pub has_bounds : List Place → ℕ → Bool
@@ -46,18 +46,17 @@ pub record PlannersAreModels : Type 0 where
   pub plans_are_model_plans : (most : ℤ) (P : Planner) (x : Plan) → IsSound P → IsPlan P x → total_missing P x ≤ℤ most → IsModelPlanOf most P x (routes_of P x)
   pub model_plans_are_plans : (most : ℤ) (P : Planner) (plan : List ℤ) → IsSound P → IsModelPlan (model_of most P) plan → IsPlanOf most P plan (plan_of P plan)
 
--- `most` leaves room for what has to be missing: if demands may be missing and no penalty is named,
--- then no plan misses less; otherwise no plan misses more
-abbrev pub LeavesEnough : ℤ → Planner → Bool → Option ℤ → Type 0
-LeavesEnough most P true None = (x : Plan) → IsPlan P x → most ≤ℤ total_missing P x
-LeavesEnough most P true (Some penalty) = (x : Plan) → IsPlan P x → total_missing P x ≤ℤ most
-LeavesEnough most P false penalty = (x : Plan) → IsPlan P x → total_missing P x ≤ℤ most
+-- `most` leaves room for what has to be missing: if as little as possible is to be missing, then no
+-- plan misses less; otherwise no plan misses more
+abbrev pub LeavesEnough : ℤ → Planner → Bool → Type 0
+LeavesEnough most P true = (x : Plan) → IsPlan P x → most ≤ℤ total_missing P x
+LeavesEnough most P false = (x : Plan) → IsPlan P x → total_missing P x ≤ℤ most
 
 -- a least plan of a model that leaves room for what has to be missing is a least plan of the
 -- problem
 abbrev pub LeastModelPlansAreLeast : Type 0
 LeastModelPlansAreLeast =
-    (most : ℤ) (P : Planner) (plan : List ℤ) → IsSound P → LeavesEnough most P P.policy.short P.policy.penalty
+    (most : ℤ) (P : Planner) (plan : List ℤ) → IsSound P → LeavesEnough most P (misses_least P)
     → IsLeastModelPlan (model_of most P) plan → IsLeastPlan P (plan_of P plan)
 
 -- what is wanted in total, or nothing if no demand may be missing, bounds what any plan misses

@@ -1,9 +1,10 @@
 -- Planners' problems: places with bounds on what passes through them, supplies that may stay, and
 -- demands that may be missing. No network is named here.
 -- Source: own
-use Rattle.std.specs.Prelude.{◌≡◌, ℕ, suc, ◌-◌, Bool, true, false, List, [], ◌∷◌, length, ℤ, pos, neg_ℤ, ◌+ℤ◌, ◌-ℤ◌, ◌*ℤ◌, ◌≤ℤ◌, ◌<ℤ◌, ◌⊎◌, Option, Some, None}
+use Rattle.std.specs.Prelude.{◌≡◌, ℕ, suc, ◌-◌, Bool, true, false, not, ◌&&◌, ◌||◌, List, [], ◌∷◌, length, ℤ, pos, neg_ℤ, ◌+ℤ◌, ◌-ℤ◌, ◌*ℤ◌, ◌≤ℤ◌, ◌<ℤ◌, ◌⊎◌, Option, Some, None}
 use Rattle.std.specs.Int.{int_max}
-use Rattle.std.specs.List.{AllZip}
+use Rattle.std.specs.List.{AllZip, list_any}
+use Rattle.std.specs.Option.{is_some, option_or}
 use Rattle.mcf_flows.specs.Network.{at_node, when}
 use Rattle.mcf_model.specs.Model.{MayCarry, Route, arriving, leaving, plan_sum, route_cost}
 use Rattle.mcf_places.specs.declared.places.Bounds.{Bounds}
@@ -105,23 +106,44 @@ abbrev pub unit_penalty : Option ℤ → ℤ
 unit_penalty (Some penalty) = penalty
 unit_penalty None = pos 0
 
+-- the penalty that holds at a place: its own, or else that of all places
+abbrev pub penalty_of : Policy → Place → Option ℤ
+penalty_of policy p = option_or p.penalty policy.penalty
+
+-- the cost of each unit that is missing at a place
+abbrev pub missing_cost : Policy → Place → ℤ
+missing_cost policy p = unit_penalty (penalty_of policy p)
+
 -- the cost of a plan: of its routes, of its places, and of what is missing
 abbrev pub cost : Planner → Plan → ℤ
 cost P x =
     plan_sum route_cost P.routes x.carries
-    +ℤ (place_sum (λ v p. through_cost p.through (passes P x v p)) 1 P.places +ℤ unit_penalty P.policy.penalty *ℤ total_missing P x)
+    +ℤ (place_sum (λ v p. through_cost p.through (passes P x v p)) 1 P.places
+    +ℤ place_sum (λ v p. missing_cost P.policy p *ℤ at_node x.missing v) 1 P.places)
 
 -- ---- least plans
 
--- x is no worse than y: if demands may be missing and no penalty is named, then less is missing, or
--- as much, and x costs no more; otherwise x costs no more
-abbrev pub IsNoWorse : Planner → Bool → Option ℤ → Plan → Plan → Type 0
-IsNoWorse P true None x y =
+-- some place has a penalty of its own
+abbrev pub has_penalties : List Place → Bool
+has_penalties places = list_any (λ p. is_some p.penalty) places
+
+-- a penalty is named, for all places or for some
+abbrev pub names_penalty : Planner → Bool
+names_penalty P = is_some P.policy.penalty || has_penalties P.places
+
+-- as little as possible is to be missing, at whatever cost: demands may be missing, and no penalty
+-- is named
+abbrev pub misses_least : Planner → Bool
+misses_least P = P.policy.short && not (names_penalty P)
+
+-- x is no worse than y: if as little as possible is to be missing, then less is missing, or as
+-- much, and x costs no more; otherwise x costs no more
+abbrev pub IsNoWorse : Planner → Bool → Plan → Plan → Type 0
+IsNoWorse P true x y =
     (total_missing P x <ℤ total_missing P y) ⊎ ((total_missing P x ≡ total_missing P y) × (cost P x ≤ℤ cost P y))
-IsNoWorse P true (Some penalty) x y = cost P x ≤ℤ cost P y
-IsNoWorse P false penalty x y = cost P x ≤ℤ cost P y
+IsNoWorse P false x y = cost P x ≤ℤ cost P y
 
 -- a plan that is no worse than any other
 pub record IsLeastPlan (P : Planner) (x : Plan) : Type 0 where
   pub is_plan : IsPlan P x
-  pub least : (other : Plan) → IsPlan P other → IsNoWorse P P.policy.short P.policy.penalty x other
+  pub least : (other : Plan) → IsPlan P other → IsNoWorse P (misses_least P) x other

@@ -1,7 +1,7 @@
 -- The problem in which only what is missing costs something, 1 a unit. It has the plans of the
 -- problem, and its least plans are those that miss the least.
 -- Source: own
-use Rattle.std.specs.Prelude.{map, pos, Some, option_map}
+use Rattle.std.specs.Prelude.{map, pos, Some, None, option_map}
 use Rattle.mcf_model.specs.declared.rows.RouteRow.{RouteRow}
 use Rattle.mcf_model.specs.declared.rows.Step.{Step}
 use Rattle.mcf_model.specs.Model.{Route}
@@ -31,11 +31,11 @@ free_route r =
 abbrev pub free_bounds : Bounds → Bounds
 free_bounds b = record { least = b.least; most = b.most; cost = pos 0 }
 
--- the place, whose bounds cost nothing
+-- the place, whose bounds cost nothing, with no penalty of its own
 abbrev pub free_place : Place → Place
-free_place p = record { supply = p.supply; through = option_map free_bounds p.through }
+free_place p = record { supply = p.supply; through = option_map free_bounds p.through; penalty = None }
 
--- the policy, with a penalty of 1
+-- the policy, with a penalty of 1 for all places
 abbrev pub counting : Policy → Policy
 counting policy = record { unused = policy.unused; short = policy.short; penalty = Some (pos 1) }
 

@@ -1,15 +1,14 @@
 //! The least plan of a planner's problem, or the reason why it has no plan.
 ghost use Rattle.std.specs.Prelude.{◌≡◌, ◌++◌, ◌∷◌, [], ◌≤ℤ◌, ℤ, IfOk, List, pos};
 ghost use Rattle.mcf_flows.specs.Network.{when};
-ghost use Rattle.mcf_places.specs.Answers.{IsAllowed, IsMissed, IsPlannerAnswer, IsStagedAnswer, StandsFor, has_stages};
+ghost use Rattle.mcf_places.specs.Answers.{IsAllowed, IsMissed, IsPlannerAnswer, IsStagedAnswer, StandsFor};
 ghost use Rattle.mcf_places.specs.PlannerFaults.{HasLimits, IsProperPlanner};
-ghost use Rattle.mcf_places.specs.Planners.{all_wanted};
+ghost use Rattle.mcf_places.specs.Planners.{all_wanted, misses_least};
 
-use crate::faults::{SUM_LIMIT, sums};
+use crate::faults::{SUM_LIMIT, names_penalty, sums};
 use crate::laws::planner_bottlenecks_have_no_plan;
 use crate::limits::{limit_for, limited_of};
 use crate::making::limited_model_of;
-use crate::places::Policy;
 use crate::problem::Planner;
 use crate::reading::{PlannerPlan, plan_of};
 use crate::shortage::shortage_of;
@@ -69,17 +68,13 @@ fn last_of(amounts: &[i128]) -> i128
     if count == 0 { 0 } else { amounts[count - 1] }
 }
 
-// Returns whether the least that may be missing has to be found first.
-fn has_stages(policy: Policy) -> bool
-    ensures { result ≡ has_stages policy.short policy.penalty }
+// Returns whether as little as possible is to be missing.
+fn misses_least(planner: &Planner) -> bool
+    ensures { result ≡ misses_least planner.now }
 {
-    if !policy.short {
-        return false;
-    }
-    match policy.penalty {
-        Some(_) => false,
-        None => true,
-    }
+    let parts = planner.parts();
+    let named = names_penalty(parts.policy, parts.places);
+    parts.policy.short && !named
 }
 
 // Returns what all places want, or 0 if no demand may be missing.
@@ -112,7 +107,7 @@ fn in_one_stage<S: Solves>(
 ) -> Result<PlannerAnswer, NoMemory>
     requires proper { IsProperPlanner planner.now }
     requires stands { StandsFor most planner.now }
-    requires allowed { IsAllowed (has_stages planner.now.policy.short planner.now.policy.penalty) most planner.now }
+    requires allowed { IsAllowed (misses_least planner.now) most planner.now }
     requires limits { HasLimits planner.now }
     ensures { IfOk result (IsStagedAnswer planner.now) }
 {
@@ -176,7 +171,7 @@ fn staged<S: Solves>(
     requires limits { HasLimits planner.now }
     ensures { IfOk result (IsStagedAnswer planner.now) }
 {
-    if !has_stages(planner.policy()) {
+    if !misses_least(planner) {
         let most = most_missing(planner);
         return in_one_stage(alloc, solver, planner, most);
     }
@@ -192,9 +187,9 @@ fn staged<S: Solves>(
 /// fault of the network of a model of the problem: a number beyond the limits, or a least amount
 /// above a limit.
 ///
-/// Where demands may be missing and no penalty is named, no plan misses less than the plan
-/// returned, and of those that miss as much none costs less. That holds of plans in finer units,
-/// too.
+/// Where demands may be missing and no penalty is named, for all places or for one, no plan misses
+/// less than the plan returned, and of those that miss as much none costs less. That holds of plans
+/// in finer units, too.
 ///
 /// A least plan comes with the model that it was found in and with prices that show it there: the
 /// model of the problem in which bounds have the limits that they need, and in which no more is

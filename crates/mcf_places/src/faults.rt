@@ -2,8 +2,9 @@
 ghost use Rattle.std.specs.Prelude.{◌≡◌, ◌≤◌, ◌<ℤ◌, ◌≤ℤ◌, ◌+ℤ◌, ◌++◌, ◌^◌, IfOk, OnOk, pos, suc, ◌||◌, length, map, int_lt};
 ghost use Rattle.std.specs.List.{list_any};
 ghost use Rattle.mcf_places.specs.declared.faults.PlannerFault.TheVariants.{NoLimit, Routes};
-ghost use Rattle.mcf_places.specs.PlannerFaults.{earning, fault_if, is_open, place_earns, planner_faults};
-ghost use Rattle.mcf_places.specs.Planners.{all_given, all_wanted, given, unit_penalty, wanted};
+ghost use Rattle.mcf_places.specs.PlannerFaults.{earning, fault_if, flaw_fault, flaw_faults, has_flaw, is_open, penalty_faults, place_earns, planner_faults};
+ghost use Rattle.std.specs.Option.{is_some};
+ghost use Rattle.mcf_places.specs.Planners.{all_given, all_wanted, given, has_penalties, missing_cost, penalty_of, unit_penalty, wanted};
 ghost use Rattle.mcf_places.specs.Ways.{numbers_of};
 
 use crate::limits::is_beyond;
@@ -25,13 +26,31 @@ pub enum PlannerFault {
     Size,
     /// All that places give and all that they want sum to more than `SUM_LIMIT`.
     Total,
-    /// The penalty is below 0.
+    /// The penalty of all places is below 0.
     Penalty,
+    /// The penalty of this place, counted from 1, is below 0.
+    BelowPenalty(usize),
+    /// This place gives something, and has a penalty, which nothing can be missing for.
+    IdlePenalty(usize),
+    /// This place wants something, and no penalty is named for it, though demands may be missing
+    /// and some place has a penalty of its own.
+    NoPenalty(usize),
     /// The bounds of this place, counted from 1, have no limit, some cost is below 0, and one more
     /// than all amounts of the problem together is more than `THROUGHPUT_LIMIT`.
     NoLimit(usize),
     /// A row of routes that has a fault, and the fault.
     Routes(ModelFault),
+}
+
+// What may be wrong with the penalty of a place.
+#[derive(Clone, Copy)]
+pub(crate) enum PenaltyFlaw {
+    // it is below 0
+    Below,
+    // the place gives something
+    Idle,
+    // the place wants something, and there is none
+    Lacking,
 }
 
 /// What all places give, and what they want.
@@ -164,6 +183,104 @@ pub(crate) fn unit_penalty(penalty: Option<i64>) -> i64
     }
 }
 
+// Returns the penalty that holds at a place: its own, or else that of all places.
+fn penalty_of(policy: Policy, place: Place) -> Option<i64>
+    ensures { result ≡ penalty_of policy place }
+{
+    match place.penalty {
+        Some(penalty) => Some(penalty),
+        None => policy.penalty,
+    }
+}
+
+// Returns the cost of each unit that is missing at a place.
+pub(crate) fn missing_cost(policy: Policy, place: Place) -> i64
+    ensures { result ≡ missing_cost policy place }
+{
+    let penalty = penalty_of(policy, place);
+    unit_penalty(penalty)
+}
+
+// Returns whether some place has a penalty of its own.
+fn has_penalties(places: &[Place]) -> bool
+    ensures { result ≡ has_penalties places.now }
+{
+    for place in 0..places.len() {
+        if places[place].penalty.is_some() {
+            return true;
+        }
+    }
+    false
+}
+
+// Returns whether a penalty is named, for all places or for some.
+pub(crate) fn names_penalty(policy: Policy, places: &[Place]) -> bool
+    ensures { result ≡ (is_some policy.penalty || has_penalties places.now) }
+{
+    let own = has_penalties(places);
+    policy.penalty.is_some() || own
+}
+
+// Returns whether the penalty of a place has a flaw.
+fn has_flaw(flaw: PenaltyFlaw, policy: Policy, place: Place) -> bool
+    ensures { result ≡ has_flaw flaw policy place }
+{
+    match flaw {
+        PenaltyFlaw::Below => unit_penalty(place.penalty) < 0,
+        PenaltyFlaw::Idle => 0 < place.supply && place.penalty.is_some(),
+        PenaltyFlaw::Lacking => place.supply < 0 && penalty_of(policy, place).is_none(),
+    }
+}
+
+// Returns the fault of the place with a number.
+fn flaw_fault(flaw: PenaltyFlaw, number: usize) -> PlannerFault
+    ensures { result ≡ flaw_fault flaw number }
+{
+    match flaw {
+        PenaltyFlaw::Below => PlannerFault::BelowPenalty(number),
+        PenaltyFlaw::Idle => PlannerFault::IdlePenalty(number),
+        PenaltyFlaw::Lacking => PlannerFault::NoPenalty(number),
+    }
+}
+
+// Appends the faults of all places whose penalties have a flaw.
+fn push_flaws(
+    found: &mut Vec<PlannerFault>,
+    flaw: PenaltyFlaw,
+    policy: Policy,
+    places: &[Place],
+) -> Result<(), NoMemory>
+    ensures { OnOk result (found.new.items ≡ found.old.items ++ flaw_faults flaw policy places.now) }
+{
+    for place in 0..places.len() {
+        let test = has_flaw(flaw, policy, places[place]);
+        if test {
+            let fault = flaw_fault(flaw, place + 1);
+            found.push(fault)?;
+        }
+    }
+    Ok(())
+}
+
+// Appends the faults of penalties.
+fn push_penalties(
+    found: &mut Vec<PlannerFault>,
+    policy: Policy,
+    places: &[Place],
+) -> Result<(), NoMemory>
+    ensures { OnOk result (found.new.items ≡ found.old.items ++ penalty_faults policy places.now) }
+{
+    let below = unit_penalty(policy.penalty) < 0;
+    push_if(found, below, PlannerFault::Penalty)?;
+    push_flaws(found, PenaltyFlaw::Below, policy, places)?;
+    push_flaws(found, PenaltyFlaw::Idle, policy, places)?;
+    let own = has_penalties(places);
+    if policy.short && own {
+        push_flaws(found, PenaltyFlaw::Lacking, policy, places)?;
+    }
+    Ok(())
+}
+
 // Returns whether some cost of a planner's problem is below 0.
 pub(crate) fn earning(places: &[Place], steps: &[Step], rows: &[RouteRow]) -> bool
     ensures { result ≡ earning places.now steps.now rows.now }
@@ -190,11 +307,7 @@ pub(crate) fn planner_faults(
     let mut found = Vec::new(alloc);
     push_if(&mut found, places.len() > PLACE_LIMIT, PlannerFault::Size)?;
     push_if(&mut found, is_dear, PlannerFault::Total)?;
-    push_if(
-        &mut found,
-        unit_penalty(policy.penalty) < 0,
-        PlannerFault::Penalty,
-    )?;
+    push_penalties(&mut found, policy, places)?;
     if earning && beyond {
         push_open(&mut found, places)?;
     }

@@ -12,8 +12,8 @@ pub fn planners_are_models()
 {}
 
 /// A least plan of the model in which no more than a given amount is missing is a least plan of the
-/// problem: if no plan misses more, or, where demands may be missing and no penalty is named, if no
-/// plan misses less.
+/// problem: if no plan misses more, or, where demands may be missing and no penalty is named, for
+/// all places or for one, if no plan misses less.
 pub fn least_model_plans_are_least()
     ensures { LeastModelPlansAreLeast }
 {}

@@ -214,6 +214,7 @@ fn limited_place(limit: i64, place: Place) -> Place
     Place {
         supply: place.supply,
         through: limited_bounds(limit, place.through),
+        penalty: place.penalty,
     }
 }
 

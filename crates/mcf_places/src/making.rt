@@ -9,7 +9,7 @@ ghost use Rattle.mcf_places.specs.PlannerFaults.{HasLimits, IsProperPlanner, IsS
 ghost use Rattle.mcf_places.specs.LimitedPlanners.{limited};
 ghost use Rattle.mcf_places.specs.Ways.{with_tables};
 
-use crate::faults::{PLACE_LIMIT, unit_penalty};
+use crate::faults::PLACE_LIMIT;
 use crate::limits::{limit_for, limited_of};
 use crate::places::{Place, Policy};
 use crate::problem::{Parts, Planner};
@@ -20,13 +20,12 @@ use mcf_text::NoMemory;
 use std::alloc::Global;
 
 // Returns the route of all that is missing.
-fn gate_row(most: i64, places: &[Place], policy: Policy) -> RouteRow
+fn gate_row(most: i64, places: &[Place]) -> RouteRow
     requires few { length places.now ≤ PLACE_LIMIT }
-    ensures route { (steps : List Step) → (rows : List RouteRow) → (returning : List ℕ) → route_of steps result ≡ gate_route most (with_tables places.now steps rows returning policy) }
+    ensures route { (steps : List Step) → (rows : List RouteRow) → (returning : List ℕ) → (policy : Policy) → route_of steps result ≡ gate_route most (with_tables places.now steps rows returning policy) }
     ensures plain { (result.first_step + result.step_count) ≡ 0 }
 {
-    let penalty = unit_penalty(policy.penalty);
-    plain_row(hub_of(places), gate_of(places), 0, Some(most), penalty)
+    plain_row(hub_of(places), gate_of(places), 0, Some(most), 0)
 }
 
 // Returns the routes of the model in which no more than `most` units are missing.
@@ -43,7 +42,7 @@ fn rows_of(alloc: Global, parts: Parts<'_>, most: i64) -> Result<Vec<RouteRow>, 
     push_kind(Kind::Through, parts.places, parts.policy, &mut rows)?;
     push_kind(Kind::Stay, parts.places, parts.policy, &mut rows)?;
     push_kind(Kind::Missing, parts.places, parts.policy, &mut rows)?;
-    let gate = gate_row(most, parts.places, parts.policy);
+    let gate = gate_row(most, parts.places);
     rows.push(gate)?;
     Ok(rows)
 }

@@ -5,9 +5,8 @@ ghost use Rattle.mcf_model.specs.Faults.{AreListed};
 ghost use Rattle.mcf_model.specs.Tables.{route_of};
 ghost use Rattle.mcf_places.specs.declared.origins.Origin.{Origin as AnOrigin};
 ghost use Rattle.mcf_places.specs.declared.origins.Origin.TheVariants.{OfAll};
-ghost use Rattle.mcf_places.specs.Kinds.{kind_has};
 ghost use Rattle.mcf_places.specs.PlannerFaults.{IsProperPlanner};
-ghost use Rattle.mcf_places.specs.Origins.{IsRowOrigin, arc_count, arc_origins, found_in, next_in, origin_of, place_origins, route_origins, row_of, row_origin, supply_origin};
+ghost use Rattle.mcf_places.specs.Origins.{IsRowOrigin, arc_count, arc_origins, found_in, kind_origin, next_in, origin_of, penalty_origin, place_origins, route_origins, row_of, row_origin, supply_origin};
 
 use crate::places::{Place, Policy};
 use crate::problem::Planner;
@@ -22,9 +21,12 @@ use mcf_text::NodeId;
 pub enum Origin {
     /// This place, counted from 1: its supply or its bounds.
     OfPlace(usize),
+    /// The penalty of this place, counted from 1.
+    OfPenalty(usize),
     /// This row of routes, counted from 1.
     OfRoute(usize),
-    /// All places and routes: their number, their balance, or what is missing in total.
+    /// All places and routes: their number, their balance, what is missing in total, or the penalty
+    /// of all places.
     OfAll,
 }
 
@@ -71,16 +73,37 @@ fn seek_route(rows: &[RouteRow], arc: usize) -> Sought
     Sought::Left(left)
 }
 
+// Returns what a penalty comes from: the place that has it, or all places.
+fn penalty_origin(number: usize, penalty: Option<i64>) -> Origin
+    ensures { result ≡ penalty_origin number penalty }
+{
+    match penalty {
+        Some(_) => Origin::OfPenalty(number),
+        None => Origin::OfAll,
+    }
+}
+
+// Returns what the numbers of a route come from that is made for the place with a number.
+fn kind_origin(kind: Kind, number: usize, place: Place) -> Origin
+    ensures { result ≡ kind_origin kind number place }
+{
+    match kind {
+        Kind::Through => Origin::OfPlace(number),
+        Kind::Stay => Origin::OfPlace(number),
+        Kind::Missing => penalty_origin(number, place.penalty),
+    }
+}
+
 // Seeks an arc among those that are made for places.
 fn seek_place(kind: Kind, policy: Policy, places: &[Place], arc: usize) -> Sought
-    ensures { (others : List AnOrigin) → found_in result others ≡ slice_index_or (place_origins (kind_has kind policy) 1 places.now ++ others) arc OfAll }
+    ensures { (others : List AnOrigin) → found_in result others ≡ slice_index_or (place_origins kind policy 1 places.now ++ others) arc OfAll }
 {
     let mut left = arc;
     for place in 0..places.len() {
         let has = has_route(kind, policy, places[place]);
         match next(usize::from(has), left) {
             Some(later) => left = later,
-            None => return Sought::Found(Origin::OfPlace(place + 1)),
+            None => return Sought::Found(kind_origin(kind, place + 1, places[place])),
         }
     }
     Sought::Left(left)
@@ -88,7 +111,7 @@ fn seek_place(kind: Kind, policy: Policy, places: &[Place], arc: usize) -> Sough
 
 // Seeks an arc among those that are made for places, if it isn't found yet.
 fn seek_more(kind: Kind, policy: Policy, places: &[Place], sought: Sought) -> Sought
-    ensures { (others : List AnOrigin) → found_in result others ≡ found_in sought (place_origins (kind_has kind policy) 1 places.now ++ others) }
+    ensures { (others : List AnOrigin) → found_in result others ≡ found_in sought (place_origins kind policy 1 places.now ++ others) }
 {
     match sought {
         Sought::Left(arc) => seek_place(kind, policy, places, arc),

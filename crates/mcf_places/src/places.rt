@@ -18,6 +18,8 @@ pub struct Place {
     pub supply: i64,
     /// The bounds on what arrives, with what the place gives; `None` for no bounds.
     pub through: Option<Bounds>,
+    /// The cost of each unit that is missing here, or `None` if it is that of all places.
+    pub penalty: Option<i64>,
 }
 
 /// Whether plans may leave supplies where they are, and demands unmet.
@@ -27,6 +29,7 @@ pub struct Policy {
     pub unused: bool,
     /// Whether demands may be missing.
     pub short: bool,
-    /// The cost of each missing unit, or `None` if as little as possible may be missing.
+    /// The cost of each unit that is missing at a place that has no penalty of its own. If there is
+    /// none, and no place has one, as little as possible may be missing.
     pub penalty: Option<i64>,
 }

@@ -10,7 +10,7 @@ ghost use Rattle.mcf_places.specs.Kinds.{kind_route};
 ghost use Rattle.mcf_places.specs.Models.{exit_by, exit_of, from_exit, gate_of, hub_of, missing_route, plain_route, routes_by, stay_route, through_route};
 ghost use Rattle.mcf_places.specs.PlannerFaults.{IsSmallPlace};
 
-use crate::faults::PLACE_LIMIT;
+use crate::faults::{PLACE_LIMIT, missing_cost};
 use crate::places::{Bounds, Place, Policy};
 use mcf_model::RouteRow;
 use mcf_text::NoMemory;
@@ -127,17 +127,18 @@ fn stay_row(places: &[Place], unused: bool, number: u32, place: Place) -> Option
 }
 
 // Returns the route of what is missing at a place from the gate.
-fn missing_row(places: &[Place], short: bool, number: u32, place: Place) -> Option<RouteRow>
+fn missing_row(places: &[Place], policy: Policy, number: u32, place: Place) -> Option<RouteRow>
     requires few { length places.now ≤ PLACE_LIMIT }
     requires inside { number ≤ length places.now }
     requires small { IsSmallPlace place }
-    ensures route { option_map (λ row. route_with row []) result ≡ missing_route short places.now number place }
+    ensures route { option_map (λ row. route_with row []) result ≡ missing_route policy places.now number place }
     ensures plain { IfSome result (λ row. (row.first_step + row.step_count) ≡ 0) }
 {
-    if short && place.supply < 0 {
+    if policy.short && place.supply < 0 {
         let most = (-place.supply).max(0);
         let exit = exit_by(places, number, place.through);
-        Some(plain_row(gate_of(places), exit, 0, Some(most), 0))
+        let cost = missing_cost(policy, place);
+        Some(plain_row(gate_of(places), exit, 0, Some(most), cost))
     } else {
         None
     }
@@ -160,7 +161,7 @@ fn kind_row(
     match kind {
         Kind::Through => through_row(places, number, place),
         Kind::Stay => stay_row(places, policy.unused, number, place),
-        Kind::Missing => missing_row(places, policy.short, number, place),
+        Kind::Missing => missing_row(places, policy, number, place),
     }
 }
 

@@ -19,13 +19,14 @@ fn free_bounds(through: Option<Bounds>) -> Option<Bounds>
     }
 }
 
-// Returns a place whose bounds cost nothing.
+// Returns a place whose bounds cost nothing, with no penalty of its own.
 fn free_place(place: Place) -> Place
     ensures { result ≡ free_place place }
 {
     Place {
         supply: place.supply,
         through: free_bounds(place.through),
+        penalty: None,
     }
 }
 
@@ -46,7 +47,7 @@ fn free_row(row: RouteRow) -> RouteRow
     }
 }
 
-// Returns a policy with a penalty of 1.
+// Returns a policy with a penalty of 1 for all places.
 fn counting(policy: Policy) -> Policy
     ensures { result ≡ counting policy }
 {

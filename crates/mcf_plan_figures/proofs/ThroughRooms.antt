@@ -18,14 +18,14 @@ use Rattle.mcf_places.specs.declared.places.Place.{Place}
 use Rattle.mcf_places.specs.declared.places.Policy.{Policy}
 use Rattle.mcf_places.specs.Models.{entry_supply, exit_by, exit_of, exit_supply, from_exit, hub_supply, model_of, place_at, plain_route, route_if, routes_by, some_bounds, supplies_of, with_exits, with_first}
 use Rattle.mcf_places.specs.PlannerLaws.{IsSound, PlannersAreModels, SoundPlannersHaveSoundModels, has_bounds}
-use Rattle.mcf_places.specs.Planners.{Planner, given, place_sum, unit_penalty, wanted}
+use Rattle.mcf_places.specs.Planners.{Planner, given, missing_cost, place_sum, wanted}
 use Rattle.mcf_plan_figures.specs.Changes.{eased, eased_bounds, with_through_room}
 use Rattle.mcf_plan_figures.specs.PlannerFigureLaws.{ExactThroughSavingsAreReached, ThroughSavingsAreBounds}
 use Rattle.mcf_plan_figures.specs.PlannerFigures.{through_number, through_saves}
 use Rattle.mcf_plan_figures.proofs.ChangedModels.{room_bound, room_reached}
 
 abbrev no_place : Place
-no_place = record { supply = pos 0; through = None }
+no_place = record { supply = pos 0; through = None; penalty = None }
 
 -- ---- what doesn't see how much bounds let through
 
@@ -76,23 +76,24 @@ T n v p = option_map (λ (b : Bounds). plain_route v (n + 2 + v) b.least b.most 
 abbrev S : Bool → ℕ → ℕ → Place → Option Route
 S unused n v p = route_if (unused && int_lt (pos 0) p.supply) (plain_route v (n + 1) (pos 0) (Some (given p)) (pos 0))
 
-abbrev M : Bool → ℕ → ℕ → Place → Option Route
-M short n v p = route_if (short && int_lt p.supply (pos 0)) (plain_route (n + 2) (exit_by n v p.through) (pos 0) (Some (wanted p)) (pos 0))
+abbrev M : Policy → ℕ → ℕ → Place → Option Route
+M policy n v p =
+    route_if (policy.short && int_lt p.supply (pos 0)) (plain_route (n + 2) (exit_by n v p.through) (pos 0) (Some (wanted p)) (missing_cost policy p))
 
-abbrev G : ℤ → Policy → ℕ → Route
-G most policy n = plain_route (n + 1) (n + 2) (pos 0) (Some most) (unit_penalty policy.penalty)
+abbrev G : ℤ → ℕ → Route
+G most n = plain_route (n + 1) (n + 2) (pos 0) (Some most) (pos 0)
 
 -- those after the routes of bounds
 abbrev rest_of : ℤ → Policy → ℕ → List Place → List Route
-rest_of most policy n ps = routes_by (S policy.unused n) 1 ps ++ (routes_by (M policy.short n) 1 ps ++ G most policy n ∷ [])
+rest_of most policy n ps = routes_by (S policy.unused n) 1 ps ++ (routes_by (M policy n) 1 ps ++ G most n ∷ [])
 
 rest_set : (most : ℤ) (policy : Policy) (n : ℕ) (ps : List Place) (i : ℕ) → rest_of most policy n (set ps i (eased (get_or ps i no_place))) ≡ rest_of most policy n ps
 rest_set most policy n ps i =
     let p = get_or ps i no_place in
-    ap (λ xs. xs ++ (routes_by (M policy.short n) 1 (set ps i (eased p)) ++ G most policy n ∷ [])) (made_set (S policy.unused n) 1 ps i (eased p) (λ j. refl))
-    ∙ ap (λ xs. routes_by (S policy.unused n) 1 ps ++ (xs ++ G most policy n ∷ []))
-    (made_set (M policy.short n) 1 ps i (eased p)
-    (λ j. ap (λ x. route_if (policy.short && int_lt p.supply (pos 0)) (plain_route (n + 2) x (pos 0) (Some (wanted p)) (pos 0)))
+    ap (λ xs. xs ++ (routes_by (M policy n) 1 (set ps i (eased p)) ++ G most n ∷ [])) (made_set (S policy.unused n) 1 ps i (eased p) (λ j. refl))
+    ∙ ap (λ xs. routes_by (S policy.unused n) 1 ps ++ (xs ++ G most n ∷ []))
+    (made_set (M policy n) 1 ps i (eased p)
+    (λ j. ap (λ x. route_if (policy.short && int_lt p.supply (pos 0)) (plain_route (n + 2) x (pos 0) (Some (wanted p)) (missing_cost policy p)))
     (exit_by_some n n j (option_map eased_bounds p.through) p.through refl (still_some p.through))))
 
 -- the place where the route of some bounds is, the route, and the routes after one unit more may

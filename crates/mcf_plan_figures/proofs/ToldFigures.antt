@@ -86,7 +86,7 @@ made_more f made after n x e g pushed =
 -- ---- the numbers of routes for what passes through places
 
 abbrev no_place : Place
-no_place = record { supply = pos 0; through = None }
+no_place = record { supply = pos 0; through = None; penalty = None }
 
 pub first_length : (o : Option Bounds) (make : Bounds → Route) (rs : List Route) → length (with_first (option_map make o) rs) ≡ length (option_to_list o) + length rs
 first_length (Some b) make rs = omega arith

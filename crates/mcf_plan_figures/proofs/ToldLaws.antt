@@ -22,7 +22,7 @@ use Rattle.mcf_plan_figures.proofs.ThroughRooms.{T, bounds_of, exit_by_some, thr
 use Rattle.mcf_plan_figures.proofs.ToldFigures.{first_length}
 
 abbrev no_place : Place
-no_place = record { supply = pos 0; through = None }
+no_place = record { supply = pos 0; through = None; penalty = None }
 
 -- ---- savings
 
@@ -83,7 +83,7 @@ passes_are law most P carries v sound is_plan h has =
     let own = x.carries in
     let thr = amounts_by (T n) (passes P x) 1 P.places in
     let rest = amounts_by (stay_route P.policy.unused (hub_of P.places)) (λ v p. at_node x.stays v) 1 P.places
-    ++ (amounts_by (missing_route P.policy.short P.places) (λ v p. at_node x.missing v) 1 P.places ++ total_missing P x ∷ []) in
+    ++ (amounts_by (missing_route P.policy P.places) (λ v p. at_node x.missing v) 1 P.places ++ total_missing P x ∷ []) in
     let long : length P.routes ≡ length own = omega (arith, length-AllZip MayCarry P.routes own of.is_plan.may_carry) in
     let place : through_number P v - 1 ≡ length own + j = omega (arith, long) in
     let more : length own + j - length own ≡ j = omega arith in

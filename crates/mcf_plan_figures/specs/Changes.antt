@@ -26,7 +26,7 @@ eased_bounds b = record { least = b.least; most = option_map (λ m. m +ℤ pos 1
 
 -- the place with such bounds
 abbrev pub eased : Place → Place
-eased p = record { supply = p.supply; through = option_map eased_bounds p.through }
+eased p = record { supply = p.supply; through = option_map eased_bounds p.through; penalty = p.penalty }
 
 -- the problem in which one unit more may pass through place v
 abbrev pub with_through_room : Planner → ℕ → Planner

@@ -37,6 +37,7 @@ fn problem(alloc: Global) -> Result<Option<Planner>, NoMemory> {
     let town = Place {
         supply: -4,
         through: None,
+        penalty: None,
     };
     let depot = Place {
         supply: 0,
@@ -45,10 +46,12 @@ fn problem(alloc: Global) -> Result<Option<Planner>, NoMemory> {
             most: Some(3),
             cost: 0,
         }),
+        penalty: None,
     };
     let mill = Place {
         supply: 4,
         through: None,
+        penalty: None,
     };
     let past = RouteRow {
         both: false,

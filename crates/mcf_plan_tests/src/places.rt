@@ -28,11 +28,13 @@ const WIDE: Bounds = Bounds {
     cost: 1,
 };
 
-// The second of two places, a route between them, a penalty, and the faults of the problem.
+// The second of two places, a route between them, penalties of both places and of all, and the
+// faults of the problem.
 #[derive(Clone, Copy)]
 struct FaultRow {
     supply: i64,
     through: Option<Bounds>,
+    own: [Option<i64>; 2],
     route: RouteRow,
     penalty: Option<i64>,
     faults: &'static [PlannerFault],
@@ -41,6 +43,7 @@ struct FaultRow {
 const GOOD: FaultRow = FaultRow {
     supply: -4,
     through: Some(WIDE),
+    own: [None, None],
     route: ROUTE,
     penalty: Some(5),
     faults: &[],
@@ -61,7 +64,7 @@ const BACK_AND_FORTH: PlannerFault = PlannerFault::Routes(ModelFault {
     what: RouteFault::BothWays,
 });
 
-const ROWS: [FaultRow; 11] = [
+const ROWS: [FaultRow; 17] = [
     GOOD,
     FaultRow {
         supply: i64::MIN,
@@ -71,6 +74,44 @@ const ROWS: [FaultRow; 11] = [
     FaultRow {
         penalty: Some(-1),
         faults: &[PlannerFault::Penalty],
+        ..GOOD
+    },
+    FaultRow {
+        own: [None, Some(0)],
+        penalty: None,
+        ..GOOD
+    },
+    FaultRow {
+        own: [None, Some(-1)],
+        faults: &[PlannerFault::BelowPenalty(2)],
+        ..GOOD
+    },
+    FaultRow {
+        own: [Some(7), None],
+        faults: &[PlannerFault::IdlePenalty(1)],
+        ..GOOD
+    },
+    FaultRow {
+        own: [Some(7), None],
+        penalty: None,
+        faults: &[PlannerFault::IdlePenalty(1), PlannerFault::NoPenalty(2)],
+        ..GOOD
+    },
+    FaultRow {
+        supply: 0,
+        own: [None, Some(7)],
+        penalty: None,
+        ..GOOD
+    },
+    FaultRow {
+        own: [Some(-7), Some(-1)],
+        penalty: Some(-1),
+        faults: &[
+            PlannerFault::Penalty,
+            PlannerFault::BelowPenalty(1),
+            PlannerFault::BelowPenalty(2),
+            PlannerFault::IdlePenalty(1),
+        ],
         ..GOOD
     },
     FaultRow {
@@ -153,10 +194,12 @@ fn problem_of(alloc: Global, row: &FaultRow) -> Result<Made, NoMemory> {
     let first = Place {
         supply: 4,
         through: None,
+        penalty: row.own[0],
     };
     let second = Place {
         supply: row.supply,
         through: row.through,
+        penalty: row.own[1],
     };
     let places = vec![in alloc; first, second]?;
     let steps: Vec<Step> = Vec::new(alloc);

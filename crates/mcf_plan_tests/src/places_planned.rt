@@ -29,6 +29,7 @@ const PLAIN: RouteRow = RouteRow {
 #[derive(Clone, Copy)]
 struct PlannedRow {
     wants: [i64; 2],
+    own: [Option<i64>; 2],
     policy: Policy,
     carries: [i128; 4],
     stays: i128,
@@ -36,10 +37,11 @@ struct PlannedRow {
     cost: i128,
 }
 
-const ROWS: [PlannedRow; 3] = [
+const ROWS: [PlannedRow; 4] = [
     // as little as possible is missing: nine units can go, six of them through the depot
     PlannedRow {
         wants: [8, 5],
+        own: [None, None],
         policy: Policy {
             unused: true,
             short: true,
@@ -53,6 +55,7 @@ const ROWS: [PlannedRow; 3] = [
     // a missing unit costs 5: less than a unit to the second shop, more than one to the first
     PlannedRow {
         wants: [8, 5],
+        own: [None, None],
         policy: Policy {
             unused: true,
             short: true,
@@ -66,6 +69,7 @@ const ROWS: [PlannedRow; 3] = [
     // nothing may be missing
     PlannedRow {
         wants: [5, 4],
+        own: [None, None],
         policy: Policy {
             unused: true,
             short: false,
@@ -75,6 +79,20 @@ const ROWS: [PlannedRow; 3] = [
         stays: 1,
         missing: [0, 0],
         cost: 54,
+    },
+    // a missing unit costs 20 at the second shop, and 3 at the first, less than a unit sent there
+    PlannedRow {
+        wants: [8, 5],
+        own: [None, Some(20)],
+        policy: Policy {
+            unused: true,
+            short: true,
+            penalty: Some(3),
+        },
+        carries: [5, 0, 5, 0],
+        stays: 5,
+        missing: [8, 0],
+        cost: 59,
     },
 ];
 
@@ -109,12 +127,14 @@ fn routes_of(alloc: Global, limit: i64) -> Result<Vec<RouteRow>, NoMemory> {
 fn problem_of(
     alloc: Global,
     wants: &[i64; 2],
+    own: &[Option<i64>; 2],
     limit: i64,
     policy: Policy,
 ) -> Result<Option<Planner>, NoMemory> {
     let factory = Place {
         supply: 10,
         through: None,
+        penalty: None,
     };
     let depot = Place {
         supply: 0,
@@ -123,14 +143,17 @@ fn problem_of(
             most: Some(6),
             cost: 1,
         }),
+        penalty: None,
     };
     let first = Place {
         supply: -wants[0].clamp(0, 100),
         through: None,
+        penalty: own[0],
     };
     let second = Place {
         supply: -wants[1].clamp(0, 100),
         through: None,
+        penalty: own[1],
     };
     let places = vec![in alloc; factory, depot, first, second]?;
     let steps: Vec<Step> = Vec::new(alloc);
@@ -145,10 +168,11 @@ fn problem_of(
 fn answer_of(
     alloc: Global,
     wants: &[i64; 2],
+    own: &[Option<i64>; 2],
     limit: i64,
     policy: Policy,
 ) -> Result<Option<PlannerAnswer>, NoMemory> {
-    let Some(planner) = problem_of(alloc, wants, limit, policy)? else {
+    let Some(planner) = problem_of(alloc, wants, own, limit, policy)? else {
         return Ok(None);
     };
     let mut engine = Engine {
@@ -180,7 +204,7 @@ fn is_plan(found: &LeastPlannerPlan, row: &PlannedRow) -> bool {
 
 // Returns whether the answer of a row is the expected one.
 fn is_as_said(alloc: Global, row: &PlannedRow, missing: i128) -> Result<bool, NoMemory> {
-    match answer_of(alloc, &row.wants, 3, row.policy)? {
+    match answer_of(alloc, &row.wants, &row.own, 3, row.policy)? {
         Some(PlannerAnswer::Least(found)) => {
             let planned = is_plan(&found, row);
             let shown = is_shown(&found.shown, &row.carries);
@@ -207,6 +231,14 @@ fn a_penalty_says_what_is_missing(rt: HostRuntime) -> Result<(), Fail> {
 }
 
 #[test]
+fn penalties_of_places_say_what_is_missing(rt: HostRuntime) -> Result<(), Fail> {
+    let rows = ROWS;
+    let fits = is_as_said(rt.alloc(), &rows[3], 8)?;
+    assert!(rt; fits);
+    Ok(())
+}
+
+#[test]
 fn nothing_is_missing(rt: HostRuntime) -> Result<(), Fail> {
     let rows = ROWS;
     let fits = is_as_said(rt.alloc(), &rows[2], 0)?;
@@ -218,7 +250,14 @@ fn nothing_is_missing(rt: HostRuntime) -> Result<(), Fail> {
 #[test]
 fn places_that_take_too_much_are_named(rt: HostRuntime) -> Result<(), Fail> {
     let policy = ROWS[2].policy;
-    let Some(PlannerAnswer::NoPlan(found)) = answer_of(rt.alloc(), &[7, 0], 3, policy)? else {
+    let Some(PlannerAnswer::NoPlan(found)) = answer_of(
+        rt.alloc(),
+        &[7, 0],
+        &[None, None],
+        3,
+        policy,
+    )?
+    else {
         assert!(rt; false);
         return Ok(());
     };
@@ -240,7 +279,7 @@ fn fault_in(answer: &PlannerAnswer) -> Option<ArrayFault> {
 #[test]
 fn a_number_beyond_the_limits_is_named(rt: HostRuntime) -> Result<(), Fail> {
     let policy = ROWS[2].policy;
-    let Some(answer) = answer_of(rt.alloc(), &[5, 4], i64::MAX, policy)? else {
+    let Some(answer) = answer_of(rt.alloc(), &[5, 4], &[None, None], i64::MAX, policy)? else {
         assert!(rt; false);
         return Ok(());
     };
@@ -253,7 +292,7 @@ fn a_number_beyond_the_limits_is_named(rt: HostRuntime) -> Result<(), Fail> {
 // for what stays there, and one arc has all that is missing.
 #[test]
 fn faults_of_a_network_have_origins(rt: HostRuntime) -> Result<(), Fail> {
-    let Some(planner) = problem_of(rt.alloc(), &[5, 4], 3, ROWS[2].policy)? else {
+    let Some(planner) = problem_of(rt.alloc(), &[5, 4], &[None, None], 3, ROWS[2].policy)? else {
         assert!(rt; false);
         return Ok(());
     };
@@ -269,5 +308,27 @@ fn faults_of_a_network_have_origins(rt: HostRuntime) -> Result<(), Fail> {
     }
     let exit = origin_of(&planner, ArrayFault::Supply(NodeId::new(8)));
     assert!(rt; exit == Origin::OfPlace(2));
+    Ok(())
+}
+
+// After those arcs, each shop has one for what is missing there: at the penalty of all places, or
+// at its own.
+#[test]
+fn penalties_have_origins(rt: HostRuntime) -> Result<(), Fail> {
+    let row = ROWS[3];
+    let Some(planner) = problem_of(rt.alloc(), &row.wants, &row.own, 3, row.policy)? else {
+        assert!(rt; false);
+        return Ok(());
+    };
+    let arcs = [
+        (6, Origin::OfPlace(1)),
+        (7, Origin::OfAll),
+        (8, Origin::OfPenalty(4)),
+        (9, Origin::OfAll),
+    ];
+    for (arc, want) in &arcs {
+        let fault = ArrayFault::Arc(ArcId::new(*arc), Code::Cost);
+        assert!(rt; origin_of(&planner, fault) == *want);
+    }
     Ok(())
 }

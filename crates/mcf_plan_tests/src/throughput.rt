@@ -32,6 +32,7 @@ fn problem(alloc: Global) -> Result<Option<Planner>, NoMemory> {
     let mill = Place {
         supply: 4,
         through: None,
+        penalty: None,
     };
     let depot = Place {
         supply: 0,
@@ -40,10 +41,12 @@ fn problem(alloc: Global) -> Result<Option<Planner>, NoMemory> {
             most: None,
             cost: -1,
         }),
+        penalty: None,
     };
     let town = Place {
         supply: -4,
         through: None,
+        penalty: None,
     };
     let to_town = RouteRow {
         tail: 2,

@@ -48,7 +48,7 @@ is_here Apart = false
 
 -- a place that is read past the end
 abbrev pub no_place : Place
-no_place = record { supply = pos 0; through = None }
+no_place = record { supply = pos 0; through = None; penalty = None }
 
 -- the place of a row: `place`, its line, its name, whether its entry is one of the bottleneck's and
 -- whether its exit is, what it gives at its entry, what it wants at its exit, and the least that

@@ -11,7 +11,7 @@ use Rattle.mcf_model.specs.declared.faults.RouteFault.TheVariants as route
 use Rattle.mcf_places.specs.declared.faults.PlannerFault.{PlannerFault}
 use Rattle.mcf_places.specs.declared.faults.PlannerFault.TheVariants as planner
 use Rattle.mcf_places.specs.declared.origins.Origin.{Origin}
-use Rattle.mcf_places.specs.declared.origins.Origin.TheVariants.{OfPlace, OfRoute, OfAll}
+use Rattle.mcf_places.specs.declared.origins.Origin.TheVariants.{OfPlace, OfPenalty, OfRoute, OfAll}
 use Rattle.mcf_reading.specs.Cells.{cell_at}
 use Rattle.mcf_reading.specs.Columns.{only_place}
 use Rattle.mcf_reading.specs.HeadTexts.{head_text}
@@ -149,11 +149,17 @@ abbrev pub planner_table : PlannerFault → List ℕ
 planner_table planner.Size = codes "places"
 planner_table planner.Total = codes "places"
 planner_table planner.Penalty = codes "options"
+planner_table (planner.BelowPenalty place) = codes "places"
+planner_table (planner.IdlePenalty place) = codes "places"
+planner_table (planner.NoPenalty place) = codes "places"
 planner_table (planner.NoLimit place) = codes "places"
 planner_table (planner.Routes fault) = codes "routes"
 
 -- its line, if it is about one row
 abbrev pub planner_line : TwoTables → PlannerFault → List ℕ
+planner_line two (planner.BelowPenalty place) = decimal (line_at two.places place)
+planner_line two (planner.IdlePenalty place) = decimal (line_at two.places place)
+planner_line two (planner.NoPenalty place) = decimal (line_at two.places place)
 planner_line two (planner.NoLimit place) = decimal (line_at two.places place)
 planner_line two (planner.Routes fault) = decimal (line_at two.routes fault.route)
 planner_line two fault = []
@@ -163,6 +169,9 @@ abbrev pub planner_column : PlannerFault → List ℕ
 planner_column planner.Size = []
 planner_column planner.Total = codes "supply"
 planner_column planner.Penalty = codes "penalty"
+planner_column (planner.BelowPenalty place) = codes "penalty"
+planner_column (planner.IdlePenalty place) = codes "penalty"
+planner_column (planner.NoPenalty place) = codes "penalty"
 planner_column (planner.NoLimit place) = codes "most"
 planner_column (planner.Routes fault) = route_column fault.what
 
@@ -171,6 +180,9 @@ abbrev pub planner_word : PlannerFault → List ℕ
 planner_word planner.Size = codes "too many places"
 planner_word planner.Total = codes "too great in total"
 planner_word planner.Penalty = codes "below 0"
+planner_word (planner.BelowPenalty place) = codes "below 0"
+planner_word (planner.IdlePenalty place) = codes "a penalty, but a supply above 0"
+planner_word (planner.NoPenalty place) = codes "no penalty, but other places have one"
 planner_word (planner.NoLimit place) = codes "no limit, but a cost below 0"
 planner_word (planner.Routes fault) = route_word fault.what
 
@@ -180,13 +192,21 @@ planner_row two fault = fault_row (planner_table fault) (planner_line two fault)
 
 -- ---- numbers beyond the limits
 
--- the column that a number beyond the limits is about
-abbrev pub beyond_column : ArrayFault → List ℕ
-beyond_column number.Size = []
-beyond_column (number.Supply node) = codes "supply"
-beyond_column (number.Arc arc code.Bound) = codes "most"
-beyond_column (number.Arc arc code.Order) = codes "least"
-beyond_column (number.Arc arc other) = codes "cost"
+-- the column of a number of a network
+abbrev pub number_column : ArrayFault → List ℕ
+number_column number.Size = []
+number_column (number.Supply node) = codes "supply"
+number_column (number.Arc arc code.Bound) = codes "most"
+number_column (number.Arc arc code.Order) = codes "least"
+number_column (number.Arc arc other) = codes "cost"
+
+-- the column that a number beyond the limits is about: that of penalties, if it comes from one
+abbrev pub beyond_column : Option Origin → ArrayFault → List ℕ
+beyond_column (Some (OfPenalty place)) fault = codes "penalty"
+beyond_column (Some (OfPlace place)) fault = number_column fault
+beyond_column (Some (OfRoute route)) fault = number_column fault
+beyond_column (Some OfAll) fault = number_column fault
+beyond_column None fault = number_column fault
 
 -- what is wrong with such a number
 abbrev pub beyond_word : ArrayFault → List ℕ
@@ -198,6 +218,7 @@ beyond_word (number.Arc arc other) = codes "beyond the limits"
 -- the table that it comes from, if it is one
 abbrev pub origin_table : Option Origin → List ℕ
 origin_table (Some (OfPlace place)) = codes "places"
+origin_table (Some (OfPenalty place)) = codes "places"
 origin_table (Some (OfRoute route)) = codes "routes"
 origin_table (Some OfAll) = []
 origin_table None = []
@@ -205,10 +226,11 @@ origin_table None = []
 -- its line there
 abbrev pub origin_line : TwoTables → Option Origin → List ℕ
 origin_line two (Some (OfPlace place)) = decimal (line_at two.places place)
+origin_line two (Some (OfPenalty place)) = decimal (line_at two.places place)
 origin_line two (Some (OfRoute route)) = decimal (line_at two.routes route)
 origin_line two (Some OfAll) = []
 origin_line two None = []
 
 -- a number beyond the limits, and where it comes from
 abbrev pub beyond_row : TwoTables → Option Origin → ArrayFault → List (List ℕ)
-beyond_row two origin fault = fault_row (origin_table origin) (origin_line two origin) (beyond_column fault) (beyond_word fault) []
+beyond_row two origin fault = fault_row (origin_table origin) (origin_line two origin) (beyond_column origin fault) (beyond_word fault) []

@@ -233,6 +233,7 @@ fn place_at(places: &[Place], place: usize) -> Place
         Place {
             supply: 0,
             through: None,
+            penalty: None,
         }
     }
 }

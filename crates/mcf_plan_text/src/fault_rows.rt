@@ -213,6 +213,9 @@ fn planner_line(alloc: Global, two: Two<'_>, fault: &PlannerFault) -> Result<Vec
     ensures { IfOk result (λ made. made.items ≡ planner_line (tables_in two.entry) fault.now) }
 {
     match fault {
+        PlannerFault::BelowPenalty(place) => line_cell(alloc, two.places, *place),
+        PlannerFault::IdlePenalty(place) => line_cell(alloc, two.places, *place),
+        PlannerFault::NoPenalty(place) => line_cell(alloc, two.places, *place),
         PlannerFault::NoLimit(place) => line_cell(alloc, two.places, *place),
         PlannerFault::Routes(found) => line_cell(alloc, two.routes, found.route),
         _ => Ok(Vec::new(alloc)),
@@ -258,6 +261,7 @@ fn origin_line(alloc: Global, two: Two<'_>, origin: Option<Origin>) -> Result<Ve
 {
     match origin {
         Some(Origin::OfPlace(place)) => line_cell(alloc, two.places, place),
+        Some(Origin::OfPenalty(place)) => line_cell(alloc, two.places, place),
         Some(Origin::OfRoute(route)) => line_cell(alloc, two.routes, route),
         _ => Ok(Vec::new(alloc)),
     }
@@ -275,7 +279,7 @@ pub(crate) fn put_beyond(
 {
     let line = origin_line(alloc, two, origin)?;
     let wrong = Wrong {
-        column: beyond_column(fault),
+        column: beyond_column(origin, fault),
         what: beyond_word(fault),
     };
     put_fault(out, origin_table(origin), &line, wrong, b"")

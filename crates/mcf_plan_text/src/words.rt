@@ -1,6 +1,6 @@
 //! The words by which faults are told.
 ghost use Rattle.std.specs.Prelude.{◌≡◌};
-ghost use Rattle.mcf_plan_text.specs.FaultRows.{beyond_column, beyond_word, fault_word, origin_table, penalty_word, planner_column, planner_table, planner_word, route_column, route_word, table_word};
+ghost use Rattle.mcf_plan_text.specs.FaultRows.{beyond_column, beyond_word, fault_word, number_column, origin_table, penalty_word, planner_column, planner_table, planner_word, route_column, route_word, table_word};
 
 use mcf_answer_rows::{name_word, number_word};
 use mcf_flows::Code;
@@ -67,9 +67,19 @@ fn route_word(fault: RouteFault) -> &'static [u8]
     }
 }
 
-// The column that a number beyond the limits is about.
-pub(crate) fn beyond_column(fault: &ArrayFault) -> &'static [u8]
-    ensures { result.now ≡ beyond_column fault.now }
+// The column that a number beyond the limits is about: that of penalties, if it comes from one.
+pub(crate) fn beyond_column(origin: Option<Origin>, fault: &ArrayFault) -> &'static [u8]
+    ensures { result.now ≡ beyond_column origin fault.now }
+{
+    match origin {
+        Some(Origin::OfPenalty(_)) => b"penalty",
+        _ => number_column(fault),
+    }
+}
+
+// The column of a number of a network.
+fn number_column(fault: &ArrayFault) -> &'static [u8]
+    ensures { result.now ≡ number_column fault.now }
 {
     match fault {
         ArrayFault::Size => b"",
@@ -107,6 +117,9 @@ pub(crate) fn planner_table(fault: &PlannerFault) -> &'static [u8]
         PlannerFault::Size => b"places",
         PlannerFault::Total => b"places",
         PlannerFault::Penalty => b"options",
+        PlannerFault::BelowPenalty(_) => b"places",
+        PlannerFault::IdlePenalty(_) => b"places",
+        PlannerFault::NoPenalty(_) => b"places",
         PlannerFault::NoLimit(_) => b"places",
         PlannerFault::Routes(_) => b"routes",
     }
@@ -120,6 +133,9 @@ pub(crate) fn planner_column(fault: &PlannerFault) -> &'static [u8]
         PlannerFault::Size => b"",
         PlannerFault::Total => b"supply",
         PlannerFault::Penalty => b"penalty",
+        PlannerFault::BelowPenalty(_) => b"penalty",
+        PlannerFault::IdlePenalty(_) => b"penalty",
+        PlannerFault::NoPenalty(_) => b"penalty",
         PlannerFault::NoLimit(_) => b"most",
         PlannerFault::Routes(found) => route_column(found.what),
     }
@@ -133,6 +149,9 @@ pub(crate) fn planner_word(fault: &PlannerFault) -> &'static [u8]
         PlannerFault::Size => b"too many places",
         PlannerFault::Total => b"too great in total",
         PlannerFault::Penalty => b"below 0",
+        PlannerFault::BelowPenalty(_) => b"below 0",
+        PlannerFault::IdlePenalty(_) => b"a penalty, but a supply above 0",
+        PlannerFault::NoPenalty(_) => b"no penalty, but other places have one",
         PlannerFault::NoLimit(_) => b"no limit, but a cost below 0",
         PlannerFault::Routes(found) => route_word(found.what),
     }
@@ -144,6 +163,7 @@ pub(crate) fn origin_table(origin: Option<Origin>) -> &'static [u8]
 {
     match origin {
         Some(Origin::OfPlace(_)) => b"places",
+        Some(Origin::OfPenalty(_)) => b"places",
         Some(Origin::OfRoute(_)) => b"routes",
         _ => b"",
     }

@@ -44,7 +44,7 @@ bounds_in s b = record { least = whole s.amounts b.least; most = whole_limit s.a
 
 -- a place in units
 abbrev pub place_in : Scales → PlaceEntry → Place
-place_in s e = record { supply = whole s.amounts e.supply; through = option_map (bounds_in s) e.through }
+place_in s e = record { supply = whole s.amounts e.supply; through = option_map (bounds_in s) e.through; penalty = None }
 
 -- a step before the last, in units
 abbrev pub step_in : Scales → StepEntry → Step

@@ -8,8 +8,8 @@ use Rattle.mcf_places.proofs.faults.sums.Goals as goal
 pub loop-place-preserved : goal.loop-place-preserved
 loop-place-preserved c =
     let few : c.loop-place.place < 2 ^ 63 = search (rules, arith) in
-    let more_given = place_sum_more given c.args.places.now c.loop-place.place (record { supply = pos 0; through = None }) c.loop-place-test.true in
-    let more_wanted = place_sum_more wanted c.args.places.now c.loop-place.place (record { supply = pos 0; through = None }) c.loop-place-test.true in
+    let more_given = place_sum_more given c.args.places.now c.loop-place.place (record { supply = pos 0; through = None; penalty = None }) c.loop-place-test.true in
+    let more_wanted = place_sum_more wanted c.args.places.now c.loop-place.place (record { supply = pos 0; through = None; penalty = None }) c.loop-place-test.true in
     record {
       given = omega (arith, ints, more_given, c.given.ensures, c.loop-place.invariant, few);
       wanted = omega (arith, ints, more_wanted, c.wanted.ensures, c.loop-place.invariant, few);

@@ -6,7 +6,7 @@ use Rattle.mcf_places.proofs.limits.places_more.Goals as goal
 
 pub loop-place-preserved : goal.loop-place-preserved
 loop-place-preserved c =
-    let d : Place = record { supply = pos 0; through = None } in
+    let d : Place = record { supply = pos 0; through = None; penalty = None } in
     record {
       within = c.place_more-sum.ensures.within;
       left = place_next_sum c.args.places.now c.loop-place.place d (pos c.loop-place.sum) _ (pos c.place_more-sum.result) c.loop-place-test.true

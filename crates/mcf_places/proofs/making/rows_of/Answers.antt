@@ -15,7 +15,7 @@ returns-clause-routes c =
     c.push_kind-3.new.rows.items c.push.new.self.items c.gate_row-gate.result
     (map (from_exit c.args.parts.places.now) (map (route_of s) c.args.parts.rows.now)) (throughs P) (stayings P) (missings P) (gate_route c.args.most P)
     c.new-rows.ensures.items (c.in_ok-push_exits.ensures.routes s) (c.in_ok-push_kind.ensures.routes s) (c.in_ok-push_kind-2.ensures.routes s)
-    (c.in_ok-push_kind-3.ensures.routes s) c.in_ok-push.ensures.items (c.gate_row-gate.ensures.route s c.args.parts.rows.now c.args.parts.returning.now ∙ ap (λ z. gate_route z P) most)
+    (c.in_ok-push_kind-3.ensures.routes s) c.in_ok-push.ensures.items (c.gate_row-gate.ensures.route s c.args.parts.rows.now c.args.parts.returning.now c.args.parts.policy ∙ ap (λ z. gate_route z P) most)
 
 pub returns-clause-listed : goal.returns-clause-listed
 returns-clause-listed c lent =

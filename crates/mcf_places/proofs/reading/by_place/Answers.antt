@@ -8,7 +8,7 @@ use Rattle.mcf_places.proofs.reading.by_place.Goals as goal
 
 pub loop-place-preserved : goal.loop-place-preserved
 loop-place-preserved c =
-    let d : Place = record { supply = pos 0; through = None } in
+    let d : Place = record { supply = pos 0; through = None; penalty = None } in
     let kept : to_z w128 (of_z w128 c.next_amount-amount.result.0) ≡ c.next_amount-amount.result.0 = search rules in
     amount_step (kind_route c.args.kind c.args.places.now c.args.policy) c.args.places.now c.loop-place.place d c.loop-place-test.true (c.loop-place.place + 1)
     (c.loop-place.place + 1 + 1) (c.loop-place.place + 1) (omega arith) (omega arith) c.next_amount-amount.result.0 c.loop-place.made.items c.push.new.self.items

@@ -13,7 +13,7 @@ use Rattle.mcf_places.proofs.rows.push_kind.Goals.{in-Some+in_ok-push-in-Some, i
 
 pub loop-place-preserved : goal.loop-place-preserved
 loop-place-preserved c =
-    let d : Place = record { supply = pos 0; through = None } in
+    let d : Place = record { supply = pos 0; through = None; penalty = None } in
     let make = kind_route c.args.kind c.args.places.now c.args.policy in
     elim c.match-kind_row.branch [
       | in-Some+in_ok-push-in-Some w ↦ let items = ap (λ r. r.items) w.rows-is ∙ w.in_ok-push-in-Some.ensures.items in

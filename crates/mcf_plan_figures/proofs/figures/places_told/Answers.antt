@@ -9,7 +9,7 @@ use Rattle.mcf_plan_figures.proofs.figures.places_told.Goals as goal
 pub loop-place-preserved : goal.loop-place-preserved
 loop-place-preserved c =
     let P = c.args.planner.now in
-    let none : Place = record { supply = pos 0; through = None } in
+    let none : Place = record { supply = pos 0; through = None; penalty = None } in
     let here = get_or P.places c.loop-place.place none in
     let pushed : c.push.new.self.items ≡ c.loop-place.made.items ++ c.place_told-told.result ∷ [] = search rules in
     let h : c.loop-place.place < length P.places = search rules in
