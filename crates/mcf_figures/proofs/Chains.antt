@@ -173,7 +173,7 @@ one_moved routes plan i false v h k =
     let into = plan_sum-set (λ r y. when (eqb r.head v) y) routes plan i (x +ℤ pos 1) h k in
     omega (arith, ints, out, into, when_more (eqb (get_or routes i no_route).tail v) (x +ℤ pos 1) x refl, when_more (eqb (get_or routes i no_route).head v) (x +ℤ pos 1) x refl)
 
-loose_moves : (prices : List ℤ) (r : Route) (x : ℤ) (back : Bool) → IsLoose prices r x
+pub loose_moves : (prices : List ℤ) (r : Route) (x : ℤ) (back : Bool) → IsLoose prices r x
     → MayCarry r (moved back x) × (reduced_route_cost prices r (moved back x) ≡ reduced_route_cost prices r x)
 loose_moves prices r x true loose = (loose.may_less, loose.less_is)
 loose_moves prices r x false loose = (loose.may_more, loose.more_is)

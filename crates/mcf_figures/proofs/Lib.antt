@@ -9,3 +9,5 @@ mod Forests
 mod LooseTests
 mod StepCosts
 mod Classes
+mod NextUnits
+mod DearerBounds

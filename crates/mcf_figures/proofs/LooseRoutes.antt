@@ -15,16 +15,16 @@ use Rattle.mcf_figures.proofs.Wider.{times_less, times_more}
 
 -- ---- tests of numbers
 
-below : (x y : ℤ) → int_lt x y ≡ true → x <ℤ y
+pub below : (x y : ℤ) → int_lt x y ≡ true → x <ℤ y
 below x y h = grind (arith, ints)
 
-is_below : (x y : ℤ) → x <ℤ y → int_lt x y ≡ true
+pub is_below : (x y : ℤ) → x <ℤ y → int_lt x y ≡ true
 is_below x y h = grind (arith, ints)
 
-not_below : (x y : ℤ) → int_lt x y ≡ false → y ≤ℤ x
+pub not_below : (x y : ℤ) → int_lt x y ≡ false → y ≤ℤ x
 not_below x y h = grind (arith, ints)
 
-is_not_below : (x y : ℤ) → y ≤ℤ x → int_lt x y ≡ false
+pub is_not_below : (x y : ℤ) → y ≤ℤ x → int_lt x y ≡ false
 is_not_below x y h = grind (arith, ints)
 
 equal : (x y : ℤ) → int_eq x y ≡ true → x ≡ y
@@ -64,7 +64,7 @@ from_four a b c d h = rw (h.first, h.second, h.third, h.fourth) refl
 one_more : (k x : ℤ) → k *ℤ (x +ℤ pos 1) ≡ k *ℤ x +ℤ k
 one_more k x = omega (arith, ints, mul-add k x (pos 1), mul-one k)
 
-charge_next : (steps : List Step) (c x : ℤ) → charge steps c (x +ℤ pos 1) ≡ charge steps c x +ℤ unit_cost steps c x
+pub charge_next : (steps : List Step) (c x : ℤ) → charge steps c (x +ℤ pos 1) ≡ charge steps c x +ℤ unit_cost steps c x
 charge_next [] c x = one_more c x
 charge_next (s ∷ steps) c x =
     by_lt_z x s.most
@@ -80,20 +80,20 @@ charge_next (s ∷ steps) c x =
     let e1 : (x +ℤ pos 1) -ℤ s.most ≡ (x -ℤ s.most) +ℤ pos 1 = omega (arith, ints) in
     rw (is_not_below x s.most more, here, there, e1) (omega (arith, ints, charge_next steps c (x -ℤ s.most))))
 
-charge_last : (steps : List Step) (c x : ℤ) → charge steps c x ≡ charge steps c (x -ℤ pos 1) +ℤ unit_cost steps c (x -ℤ pos 1)
+pub charge_last : (steps : List Step) (c x : ℤ) → charge steps c x ≡ charge steps c (x -ℤ pos 1) +ℤ unit_cost steps c (x -ℤ pos 1)
 charge_last steps c x =
     let e : (x -ℤ pos 1) +ℤ pos 1 ≡ x = omega (arith, ints) in
     sym (ap (charge steps c) e) ∙ charge_next steps c (x -ℤ pos 1)
 
-fits_from : (steps : List Step) (most : Option ℤ) (x : ℤ) → fits_more steps most x ≡ true → Fits steps most (x +ℤ pos 1)
+pub fits_from : (steps : List Step) (most : Option ℤ) (x : ℤ) → fits_more steps most x ≡ true → Fits steps most (x +ℤ pos 1)
 fits_from steps (Some m) x e = let h = below x (room steps m) e in omega (arith, ints, h)
 fits_from steps None x e = tt
 
-from_fits : (steps : List Step) (most : Option ℤ) (x : ℤ) → Fits steps most (x +ℤ pos 1) → fits_more steps most x ≡ true
+pub from_fits : (steps : List Step) (most : Option ℤ) (x : ℤ) → Fits steps most (x +ℤ pos 1) → fits_more steps most x ≡ true
 from_fits steps (Some m) x h = is_below x (room steps m) (omega (arith, ints, h))
 from_fits steps None x h = refl
 
-fits_less : (steps : List Step) (most : Option ℤ) (x y : ℤ) → Fits steps most x → y ≤ℤ x → Fits steps most y
+pub fits_less : (steps : List Step) (most : Option ℤ) (x y : ℤ) → Fits steps most x → y ≤ℤ x → Fits steps most y
 fits_less steps (Some m) x y h k = omega (arith, ints, h, k)
 fits_less steps None x y h k = tt
 

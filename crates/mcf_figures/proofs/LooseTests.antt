@@ -23,11 +23,11 @@ equal x y h = grind (arith, ints)
 is_equal : (x y : ℤ) → x ≡ y → int_eq x y ≡ true
 is_equal x y h = grind (arith, ints)
 
-fits_passes : (steps : List Step) (most : Option ℤ) (x : ℤ) → Fits steps most x → fits steps most x ≡ true
+pub fits_passes : (steps : List Step) (most : Option ℤ) (x : ℤ) → Fits steps most x → fits steps most x ≡ true
 fits_passes steps (Some m) x h = at_most_passes x (room steps m) h
 fits_passes steps None x h = refl
 
-it_fits : (steps : List Step) (most : Option ℤ) (x : ℤ) → fits steps most x ≡ true → Fits steps most x
+pub it_fits : (steps : List Step) (most : Option ℤ) (x : ℤ) → fits steps most x ≡ true → Fits steps most x
 it_fits steps (Some m) x e = at_most x (room steps m) e
 it_fits steps None x e = tt
 

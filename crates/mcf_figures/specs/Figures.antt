@@ -1,12 +1,12 @@
--- The figures of a plan: what is free on a route, what one more unit saves there, and the places
--- between which a unit costs what the prices say.
+-- The figures of a plan: what is free on a route, what one more unit of room saves there, what it
+-- costs to carry one more unit, and the places between which a unit costs what the prices say.
 -- Source: own, after AMO 9.2 and 9.11
 use Rattle.std.specs.Prelude.{◌≡◌, ℕ, ◌-◌, ◌^◌, Bool, true, ◌&&◌, List, [], ◌∷◌, if◌then◌else◌, int_le, ℤ, pos, ◌+ℤ◌, ◌-ℤ◌, Option, Some, None, option_map, slice_index_or, ◌⊎◌}
 use Rattle.std.specs.Int.{int_max}
 use Rattle.std.specs.List.{All}
 use Rattle.std.specs.Ordering.{int_eq}
 use Rattle.mcf_model.specs.declared.rows.Step.{Step}
-use Rattle.mcf_model.specs.Model.{MayCarry, Model, Route, charged, room}
+use Rattle.mcf_model.specs.Model.{MayCarry, Model, Route, charge, charged, room}
 use Rattle.mcf_model.specs.Prices.{price_drop, reduced_route_cost}
 use Rattle.mcf_model.specs.Tables.{IsRouteNumber, route_at}
 
@@ -38,6 +38,24 @@ saving_if None z = pos 0
 abbrev pub saving : List ℤ → Route → ℤ
 saving prices r = saving_if r.last_most (gain prices r)
 
+-- ---- one unit more on a route
+
+-- the test of an amount that fits the steps
+abbrev pub fits : List Step → Option ℤ → ℤ → Bool
+fits steps (Some last_most) x = int_le x (room steps last_most)
+fits steps None x = true
+
+-- the cost of one unit more than x
+abbrev pub next_cost : Route → ℤ → ℤ
+next_cost r x = charge r.steps r.last_cost (charged r.both x +ℤ pos 1) -ℤ charge r.steps r.last_cost (charged r.both x)
+
+-- how far the cost of one unit more than x is above the price drop: its reduced cost, by which the
+-- plan becomes dearer at least if the route has to carry one unit more; none, if the route is full;
+-- a route both ways is used in the direction in which the price drops
+abbrev pub dearer : List ℤ → Route → ℤ → Option ℤ
+dearer prices r x =
+    if fits r.steps r.last_most (charged r.both x +ℤ pos 1) then Some (next_cost r x -ℤ charged r.both (price_drop prices r)) else None
+
 -- ---- groups of places
 
 -- the route that carries x may carry one unit more, and one unit less, at the same reduced cost: at
@@ -47,11 +65,6 @@ pub record IsLoose (prices : List ℤ) (r : Route) (x : ℤ) : Type 0 where
   pub may_less : MayCarry r (x -ℤ pos 1)
   pub more_is : reduced_route_cost prices r (x +ℤ pos 1) ≡ reduced_route_cost prices r x
   pub less_is : reduced_route_cost prices r (x -ℤ pos 1) ≡ reduced_route_cost prices r x
-
--- the test of an amount that fits the steps
-abbrev pub fits : List Step → Option ℤ → ℤ → Bool
-fits steps (Some last_most) x = int_le x (room steps last_most)
-fits steps None x = true
 
 -- the test of an amount that a route may carry
 abbrev pub may_carry : Route → ℤ → Bool

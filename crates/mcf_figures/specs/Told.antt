@@ -7,13 +7,14 @@ use Rattle.mcf_flows.specs.WellFormed.{IsUpTo}
 use Rattle.mcf_model.specs.Model.{Model, Route, route_cost}
 use Rattle.mcf_model.specs.Tables.{no_route}
 use Rattle.mcf_figures.specs.declared.figures.RouteFigures.{RouteFigures}
-use Rattle.mcf_figures.specs.Figures.{IsLoose, figure_limit, free, saving}
+use Rattle.mcf_figures.specs.Figures.{IsLoose, dearer, figure_limit, free, saving}
 
 -- the figures of a route that carries x
 pub record AreRouteFigures (prices : List ℤ) (r : Route) (x : ℤ) (f : RouteFigures) : Type 0 where
   pub free_is : f.free ≡ free r x
   pub saves_is : f.saves ≡ saving prices r
   pub loose_is : (f.loose ≡ true) ↔ IsLoose prices r x
+  pub dearer_is : f.dearer ≡ dearer prices r x
 
 -- the amount and both prices are within the limit of figures
 pub record AreSmall (x tail head : ℤ) : Type 0 where

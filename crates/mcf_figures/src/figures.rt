@@ -9,7 +9,7 @@ ghost use Rattle.mcf_figures.specs.Private.Units.{AreNumbers};
 ghost use Rattle.mcf_figures.specs.Told.{AreRouteFigures, AreSmall, HasFigures};
 
 use crate::loose::is_loose;
-use crate::units::{free, is_small, saving};
+use crate::units::{dearer, free, is_small, saving};
 use mcf_model::{PlanModel, RouteRow, Step};
 
 /// What one more unit does on a route of a plan.
@@ -22,6 +22,9 @@ pub struct RouteFigures {
     pub saves: i128,
     /// Whether the route may carry one unit more, and one less, at the cost that the prices say.
     pub loose: bool,
+    /// By how much the plan's cost rises at least if the route has to carry one unit more, or
+    /// `None` if it is full.
+    pub dearer: Option<i128>,
 }
 
 // Returns the number at a place, or 0 past the end.
@@ -62,7 +65,13 @@ fn numbers_of(row: RouteRow, own: &[Step], carried: i128, drop: i128) -> RouteFi
     let free = free(row, own, carried);
     let saves = saving(row, drop);
     let loose = is_loose(row, own, carried, drop);
-    RouteFigures { free, saves, loose }
+    let dearer = dearer(row, own, carried, drop);
+    RouteFigures {
+        free,
+        saves,
+        loose,
+        dearer,
+    }
 }
 
 // Returns the figures of a route that carries an amount, if the prices at its ends are these.
@@ -89,8 +98,8 @@ pub(crate) fn figures_of(
 }
 
 /// Returns the figures of a route, whose place counts from 0, in a plan of a model at the prices
-/// that show it: how much more it may carry, what one more unit of room saves at most, and whether
-/// it is loose.
+/// that show it: how much more it may carry, what one more unit of room saves at most, whether it
+/// is loose, and what it costs at least to carry one more unit.
 ///
 /// It is `None` if there is no such route, or if the amount or a price at its ends is further than
 /// 10^36 from 0.

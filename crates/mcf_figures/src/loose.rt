@@ -22,8 +22,8 @@ fn past(step: Step, amount: i128) -> Option<i128>
     }
 }
 
-// Returns the cost of one unit more than an amount.
-fn unit_cost(own: &[Step], last_cost: i64, amount: i128) -> i64
+/// Returns the cost of one unit more than an amount.
+pub(crate) fn unit_cost(own: &[Step], last_cost: i64, amount: i128) -> i64
     requires { All (λ s. pos 0 ≤ℤ s.most) own.now }
     ensures { result ≡ unit_cost own.now last_cost amount }
 {
@@ -45,8 +45,8 @@ fn costs(own: &[Step], last_cost: i64, amount: i128, slope: i128) -> bool
     i128::from(unit_cost(own, last_cost, amount)) == slope
 }
 
-// Returns whether one unit more than an amount fits the steps.
-fn fits_more(own: &[Step], last_most: Option<i64>, amount: i128) -> bool
+/// Returns whether one unit more than an amount fits the steps.
+pub(crate) fn fits_more(own: &[Step], last_most: Option<i64>, amount: i128) -> bool
     ensures { result ≡ fits_more own.now last_most amount }
 {
     match last_most {

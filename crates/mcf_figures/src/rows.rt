@@ -26,6 +26,9 @@ pub struct RowFigures {
     pub saves: i128,
     /// Whether one more unit of room saves just that.
     pub exact: bool,
+    /// By how much the plan's cost rises at least if the route has to carry one unit more, or
+    /// `None` if it is full.
+    pub dearer: Option<i128>,
 }
 
 // A route that carries nothing.
@@ -79,6 +82,7 @@ fn row_of(
     ensures free { result.free ≡ found.free }
     ensures saves { result.saves ≡ found.saves }
     ensures exact { result.exact ≡ is_exact_between groups.now row.tail row.head found.saves }
+    ensures dearer { result.dearer ≡ found.dearer }
 {
     let cost = route_cost(row, own, carried);
     let exact = is_exact_between(groups, row.tail, row.head, found.saves);
@@ -87,13 +91,14 @@ fn row_of(
         free: found.free,
         saves: found.saves,
         exact,
+        dearer: found.dearer,
     }
 }
 
 /// Returns what is told of a route, by its number, in a plan of a model at the prices that show it,
 /// whose groups are those of `groups_of`: the cost of what it carries, how much more it may carry,
-/// what one more unit of room saves, and whether it saves just that. Past the last route it is told
-/// of a route that carries nothing.
+/// what one more unit of room saves, whether it saves just that, and what it costs at least to
+/// carry one more unit. Past the last route it is told of a route that carries nothing.
 ///
 /// It is `None` if the amount or a price at the route's ends is further than 10^36 from 0.
 pub fn row_figures(

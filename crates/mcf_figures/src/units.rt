@@ -1,12 +1,15 @@
 //! The figures of one route, from its numbers.
 ghost use Rattle.std.specs.Prelude.{◌≡◌, ◌*◌, ◌-ℤ◌, ◌≤ℤ◌, ◌↔◌, IsTrue, pos, true};
 ghost use Rattle.std.specs.Int.{int_max};
+ghost use Rattle.std.specs.List.{All};
 ghost use Rattle.mcf_flows.specs.WellFormed.{IsUpTo};
 ghost use Rattle.mcf_model.specs.Model.{charged, room};
 ghost use Rattle.mcf_model.specs.Tables.{route_with};
 ghost use Rattle.mcf_figures.specs.Figures.{figure_limit, free, saving_if};
+ghost use Rattle.mcf_figures.specs.Private.Units.{dearer_by, unit_cost};
 ghost use Rattle.mcf_figures.specs.Told.{is_up_to};
 
+use crate::loose::{fits_more, unit_cost};
 use mcf_model::{RouteRow, Step, room};
 
 // No price and no amount is further from 0 than this.
@@ -74,5 +77,33 @@ pub(crate) fn saving(row: RouteRow, drop: i128) -> i128
     match row.last_most {
         Some(_) => gain(row.both, drop, row.last_cost),
         None => 0,
+    }
+}
+
+// Returns how far the cost of one unit more than an amount is above the price drop, which is that
+// of the direction in which the route is used.
+fn above(row: RouteRow, own: &[Step], amount: i128, drop: i128) -> i128
+    requires takes { All (λ s. pos 0 ≤ℤ s.most) own.now }
+    requires drop { IsUpTo (2 * figure_limit) drop }
+    ensures { result ≡ unit_cost own.now row.last_cost amount -ℤ drop }
+{
+    i128::from(unit_cost(own, row.last_cost, amount)) - drop
+}
+
+/// Returns by how much a plan becomes dearer at least if a route has to carry one unit more, if the
+/// price drops by so much on it, or `None` if the route is full.
+pub(crate) fn dearer(row: RouteRow, own: &[Step], carried: i128, drop: i128) -> Option<i128>
+    requires takes { All (λ s. pos 0 ≤ℤ s.most) own.now }
+    requires carried { IsUpTo figure_limit carried }
+    requires drop { IsUpTo (2 * figure_limit) drop }
+    ensures { result ≡ dearer_by (route_with row own.now) drop carried }
+{
+    let amount = charged(row.both, carried);
+    let fits = fits_more(own, row.last_most, amount);
+    let size = charged(row.both, drop);
+    if fits {
+        Some(above(row, own, amount, size))
+    } else {
+        None
     }
 }

@@ -4,3 +4,4 @@ mod ThroughRooms
 mod Units
 mod ToldFigures
 mod ToldLaws
+mod DearerPlans

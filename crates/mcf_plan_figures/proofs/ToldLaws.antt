@@ -1,22 +1,25 @@
 -- What is told of the model of a problem is told of the problem.
-use Rattle.std.proofs.Common.{◌≡◌, ℕ, zero, suc, ◌+◌, ◌-◌, ◌<◌, true, List, [], ◌∷◌, ◌++◌, length, map, get_or, take, refl, ap, sym, ◌∙◌, arith, ℤ, pos, int_lt, if◌then◌else◌}
-use Rattle.std.specs.Prelude.{Option, Some, None, option_map}
+use Rattle.std.proofs.Common.{◌≡◌, ℕ, zero, suc, ◌+◌, ◌-◌, ◌<◌, true, List, [], ◌∷◌, ◌++◌, length, map, get_or, take, refl, ap, sym, ◌∙◌, arith, ℤ, pos, ◌+ℤ◌, ◌-ℤ◌, int_lt, if◌then◌else◌}
+use Rattle.std.specs.Prelude.{IfSome, Option, Some, None, option_map}
 use Rattle.std.specs.Option.{is_some, option_to_list}
-use Rattle.std.proofs.lemmas.List.{get_or-append_right, get_or_append_left, length-map}
+use Rattle.std.proofs.Math.IntN.{◌*ℤ◌}
+use Rattle.std.proofs.lemmas.Int.{ints}
+use Rattle.std.proofs.lemmas.List.{get_or-append_right, get_or-take, get_or_append_left, length-map}
 use Rattle.mcf_flows.proofs.AllZips.{length-AllZip}
+use Rattle.mcf_flows.proofs.IntLaws.{mul-add, mul-one}
 use Rattle.mcf_flows.specs.Network.{IsNode, at_node}
 use Rattle.mcf_model.specs.Model.{IsPlan as IsModelPlan, MayCarry, Route}
 use Rattle.mcf_model.specs.Tables.{route_at}
-use Rattle.mcf_figures.specs.Figures.{amount_at, saving}
+use Rattle.mcf_figures.specs.Figures.{amount_at, dearer, saving}
 use Rattle.mcf_places.specs.declared.answering.ShownModel.{ShownModel}
 use Rattle.mcf_places.specs.declared.places.Bounds.{Bounds}
 use Rattle.mcf_places.specs.declared.places.Place.{Place}
 use Rattle.mcf_places.specs.LimitedPlanners.{limit_for, limited, limited_bounds, limited_place}
-use Rattle.mcf_places.specs.Models.{amounts_by, exit_of, hub_of, missing_route, model_of, place_at, plain_route, plan_of, routes_by, stay_route, through_route, with_first}
+use Rattle.mcf_places.specs.Models.{amounts_by, exit_of, hub_of, missing_route, model_of, place_at, plain_route, plan_of, routes_by, routes_of, stay_route, through_route, with_first}
 use Rattle.mcf_places.specs.PlannerLaws.{IsSound, PlannersAreModels, has_bounds}
 use Rattle.mcf_places.specs.Planners.{Plan, Planner, passes, total_missing}
-use Rattle.mcf_plan_figures.specs.PlannerFigures.{home_of, route_saves, through_number, through_saves}
-use Rattle.mcf_plan_figures.specs.Told.{ToldFiguresAreThePlanners, way_told}
+use Rattle.mcf_plan_figures.specs.PlannerFigures.{home_of, route_dearer, route_saves, through_dearer, through_drop, through_number, through_saves}
+use Rattle.mcf_plan_figures.specs.Told.{ToldFiguresAreThePlanners, by_own_limit, pass_told, place_told, way_told}
 use Rattle.mcf_plan_figures.proofs.RouteRooms.{route_is}
 use Rattle.mcf_plan_figures.proofs.ThroughRooms.{T, bounds_of, exit_by_some, through_route_is}
 use Rattle.mcf_plan_figures.proofs.ToldFigures.{first_length}
@@ -70,12 +73,10 @@ has_amount n v (p ∷ ps) (suc i) w b amount h at e =
     go (Some q) k = (omega (arith, k.inside), k.amount_is)
     go None k = (k.inside, k.amount_is)
 
-passes_are : PlannersAreModels → (most : ℤ) (P : Planner) (carries : List ℤ) (v : ℕ) → IsSound P → IsModelPlan (model_of most P) carries → IsNode (length P.places) v
-    → has_bounds P.places v ≡ true → amount_at carries (through_number P v) ≡ passes P (plan_of P carries) v (place_at P.places v)
-passes_are law most P carries v sound is_plan h has =
-    let x : Plan = plan_of P carries in
+pub passes_at : (P : Planner) (x : Plan) (v : ℕ) → length P.routes ≡ length x.carries → IsNode (length P.places) v → has_bounds P.places v ≡ true
+    → amount_at (routes_of P x) (through_number P v) ≡ passes P x v (place_at P.places v)
+passes_at P x v long h has =
     let found = bounds_of (place_at P.places v).through has in
-    let of = law.model_plans_are_plans most P carries sound is_plan in
     let n = length P.places in
     let i : v - 1 < length P.places = omega (arith, h.0, h.1) in
     let at = has_amount n 1 P.places (v - 1) v found.0 (passes P x) i (omega (arith, h.0)) found.1 in
@@ -84,12 +85,53 @@ passes_are law most P carries v sound is_plan h has =
     let thr = amounts_by (T n) (passes P x) 1 P.places in
     let rest = amounts_by (stay_route P.policy.unused (hub_of P.places)) (λ v p. at_node x.stays v) 1 P.places
     ++ (amounts_by (missing_route P.policy P.places) (λ v p. at_node x.missing v) 1 P.places ++ total_missing P x ∷ []) in
-    let long : length P.routes ≡ length own = omega (arith, length-AllZip MayCarry P.routes own of.is_plan.may_carry) in
     let place : through_number P v - 1 ≡ length own + j = omega (arith, long) in
     let more : length own + j - length own ≡ j = omega arith in
-    ap (λ xs. amount_at xs (through_number P v)) (sym of.back_again) ∙ ap (λ k. get_or (own ++ (thr ++ rest)) k (pos 0)) place
+    ap (λ k. get_or (own ++ (thr ++ rest)) k (pos 0)) place
     ∙ get_or-append_right own (thr ++ rest) (length own) (length own + j) (pos 0) refl (omega arith)
     ∙ ap (λ k. get_or (thr ++ rest) k (pos 0)) more ∙ get_or_append_left thr rest (pos 0) j at.inside ∙ at.amount_is
+
+passes_are : PlannersAreModels → (most : ℤ) (P : Planner) (carries : List ℤ) (v : ℕ) → IsSound P → IsModelPlan (model_of most P) carries → IsNode (length P.places) v
+    → has_bounds P.places v ≡ true → amount_at carries (through_number P v) ≡ passes P (plan_of P carries) v (place_at P.places v)
+passes_are law most P carries v sound is_plan h has =
+    let of = law.model_plans_are_plans most P carries sound is_plan in
+    ap (λ xs. amount_at xs (through_number P v)) (sym of.back_again)
+    ∙ passes_at P (plan_of P carries) v (length-AllZip MayCarry P.routes (plan_of P carries).carries of.is_plan.may_carry) h has
+
+-- ---- one unit more
+
+route_dearer_is : (most : ℤ) (P : Planner) (s : ShownModel) (groups : List ℕ) (k : ℕ) → s.model ≡ model_of most P → IsNode (length P.routes) k
+    → (way_told s groups k).dearer ≡ route_dearer s.prices.items P k (amount_at (plan_of P s.carries.items).carries k)
+route_dearer_is most P s groups k e h =
+    let prices = s.prices.items in
+    let carries = s.carries.items in
+    ap (λ m. dearer prices (route_at m k) (amount_at carries k)) e ∙ ap (λ (r : Route). dearer prices r (amount_at carries k)) (route_is most P k h)
+    ∙ sym (ap (route_dearer prices P k) (get_or-take (length P.routes) carries (k - 1) (pos 0) (omega (arith, h.0, h.1))))
+
+-- what passes through place v, if the price drops by so much on the model's route k
+pass_dearer : (prices : List ℤ) (s : ShownModel) (groups : List ℕ) (places v k : ℕ) (b : Bounds) (most : Option ℤ)
+    → (way_told s groups k).dearer ≡ dearer prices (plain_route v (places + 2 + v) b.least most b.cost) (amount_at s.carries.items k)
+    → (by_own_limit most (b.cost -ℤ through_drop prices places v) (way_told s groups k)).dearer
+    ≡ dearer prices (plain_route v (places + 2 + v) b.least most b.cost) (amount_at s.carries.items k)
+pass_dearer prices s groups places v k b (Some most) is = is
+pass_dearer prices s groups places v k b None is =
+    let x = amount_at s.carries.items k in
+    let next : b.cost ≡ b.cost *ℤ (x +ℤ pos 1) -ℤ b.cost *ℤ x = omega (arith, ints, mul-add b.cost x (pos 1), mul-one b.cost) in
+    ap (λ z. Some (z -ℤ through_drop prices places v)) next
+
+through_dearer_is : (most : ℤ) (P : Planner) (s : ShownModel) (groups : List ℕ) (v : ℕ) → s.model ≡ model_of most P → IsNode (length P.places) v
+    → IfSome (place_told P s groups v).passes (λ f. f.row.dearer ≡ through_dearer s.prices.items (length P.places) v (place_at P.places v).through f.amount)
+through_dearer_is most P s groups v e h = go (place_at P.places v).through refl
+  where
+    go : (o : Option Bounds) → (place_at P.places v).through ≡ o
+        → IfSome (pass_told s groups (through_number P v) (through_drop s.prices.items (length P.places) v) o)
+        (λ f. f.row.dearer ≡ through_dearer s.prices.items (length P.places) v o f.amount)
+    go None f = tt
+    go (Some b) f =
+        let prices = s.prices.items in
+        let x = amount_at s.carries.items (through_number P v) in
+        pass_dearer prices s groups (length P.places) v (through_number P v) b b.most
+        (ap (λ m. dearer prices (route_at m (through_number P v)) x) e ∙ ap (λ (r : Route). dearer prices r x) (through_route_is most P v h b f))
 
 -- ---- bounds with limits
 
@@ -139,8 +181,10 @@ told_figures_are_the_planners_lem law =
     record {
       route_is = route_is;
       route_saves_are = route_saves_are;
+      route_dearer_is = route_dearer_is;
       through_is = λ most P v b h has. through_route_is most P v h b has;
       through_saves_are = through_saves_are;
+      through_dearer_is = through_dearer_is;
       passes_are = passes_are law;
       same_number = same_number;
       same_home = same_home;

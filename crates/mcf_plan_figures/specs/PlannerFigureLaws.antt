@@ -1,15 +1,17 @@
--- What the figures of a planner's plan say of problems with one unit more. `most` is how much may
--- be missing in the model: all that places want, unless as little as possible is to be missing.
+-- What the figures of a planner's plan say of problems with one unit more, and of plans with one
+-- unit more on a route or through a place. `most` is how much may be missing in the model: all that
+-- places want, unless as little as possible is to be missing.
 -- Source: own, after AMO 9.2
-use Rattle.std.specs.Prelude.{◌≡◌, ℕ, true, List, length, ℤ, ◌+ℤ◌, ◌-ℤ◌, ◌≤ℤ◌}
-use Rattle.mcf_figures.specs.FigureLaws.{IsPriced}
-use Rattle.mcf_figures.specs.Figures.{AreJoined, IsExact}
+use Rattle.std.specs.Prelude.{◌≡◌, ℕ, true, List, length, ℤ, pos, ◌+ℤ◌, ◌-ℤ◌, ◌≤ℤ◌, ◌<ℤ◌, Some}
+use Rattle.mcf_figures.specs.FigureLaws.{CostsMore, HasWayAround, IsPriced}
+use Rattle.mcf_figures.specs.Figures.{AreJoined, IsExact, amount_at}
 use Rattle.mcf_flows.specs.Network.{IsNode, at_node}
+use Rattle.mcf_model.specs.Model.{charged}
 use Rattle.mcf_places.specs.Models.{exit_of, model_of, place_at, plan_of}
 use Rattle.mcf_places.specs.PlannerLaws.{IsSound, has_bounds}
-use Rattle.mcf_places.specs.Planners.{IsPlan, Plan, Planner, cost, total_missing}
-use Rattle.mcf_plan_figures.specs.Changes.{with_route_room, with_through_room, with_unit}
-use Rattle.mcf_plan_figures.specs.PlannerFigures.{route_saves, through_number, through_saves}
+use Rattle.mcf_places.specs.Planners.{IsPlan, Plan, Planner, cost, passes, total_missing}
+use Rattle.mcf_plan_figures.specs.Changes.{route_in, with_route_room, with_through_room, with_unit}
+use Rattle.mcf_plan_figures.specs.PlannerFigures.{route_dearer, route_saves, through_dearer, through_number, through_saves}
 
 -- a plan in which no more than `most` is missing
 pub record IsPlanWithin (most : ℤ) (P : Planner) (x : Plan) : Type 0 where
@@ -66,3 +68,53 @@ JoinedUnitsCostThat =
     (most : ℤ) (P : Planner) (prices carries : List ℤ) (u w : ℕ) → IsSound P → IsPriced (model_of most P) prices carries
     → IsNode (length P.places) u → IsNode (length P.places) w → AreJoined prices (model_of most P) carries u (exit_of P.places w)
     → HasPlanAt most (with_unit P u w) (cost P (plan_of P carries) +ℤ (at_node prices u -ℤ at_node prices (exit_of P.places w)))
+
+-- ---- one unit more on a route, or through a place
+
+-- for how much route k is used: on a route both ways, whatever the direction
+abbrev pub used : Planner → Plan → ℕ → ℤ
+used P x k = charged (route_in P k).both (amount_at x.carries k)
+
+-- how much passes through place v
+abbrev pub passing : Planner → Plan → ℕ → ℤ
+passing P x v = passes P x v (place_at P.places v)
+
+-- some such plan in which an amount is `more` costs just so much
+pub record HasPlanWith (most : ℤ) (P : Planner) (amount : Plan → ℤ) (more total : ℤ) : Type 0 where
+  pub plan : Plan
+  pub is_plan : IsPlanWithin most P plan
+  pub amount_is : amount plan ≡ more
+  pub cost_is : cost P plan ≡ total
+
+-- in each plan in which a route carries more, each unit more costs at least what is told of that
+-- route; so there is no such plan if nothing is told
+abbrev pub RouteDearerIsABound : Type 0
+RouteDearerIsABound =
+    (most : ℤ) (P : Planner) (prices carries : List ℤ) (k : ℕ) (x : Plan) → IsSound P → IsPriced (model_of most P) prices carries → IsNode (length P.routes) k
+    → IsPlanWithin most P x → used P (plan_of P carries) k <ℤ used P x k
+    → CostsMore (route_dearer prices P k (amount_at (plan_of P carries).carries k)) (used P x k -ℤ used P (plan_of P carries) k)
+    (cost P (plan_of P carries)) (cost P x)
+
+-- where loose routes lead around the route, some plan in which it carries one unit more costs just
+-- that
+abbrev pub JoinedRouteDearerIsReached : Type 0
+JoinedRouteDearerIsReached =
+    (most : ℤ) (P : Planner) (prices carries : List ℤ) (k : ℕ) (z : ℤ) → IsSound P → IsPriced (model_of most P) prices carries → IsNode (length P.routes) k
+    → route_dearer prices P k (amount_at (plan_of P carries).carries k) ≡ Some z → HasWayAround prices (model_of most P) carries k
+    → HasPlanWith most P (λ x. used P x k) (used P (plan_of P carries) k +ℤ pos 1) (cost P (plan_of P carries) +ℤ z)
+
+-- the same of plans in which more passes through a place with bounds
+abbrev pub ThroughDearerIsABound : Type 0
+ThroughDearerIsABound =
+    (most : ℤ) (P : Planner) (prices carries : List ℤ) (v : ℕ) (x : Plan) → IsSound P → IsPriced (model_of most P) prices carries → IsNode (length P.places) v
+    → has_bounds P.places v ≡ true → IsPlanWithin most P x → passing P (plan_of P carries) v <ℤ passing P x v
+    → CostsMore (through_dearer prices (length P.places) v (place_at P.places v).through (passing P (plan_of P carries) v))
+    (passing P x v -ℤ passing P (plan_of P carries) v) (cost P (plan_of P carries)) (cost P x)
+
+-- where loose routes lead around the place, some plan costs just that
+abbrev pub JoinedThroughDearerIsReached : Type 0
+JoinedThroughDearerIsReached =
+    (most : ℤ) (P : Planner) (prices carries : List ℤ) (v : ℕ) (z : ℤ) → IsSound P → IsPriced (model_of most P) prices carries → IsNode (length P.places) v
+    → has_bounds P.places v ≡ true → through_dearer prices (length P.places) v (place_at P.places v).through (passing P (plan_of P carries) v) ≡ Some z
+    → HasWayAround prices (model_of most P) carries (through_number P v)
+    → HasPlanWith most P (λ x. passing P x v) (passing P (plan_of P carries) v +ℤ pos 1) (cost P (plan_of P carries) +ℤ z)

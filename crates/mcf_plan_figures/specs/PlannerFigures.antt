@@ -1,7 +1,8 @@
 -- The figures of a planner's problem, by a plan of its model and prices that show it.
 -- Source: own
-use Rattle.std.specs.Prelude.{ℕ, suc, ◌+◌, ◌-◌, List, length, take, if◌then◌else◌, int_lt, ℤ, pos, Option, Some, None}
-use Rattle.mcf_figures.specs.Figures.{saving}
+use Rattle.std.specs.Prelude.{ℕ, suc, ◌+◌, ◌-◌, List, length, take, if◌then◌else◌, int_lt, ℤ, pos, ◌-ℤ◌, Option, Some, None}
+use Rattle.mcf_figures.specs.Figures.{dearer, saving}
+use Rattle.mcf_flows.specs.Network.{at_node}
 use Rattle.mcf_places.specs.declared.places.Bounds.{Bounds}
 use Rattle.mcf_places.specs.Models.{exit_of, from_exit, place_at, plain_route, routes_by, through_route}
 use Rattle.mcf_places.specs.Planners.{Planner}
@@ -15,6 +16,19 @@ route_saves prices P k = saving prices (from_exit P.places (route_in P k))
 abbrev pub through_saves : List ℤ → ℕ → ℕ → Option Bounds → ℤ
 through_saves prices places v (Some b) = saving prices (plain_route v (places + 2 + v) b.least b.most b.cost)
 through_saves prices places v None = pos 0
+
+-- what it costs at least, by the prices, if route k, which carries x, has to carry one unit more
+abbrev pub route_dearer : List ℤ → Planner → ℕ → ℤ → Option ℤ
+route_dearer prices P k x = dearer prices (from_exit P.places (route_in P k)) x
+
+-- what it costs at least if one unit more than x has to pass through a place with bounds
+abbrev pub through_dearer : List ℤ → ℕ → ℕ → Option Bounds → ℤ → Option ℤ
+through_dearer prices places v (Some b) x = dearer prices (plain_route v (places + 2 + v) b.least b.most b.cost) x
+through_dearer prices places v None x = None
+
+-- how far the price of the entry of a place with bounds is above that of its exit
+abbrev pub through_drop : List ℤ → ℕ → ℕ → ℤ
+through_drop prices places v = at_node prices v -ℤ at_node prices (places + 2 + v)
 
 -- the number of the model's route for what passes through place v: it comes after the routes, and
 -- after those for the places with bounds before v

@@ -1,10 +1,11 @@
 //! Laws about the figures of planners' plans. Each is the contract of a function that only cites
 //! other laws.
-ghost use Rattle.mcf_plan_figures.specs.PlannerFigureLaws.{ExactRouteSavingsAreReached, ExactThroughSavingsAreReached, JoinedUnitsCostThat, RouteSavingsAreBounds, ThroughSavingsAreBounds, UnitsCostNoLess};
+ghost use Rattle.mcf_plan_figures.specs.PlannerFigureLaws.{ExactRouteSavingsAreReached, ExactThroughSavingsAreReached, JoinedRouteDearerIsReached, JoinedThroughDearerIsReached, JoinedUnitsCostThat, RouteDearerIsABound, RouteSavingsAreBounds, ThroughDearerIsABound, ThroughSavingsAreBounds, UnitsCostNoLess};
 ghost use Rattle.mcf_plan_figures.specs.Told.{ToldFiguresAreThePlanners};
 
 use mcf_figures::{
-    exact_savings_are_reached, joined_prices_are_reached, prices_are_bounds, savings_are_bounds,
+    dearer_is_a_bound, exact_savings_are_reached, joined_dearer_is_reached,
+    joined_prices_are_reached, prices_are_bounds, savings_are_bounds,
 };
 use mcf_places::{planners_are_models, sound_planners_have_sound_models};
 
@@ -66,6 +67,46 @@ pub fn joined_units_cost_that()
     planners_are_models();
     sound_planners_have_sound_models();
     joined_prices_are_reached();
+}
+
+/// In each plan in which a route carries more than in a least plan, each unit more costs at least
+/// what is told of the route.
+pub fn route_dearer_is_a_bound()
+    ensures { RouteDearerIsABound }
+{
+    planners_are_models();
+    sound_planners_have_sound_models();
+    dearer_is_a_bound();
+}
+
+/// If loose routes lead around a route, some plan in which it carries one unit more costs more by
+/// just what is told of it.
+pub fn joined_route_dearer_is_reached()
+    ensures { JoinedRouteDearerIsReached }
+{
+    planners_are_models();
+    sound_planners_have_sound_models();
+    joined_dearer_is_reached();
+}
+
+/// In each plan in which more passes through a place with bounds than in a least plan, each unit
+/// more costs at least what is told of the place.
+pub fn through_dearer_is_a_bound()
+    ensures { ThroughDearerIsABound }
+{
+    planners_are_models();
+    sound_planners_have_sound_models();
+    dearer_is_a_bound();
+}
+
+/// If loose routes lead around a place with bounds, some plan in which one unit more passes through
+/// it costs more by just what is told of it.
+pub fn joined_through_dearer_is_reached()
+    ensures { JoinedThroughDearerIsReached }
+{
+    planners_are_models();
+    sound_planners_have_sound_models();
+    joined_dearer_is_reached();
 }
 
 /// What `plan_figures` tells of a model of a problem are the figures of the problem that the other

@@ -17,6 +17,7 @@ struct FigureRow {
     free: [Option<i128>; 3],
     saves: [i128; 3],
     loose: [bool; 3],
+    dearer: [Option<i128>; 3],
     groups: [usize; 3],
 }
 
@@ -50,6 +51,7 @@ const ROWS: [FigureRow; 4] = [
         free: [Some(0), Some(5), Some(7)],
         saves: [5, 0, 0],
         loose: [false, true, true],
+        dearer: [None, Some(0), Some(0)],
         groups: [1, 1, 1],
     },
     // a step, and no limits
@@ -83,6 +85,7 @@ const ROWS: [FigureRow; 4] = [
         free: [None, None, None],
         saves: [0, 0, 0],
         loose: [false, true, true],
+        dearer: [Some(1), Some(0), Some(0)],
         groups: [1, 1, 1],
     },
     // a route both ways that is full on the way back
@@ -115,9 +118,11 @@ const ROWS: [FigureRow; 4] = [
         free: [Some(16), Some(0), Some(14)],
         saves: [0, 7, 0],
         loose: [true, false, true],
+        dearer: [Some(0), None, Some(0)],
         groups: [1, 1, 1],
     },
-    // a degenerate plan: the first route is full, and no unit is left for it
+    // a degenerate plan: the first route is full, and no unit is left for it; the prices are the
+    // greatest of those that are 0 at most
     FigureRow {
         supplies: [10, -10, 0],
         routes: [
@@ -146,6 +151,7 @@ const ROWS: [FigureRow; 4] = [
         free: [Some(0), Some(20), Some(5)],
         saves: [0, 0, 0],
         loose: [false, false, false],
+        dearer: [None, Some(2), Some(2)],
         groups: [1, 2, 3],
     },
 ];
@@ -174,6 +180,7 @@ fn are_as_said(alloc: Global, row: &FigureRow) -> Result<bool, NoMemory> {
             free: row.free[place],
             saves: row.saves[place],
             loose: row.loose[place],
+            dearer: row.dearer[place],
         };
         if route_figures(&model, prices, carries, place) != Some(want) {
             return Ok(false);

@@ -41,8 +41,14 @@ abbrev pub is_loose : Route → ℤ → ℤ → Bool
 is_loose r drop x =
     if r.both then is_between_both r.steps r.last_most r.last_cost x drop else is_between r.steps r.last_most r.last_cost r.least x drop
 
+-- how far the cost of one unit more than x is above the price drop, if it fits
+abbrev pub dearer_by : Route → ℤ → ℤ → Option ℤ
+dearer_by r drop x =
+    if fits_more r.steps r.last_most (charged r.both x) then Some (unit_cost r.steps r.last_cost (charged r.both x) -ℤ charged r.both drop) else None
+
 -- the figures of a route on which the price drops by so much
 pub record AreNumbers (r : Route) (x drop : ℤ) (f : RouteFigures) : Type 0 where
   pub free_is : f.free ≡ free r x
   pub saves_is : f.saves ≡ saving_if r.last_most (charged r.both drop -ℤ r.last_cost)
   pub loose_is : f.loose ≡ is_loose r drop x
+  pub dearer_is : f.dearer ≡ dearer_by r drop x

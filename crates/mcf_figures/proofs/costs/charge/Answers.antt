@@ -1,4 +1,4 @@
-use Rattle.std.proofs.Common.{rules, ◌≡◌, ◌∙◌, ap, arith, ◌<◌, ◌^◌, length, get_or, ℤ, pos, ◌+ℤ◌, ◌-ℤ◌, ◌≤ℤ◌, w64, FitsSigned, to_z, of_z}
+use Rattle.std.proofs.Common.{rules, ◌≡◌, ◌∙◌, ap, arith, ◌<◌, ◌^◌, length, get_or, pos, ◌+ℤ◌, ◌-ℤ◌, ◌≤ℤ◌, w64, FitsSigned, to_z, of_z}
 use Rattle.std.specs.Prelude.{◌*ℤ◌}
 use Rattle.std.specs.Int.{int_min, w128}
 use Rattle.std.proofs.lemmas.Int.{ints}
