@@ -23,7 +23,7 @@ use Rattle.mcf_places.specs.PlannerFaults.{IsLimitedThrough}
 use Rattle.mcf_places.specs.Planners.{EachPlace, Planner, given, place_sum, wanted}
 use Rattle.mcf_places.specs.Planning.{plan_in}
 use Rattle.mcf_places.specs.Throughput.{ample_limit, bounds_span, route_span, throughput, ways_span}
-use Rattle.mcf_places.proofs.LimitedPlans.{cost_limited, kept_finer, kept_limited, least_finer, least_limited, missing_limited}
+use Rattle.mcf_places.proofs.LimitedPlans.{cost_limited, kept_limited, least_finer, least_limited, missing_limited, same_finer}
 use Rattle.mcf_places.proofs.PlaceCuts.{when-none}
 use Rattle.mcf_places.proofs.PlaceSums.{place_sum-add}
 use Rattle.mcf_places.proofs.Shortages.{each_unmapped, place_sum-map}
@@ -316,7 +316,7 @@ module _ (P : Planner) where
         exit_by_place = h.exit_by_place ∙ length-map P.places (limited_place (limit_for P));
         is_bottleneck = bottleneck_less P (set_in b) (limit_for P) limit_low limit_enough b.side h.is_bottleneck;
         none = λ x is. h.none x (kept_limited P x is);
-        none_in_finer_units = λ k x k1 is. h.none_in_finer_units k x k1 (kept_finer k k1 P x is);
+        none_in_finer_units = λ k x k1 is. h.none_in_finer_units k x k1 ((same_finer k k1 P x).kept is);
       }
 
   pub answer_limited : (a : PlannerAnswer) → IsStagedAnswer (limited P) a → IsPlannerAnswer P a

@@ -17,7 +17,7 @@ use Rattle.mcf_model.proofs.FaultTests.{all_of, and_true, any_none, limited_from
 use Rattle.mcf_places.specs.declared.places.Bounds.{Bounds}
 use Rattle.mcf_places.specs.declared.places.Place.{Place}
 use Rattle.mcf_places.specs.FinerPlanners.{finer, finer_bounds, finer_place}
-use Rattle.mcf_places.specs.LimitedPlanners.{IsBelow, LimitsChangeNoPlan, PlansFillNoLimit, lacks_limits, limit_for, limited, limited_bounds, limited_place}
+use Rattle.mcf_places.specs.LimitedPlanners.{IsBelow, IsSamePlan, LimitsChangeNoPlan, PlansFillNoLimit, lacks_limits, limit_for, limited, limited_bounds, limited_place}
 use Rattle.mcf_places.specs.Planners.{EachPlace, IsAtMost, IsBalancedAt, IsLeastPlan, IsNoWorse, IsPlan, KeepsBounds, Plan, Planner, cost, has_penalties, misses_least, missing_cost, passes, place_sum, through_cost, total_missing}
 use Rattle.mcf_places.specs.Throughput.{ample_limit, bounds_span, place_span, route_span, steps_span, throughput, ways_span}
 use Rattle.mcf_places.proofs.FinerCuts.{limit_times, places_times, sum_times, when_times}
@@ -99,7 +99,7 @@ module _ (P : Planner) (limit : Option ℤ) (ample : IsAmple P limit) (x : Plan)
         keeps_bounds = keeps_less limit p.through (passes P x v p) h.keeps_bounds;
       }
 
-  pub kept_by : IsPlan P x → IsPlan (limited_by limit P) x
+  kept_by : IsPlan P x → IsPlan (limited_by limit P) x
   kept_by h =
       record {
         may_carry = h.may_carry;
@@ -132,6 +132,9 @@ module _ (P : Planner) (limit : Option ℤ) (ample : IsAmple P limit) (x : Plan)
       (λ v p a b. through_same limit p.through (passes P x v p))) in
       omega (arith, ints, places, place_sum-map (λ v p. missing_cost P.policy p *ℤ at_node x.missing v) (limited_place limit) 1 P.places)
 
+  same_by : IsSamePlan P (limited_by limit P) x
+  same_by = record { kept = kept_by; back = back_by; same_cost = cost_by; same_missing = missing_by }
+
 pub any_map : {X Y : Type 0} (f : X → Y) (p : X → Bool) (q : Y → Bool) → ((x : X) → q (f x) ≡ p x) → (xs : List X) → list_any q (map f xs) ≡ list_any p xs
 any_map f p q e [] = refl
 any_map f p q e (x ∷ xs) = ap (λ b. b || list_any q (map f xs)) (e x) ∙ ap (λ b. p x || b) (any_map f p q e xs)
@@ -143,7 +146,7 @@ has_penalties_limited limit ps = any_map (limited_place limit) (λ p. is_some p.
 penalties_by : (P : Planner) (limit : Option ℤ) → misses_least (limited_by limit P) ≡ misses_least P
 penalties_by P limit = ap (λ b. P.policy.short && not (is_some P.policy.penalty || b)) (has_penalties_limited limit P.places)
 
-pub least_by : (P : Planner) (limit : Option ℤ) → IsAmple P limit → (x : Plan) → IsLeastPlan (limited_by limit P) x → IsLeastPlan P x
+least_by : (P : Planner) (limit : Option ℤ) → IsAmple P limit → (x : Plan) → IsLeastPlan (limited_by limit P) x → IsLeastPlan P x
 least_by P limit ample x h =
     record {
       is_plan = back_by P limit ample x h.is_plan;
@@ -188,9 +191,6 @@ module _ (P : Planner) where
   pub kept_limited : (x : Plan) → IsPlan P x → IsPlan (limited P) x
   kept_limited x = kept_by P (limit_for P) limit_ample x
 
-  pub back_limited : (x : Plan) → IsPlan (limited P) x → IsPlan P x
-  back_limited x = back_by P (limit_for P) limit_ample x
-
   pub missing_limited : (x : Plan) → total_missing (limited P) x ≡ total_missing P x
   missing_limited x = missing_by P (limit_for P) limit_ample x
 
@@ -199,10 +199,6 @@ module _ (P : Planner) where
 
   pub least_limited : (x : Plan) → IsLeastPlan (limited P) x → IsLeastPlan P x
   least_limited x = least_by P (limit_for P) limit_ample x
-
-pub limits_change_no_plan_lem : LimitsChangeNoPlan
-limits_change_no_plan_lem P x =
-    record { kept = kept_limited P x; back = back_limited P x; same_cost = cost_limited P x; same_missing = missing_limited P x }
 
 pub plans_fill_no_limit_lem : PlansFillNoLimit
 plans_fill_no_limit_lem P x = below_limit P x
@@ -324,7 +320,11 @@ module _ (k : ℤ) (k1 : pos 1 ≤ℤ k) where
       least_by (finer k P) (option_map (λ m. k *ℤ m) (limit_for P)) (ample_finer P (limit_for P) (limit_ample P)) x
       (subst (λ R. IsLeastPlan R x) (limited_finer P (limit_for P)) h)
 
-  pub kept_finer : (P : Planner) (x : Plan) → IsPlan (finer k P) x → IsPlan (finer k (limited P)) x
-  kept_finer P x h =
-      subst (λ R. IsPlan R x) (sym (limited_finer P (limit_for P)))
-      (kept_by (finer k P) (option_map (λ m. k *ℤ m) (limit_for P)) (ample_finer P (limit_for P) (limit_ample P)) x h)
+  pub same_finer : (P : Planner) (x : Plan) → IsSamePlan (finer k P) (finer k (limited P)) x
+  same_finer P x =
+      subst (λ R. IsSamePlan (finer k P) R x) (sym (limited_finer P (limit_for P)))
+      (same_by (finer k P) (option_map (λ m. k *ℤ m) (limit_for P)) (ample_finer P (limit_for P) (limit_ample P)) x)
+
+pub limits_change_no_plan_lem : LimitsChangeNoPlan
+limits_change_no_plan_lem =
+    record { same = λ P x. same_by P (limit_for P) (limit_ample P) x; same_in_finer_units = λ k P x k1. same_finer k k1 P x }

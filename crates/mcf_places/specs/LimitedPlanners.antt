@@ -2,13 +2,14 @@
 -- its plans brings more to a place than all amounts of the problem together; so one more than that
 -- is a limit that changes no plan, and that no plan fills. It is needed where some cost is below 0.
 -- Source: own
-use Rattle.std.specs.Prelude.{◌≡◌, Bool, not, ◌&&◌, ◌||◌, List, map, ℤ, ◌<ℤ◌, if◌then◌else◌, Option, Some, None, option_map}
+use Rattle.std.specs.Prelude.{◌≡◌, Bool, not, ◌&&◌, ◌||◌, List, map, ℤ, pos, ◌≤ℤ◌, ◌<ℤ◌, if◌then◌else◌, Option, Some, None, option_map}
 use Rattle.std.specs.List.{list_any}
 use Rattle.std.specs.Option.{is_none, option_or}
 use Rattle.mcf_model.specs.Faults.{earns}
 use Rattle.mcf_model.specs.Model.{Route}
 use Rattle.mcf_places.specs.declared.places.Bounds.{Bounds}
 use Rattle.mcf_places.specs.declared.places.Place.{Place}
+use Rattle.mcf_places.specs.FinerPlanners.{finer}
 use Rattle.mcf_places.specs.PlannerFaults.{is_open, place_earns}
 use Rattle.mcf_places.specs.Planners.{EachPlace, IsPlan, Plan, Planner, cost, passes, total_missing}
 use Rattle.mcf_places.specs.Throughput.{ample_limit}
@@ -47,15 +48,16 @@ limited P =
 -- ---- it is the same problem
 
 -- a plan of either problem is one of the other, at the same cost, and the same is missing
-pub record IsSamePlan (P : Planner) (x : Plan) : Type 0 where
-  pub kept : IsPlan P x → IsPlan (limited P) x
-  pub back : IsPlan (limited P) x → IsPlan P x
-  pub same_cost : cost (limited P) x ≡ cost P x
-  pub same_missing : total_missing (limited P) x ≡ total_missing P x
+pub record IsSamePlan (P Q : Planner) (x : Plan) : Type 0 where
+  pub kept : IsPlan P x → IsPlan Q x
+  pub back : IsPlan Q x → IsPlan P x
+  pub same_cost : cost Q x ≡ cost P x
+  pub same_missing : total_missing Q x ≡ total_missing P x
 
--- limits change no plan
-abbrev pub LimitsChangeNoPlan : Type 0
-LimitsChangeNoPlan = (P : Planner) (x : Plan) → IsSamePlan P x
+-- limits change no plan, in finer units either
+pub record LimitsChangeNoPlan : Type 0 where
+  pub same : (P : Planner) (x : Plan) → IsSamePlan P (limited P) x
+  pub same_in_finer_units : (k : ℤ) (P : Planner) (x : Plan) → pos 1 ≤ℤ k → IsSamePlan (finer k P) (finer k (limited P)) x
 
 -- ---- no plan fills its limits
 

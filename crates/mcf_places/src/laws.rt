@@ -18,7 +18,8 @@ pub fn least_model_plans_are_least()
     ensures { LeastModelPlansAreLeast }
 {}
 
-/// The limits that bounds get where they need one and have none change no plan.
+/// The limits that bounds get where they need one and have none change no plan, in finer units
+/// either.
 pub fn limits_change_no_plan()
     ensures { LimitsChangeNoPlan }
 {}

@@ -5,3 +5,6 @@ mod Units
 mod ToldFigures
 mod ToldLaws
 mod DearerPlans
+mod UnfilledRoutes
+mod LimitedModels
+mod OwnFigures

@@ -1,12 +1,9 @@
 -- What is told of the model of a problem is told of the problem.
-use Rattle.std.proofs.Common.{◌≡◌, ℕ, zero, suc, ◌+◌, ◌-◌, ◌<◌, true, List, [], ◌∷◌, ◌++◌, length, map, get_or, take, refl, ap, sym, ◌∙◌, arith, ℤ, pos, ◌+ℤ◌, ◌-ℤ◌, int_lt, if◌then◌else◌}
+use Rattle.std.proofs.Common.{◌≡◌, ℕ, zero, suc, ◌+◌, ◌-◌, ◌<◌, true, List, [], ◌∷◌, ◌++◌, length, map, get_or, take, refl, ap, sym, ◌∙◌, arith, ℤ, pos, int_lt, if◌then◌else◌}
 use Rattle.std.specs.Prelude.{IfSome, Option, Some, None, option_map}
-use Rattle.std.specs.Option.{is_some, option_to_list}
-use Rattle.std.proofs.Math.IntN.{◌*ℤ◌}
-use Rattle.std.proofs.lemmas.Int.{ints}
-use Rattle.std.proofs.lemmas.List.{get_or-append_right, get_or-take, get_or_append_left, length-map}
+use Rattle.std.specs.Option.{option_to_list}
+use Rattle.std.proofs.lemmas.List.{get_or-append_right, get_or-take, get_or_append_left}
 use Rattle.mcf_flows.proofs.AllZips.{length-AllZip}
-use Rattle.mcf_flows.proofs.IntLaws.{mul-add, mul-one}
 use Rattle.mcf_flows.specs.Network.{IsNode, at_node}
 use Rattle.mcf_model.specs.Model.{IsPlan as IsModelPlan, MayCarry, Route}
 use Rattle.mcf_model.specs.Tables.{route_at}
@@ -18,10 +15,11 @@ use Rattle.mcf_places.specs.LimitedPlanners.{limit_for, limited, limited_bounds,
 use Rattle.mcf_places.specs.Models.{amounts_by, exit_of, hub_of, missing_route, model_of, place_at, plain_route, plan_of, routes_by, routes_of, stay_route, through_route, with_first}
 use Rattle.mcf_places.specs.PlannerLaws.{IsSound, PlannersAreModels, has_bounds}
 use Rattle.mcf_places.specs.Planners.{Plan, Planner, passes, total_missing}
-use Rattle.mcf_plan_figures.specs.PlannerFigures.{home_of, route_dearer, route_saves, through_dearer, through_drop, through_number, through_saves}
+use Rattle.mcf_plan_figures.specs.PlannerFigures.{home_of, route_dearer, route_saves, through_dearer, through_number, through_saves}
 use Rattle.mcf_plan_figures.specs.Told.{ToldFiguresAreThePlanners, by_own_limit, pass_told, place_told, way_told}
+use Rattle.mcf_plan_figures.proofs.LimitedModels.{limited_at, same_exit}
 use Rattle.mcf_plan_figures.proofs.RouteRooms.{route_is}
-use Rattle.mcf_plan_figures.proofs.ThroughRooms.{T, bounds_of, exit_by_some, through_route_is}
+use Rattle.mcf_plan_figures.proofs.ThroughRooms.{T, bounds_of, through_route_is}
 use Rattle.mcf_plan_figures.proofs.ToldFigures.{first_length}
 
 abbrev no_place : Place
@@ -108,40 +106,29 @@ route_dearer_is most P s groups k e h =
     ap (λ m. dearer prices (route_at m k) (amount_at carries k)) e ∙ ap (λ (r : Route). dearer prices r (amount_at carries k)) (route_is most P k h)
     ∙ sym (ap (route_dearer prices P k) (get_or-take (length P.routes) carries (k - 1) (pos 0) (omega (arith, h.0, h.1))))
 
--- what passes through place v, if the price drops by so much on the model's route k
-pass_dearer : (prices : List ℤ) (s : ShownModel) (groups : List ℕ) (places v k : ℕ) (b : Bounds) (most : Option ℤ)
-    → (way_told s groups k).dearer ≡ dearer prices (plain_route v (places + 2 + v) b.least most b.cost) (amount_at s.carries.items k)
-    → (by_own_limit most (b.cost -ℤ through_drop prices places v) (way_told s groups k)).dearer
-    ≡ dearer prices (plain_route v (places + 2 + v) b.least most b.cost) (amount_at s.carries.items k)
-pass_dearer prices s groups places v k b (Some most) is = is
-pass_dearer prices s groups places v k b None is =
-    let x = amount_at s.carries.items k in
-    let next : b.cost ≡ b.cost *ℤ (x +ℤ pos 1) -ℤ b.cost *ℤ x = omega (arith, ints, mul-add b.cost x (pos 1), mul-one b.cost) in
-    ap (λ z. Some (z -ℤ through_drop prices places v)) next
+pass_dearer : (s : ShownModel) (groups : List ℕ) (k : ℕ) (most : Option ℤ) → (by_own_limit most (way_told s groups k)).dearer ≡ (way_told s groups k).dearer
+pass_dearer s groups k (Some most) = refl
+pass_dearer s groups k None = refl
 
 through_dearer_is : (most : ℤ) (P : Planner) (s : ShownModel) (groups : List ℕ) (v : ℕ) → s.model ≡ model_of most P → IsNode (length P.places) v
     → IfSome (place_told P s groups v).passes (λ f. f.row.dearer ≡ through_dearer s.prices.items (length P.places) v (place_at P.places v).through f.amount)
 through_dearer_is most P s groups v e h = go (place_at P.places v).through refl
   where
     go : (o : Option Bounds) → (place_at P.places v).through ≡ o
-        → IfSome (pass_told s groups (through_number P v) (through_drop s.prices.items (length P.places) v) o)
+        → IfSome (pass_told s groups (through_number P v) o)
         (λ f. f.row.dearer ≡ through_dearer s.prices.items (length P.places) v o f.amount)
     go None f = tt
     go (Some b) f =
         let prices = s.prices.items in
         let x = amount_at s.carries.items (through_number P v) in
-        pass_dearer prices s groups (length P.places) v (through_number P v) b b.most
-        (ap (λ m. dearer prices (route_at m (through_number P v)) x) e ∙ ap (λ (r : Route). dearer prices r x) (through_route_is most P v h b f))
+        pass_dearer s groups (through_number P v) b.most
+        ∙ (ap (λ m. dearer prices (route_at m (through_number P v)) x) e ∙ ap (λ (r : Route). dearer prices r x) (through_route_is most P v h b f))
 
 -- ---- bounds with limits
 
 as_many : (limit : Option ℤ) (o : Option Bounds) → length (option_to_list (option_map (limited_bounds limit) o)) ≡ length (option_to_list o)
 as_many limit (Some b) = refl
 as_many limit None = refl
-
-still_some : (limit : Option ℤ) (o : Option Bounds) → is_some (option_map (limited_bounds limit) o) ≡ is_some o
-still_some limit (Some b) = refl
-still_some limit None = refl
 
 same_count : (qs rs : List Place) (limit : Option ℤ) (v : ℕ) (ps : List Place) (i : ℕ)
     → length (routes_by (through_route qs) v (take i (map (limited_place limit) ps))) ≡ length (routes_by (through_route rs) v (take i ps))
@@ -158,23 +145,15 @@ same_count qs rs limit v (p ∷ ps) (suc i) =
       same_count qs rs limit (suc v) ps i,
     )
 
-same_number : (P : Planner) (v : ℕ) → through_number (limited P) v ≡ through_number P v
+pub same_number : (P : Planner) (v : ℕ) → through_number (limited P) v ≡ through_number P v
 same_number P v = ap (λ k. suc (length P.routes + k)) (same_count (limited P).places P.places (limit_for P) 1 P.places (v - 1))
-
-limited_at : (limit : Option ℤ) (ps : List Place) (i : ℕ) → get_or (map (limited_place limit) ps) i no_place ≡ limited_place limit (get_or ps i no_place)
-limited_at limit [] i = refl
-limited_at limit (p ∷ ps) zero = refl
-limited_at limit (p ∷ ps) (suc i) = limited_at limit ps i
 
 same_home : (P : Planner) (v : ℕ) → home_of (limited P) v ≡ home_of P v
 same_home P v =
     let qs = (limited P).places in
     let at = limited_at (limit_for P) P.places (v - 1) in
     let supply = ap (λ (p : Place). p.supply) at in
-    let some = ap (λ (p : Place). is_some p.through) at ∙ still_some (limit_for P) (place_at P.places v).through in
-    let exit : exit_of qs v ≡ exit_of P.places v =
-    exit_by_some (length qs) (length P.places) v (place_at qs v).through (place_at P.places v).through (length-map P.places (limited_place (limit_for P))) some in
-    ap (λ z. if int_lt (pos 0) z then v else exit_of qs v) supply ∙ ap (λ e. if int_lt (pos 0) (place_at P.places v).supply then v else e) exit
+    ap (λ z. if int_lt (pos 0) z then v else exit_of qs v) supply ∙ ap (λ e. if int_lt (pos 0) (place_at P.places v).supply then v else e) (same_exit P v)
 
 pub told_figures_are_the_planners_lem : PlannersAreModels → ToldFiguresAreThePlanners
 told_figures_are_the_planners_lem law =

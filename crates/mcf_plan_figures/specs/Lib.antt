@@ -6,3 +6,4 @@ pub mod Changes
 pub mod PlannerFigures
 pub mod PlannerFigureLaws
 pub mod Told
+pub mod OwnFigures

@@ -1,8 +1,7 @@
 -- The figures of a planner's problem, by a plan of its model and prices that show it.
 -- Source: own
-use Rattle.std.specs.Prelude.{ℕ, suc, ◌+◌, ◌-◌, List, length, take, if◌then◌else◌, int_lt, ℤ, pos, ◌-ℤ◌, Option, Some, None}
+use Rattle.std.specs.Prelude.{ℕ, suc, ◌+◌, ◌-◌, List, length, take, if◌then◌else◌, int_lt, ℤ, pos, Option, Some, None}
 use Rattle.mcf_figures.specs.Figures.{dearer, saving}
-use Rattle.mcf_flows.specs.Network.{at_node}
 use Rattle.mcf_places.specs.declared.places.Bounds.{Bounds}
 use Rattle.mcf_places.specs.Models.{exit_of, from_exit, place_at, plain_route, routes_by, through_route}
 use Rattle.mcf_places.specs.Planners.{Planner}
@@ -25,10 +24,6 @@ route_dearer prices P k x = dearer prices (from_exit P.places (route_in P k)) x
 abbrev pub through_dearer : List ℤ → ℕ → ℕ → Option Bounds → ℤ → Option ℤ
 through_dearer prices places v (Some b) x = dearer prices (plain_route v (places + 2 + v) b.least b.most b.cost) x
 through_dearer prices places v None x = None
-
--- how far the price of the entry of a place with bounds is above that of its exit
-abbrev pub through_drop : List ℤ → ℕ → ℕ → ℤ
-through_drop prices places v = at_node prices v -ℤ at_node prices (places + 2 + v)
 
 -- the number of the model's route for what passes through place v: it comes after the routes, and
 -- after those for the places with bounds before v

@@ -1,7 +1,7 @@
 -- What is told of the routes and the places of a planner's least plan. `s` is the model that it was
 -- found in, with its plan and with prices that show that plan.
 -- Source: own
-use Rattle.std.specs.Prelude.{◌≡◌, ℕ, ◌+◌, Bool, true, ◌&&◌, if◌then◌else◌, IfSome, List, [], length, map, ℤ, pos, neg_ℤ, ◌-ℤ◌, Option, Some, None}
+use Rattle.std.specs.Prelude.{◌≡◌, ℕ, ◌+◌, Bool, true, ◌&&◌, if◌then◌else◌, IfSome, List, [], length, map, ℤ, neg_ℤ, Option, Some, None}
 use Rattle.std.specs.List.{range_with_len}
 use Rattle.mcf_figures.specs.declared.rows.RowFigures.{RowFigures}
 use Rattle.mcf_figures.specs.Figures.{amount_at}
@@ -20,7 +20,7 @@ use Rattle.mcf_places.specs.Planners.{Planner, passes}
 use Rattle.mcf_plan_figures.specs.declared.figures.PassFigures.{PassFigures}
 use Rattle.mcf_plan_figures.specs.declared.figures.PlaceFigures.{PlaceFigures}
 use Rattle.mcf_plan_figures.specs.Changes.{route_in}
-use Rattle.mcf_plan_figures.specs.PlannerFigures.{home_of, route_dearer, route_saves, through_dearer, through_drop, through_number, through_saves}
+use Rattle.mcf_plan_figures.specs.PlannerFigures.{home_of, route_dearer, route_saves, through_dearer, through_number, through_saves}
 
 -- the test of prices and amounts that are all within the limit of figures
 abbrev pub has_figures : ShownModel → Bool
@@ -34,17 +34,15 @@ groups_in s = groups_by s.prices.items s.model s.carries.items
 abbrev pub way_told : ShownModel → List ℕ → ℕ → RowFigures
 way_told s groups k = row_told s.model s.prices.items s.carries.items groups k
 
--- the same, but nothing is full that has no limit of its own: then one unit more costs `above` more
-abbrev pub by_own_limit : Option ℤ → ℤ → RowFigures → RowFigures
-by_own_limit (Some most) above told = told
-by_own_limit None above told = record { cost = told.cost; free = None; saves = pos 0; exact = true; dearer = Some above }
+-- the same, but what has no limit of its own may carry any amount more
+abbrev pub by_own_limit : Option ℤ → RowFigures → RowFigures
+by_own_limit (Some most) told = told
+by_own_limit None told = record { cost = told.cost; free = None; saves = told.saves; exact = told.exact; dearer = told.dearer }
 
--- what is told of what passes through a place, if it has bounds: the model's route k carries that,
--- and the price drops by so much on it
-abbrev pub pass_told : ShownModel → List ℕ → ℕ → ℤ → Option Bounds → Option PassFigures
-pass_told s groups k drop (Some b) =
-    Some (record { amount = amount_at s.carries.items k; row = by_own_limit b.most (b.cost -ℤ drop) (way_told s groups k) })
-pass_told s groups k drop None = None
+-- what is told of what passes through a place, if it has bounds: the model's route k carries that
+abbrev pub pass_told : ShownModel → List ℕ → ℕ → Option Bounds → Option PassFigures
+pass_told s groups k (Some b) = Some (record { amount = amount_at s.carries.items k; row = by_own_limit b.most (way_told s groups k) })
+pass_told s groups k None = None
 
 -- what is told of place v: what one more unit of demand costs there, its group, and what passes
 abbrev pub place_told : Planner → ShownModel → List ℕ → ℕ → PlaceFigures
@@ -52,7 +50,7 @@ place_told P s groups v =
     record {
       costs = neg_ℤ (at_node s.prices.items (home_of P v));
       group = group_at groups (home_of P v);
-      passes = pass_told s groups (through_number P v) (through_drop s.prices.items (length P.places) v) (place_at P.places v).through;
+      passes = pass_told s groups (through_number P v) (place_at P.places v).through;
     }
 
 -- what is told of all routes, in order; nothing, if numbers are beyond the limit

@@ -1,5 +1,6 @@
 //! Laws about the figures of planners' plans. Each is the contract of a function that only cites
 //! other laws.
+ghost use Rattle.mcf_plan_figures.specs.OwnFigures.{LimitsChangeNoFigure};
 ghost use Rattle.mcf_plan_figures.specs.PlannerFigureLaws.{ExactRouteSavingsAreReached, ExactThroughSavingsAreReached, JoinedRouteDearerIsReached, JoinedThroughDearerIsReached, JoinedUnitsCostThat, RouteDearerIsABound, RouteSavingsAreBounds, ThroughDearerIsABound, ThroughSavingsAreBounds, UnitsCostNoLess};
 ghost use Rattle.mcf_plan_figures.specs.Told.{ToldFiguresAreThePlanners};
 
@@ -7,7 +8,10 @@ use mcf_figures::{
     dearer_is_a_bound, exact_savings_are_reached, joined_dearer_is_reached,
     joined_prices_are_reached, prices_are_bounds, savings_are_bounds,
 };
-use mcf_places::{planners_are_models, sound_planners_have_sound_models};
+use mcf_places::{
+    limits_change_no_plan, planners_are_models, plans_fill_no_limit,
+    sound_planners_have_sound_models,
+};
 
 /// With one more unit of room on a route, no plan costs less than a least plan by more than the
 /// saving of that route.
@@ -115,4 +119,15 @@ pub fn told_figures_are_the_planners()
     ensures { ToldFiguresAreThePlanners }
 {
     planners_are_models();
+}
+
+/// The prices of a least plan show it in the model of the problem itself, too, where bounds without
+/// a limit have none; and all that `plan_figures` tells by the model that the plan was found in is
+/// told by that model.
+pub fn limits_change_no_figure()
+    ensures { LimitsChangeNoFigure }
+{
+    planners_are_models();
+    limits_change_no_plan();
+    plans_fill_no_limit();
 }

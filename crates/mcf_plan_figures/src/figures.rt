@@ -1,14 +1,13 @@
 //! The figures of a planner's least plan.
-ghost use Rattle.std.specs.Prelude.{◌≡◌, ℕ, ◌+◌, ◌^◌, ◌<◌, ◌≤◌, ◌*◌, ◌↔◌, ◌⊎◌, ◌-ℤ◌, IfOk, IsTrue, OnErr, Some, if◌then◌else◌, int_lt, length, map, neg_ℤ, pos, true};
+ghost use Rattle.std.specs.Prelude.{◌≡◌, ℕ, ◌+◌, ◌^◌, ◌<◌, ◌≤◌, ◌↔◌, ◌⊎◌, IfOk, IsTrue, OnErr, Some, if◌then◌else◌, int_lt, length, map, neg_ℤ, pos, true};
 ghost use Rattle.std.specs.List.{range_with_len};
 ghost use Rattle.std.specs.Option.{option_to_list};
 ghost use Rattle.mcf_flows.specs.Network.{at_node};
-ghost use Rattle.mcf_flows.specs.WellFormed.{IsUpTo};
 ghost use Rattle.mcf_model.specs.Tables.{IsRouteNumber};
-ghost use Rattle.mcf_figures.specs.Figures.{IsExact, figure_limit};
+ghost use Rattle.mcf_figures.specs.Figures.{IsExact};
 ghost use Rattle.mcf_figures.specs.Groups.{AreGroups, group_at};
 ghost use Rattle.mcf_places.specs.Models.{exit_by};
-ghost use Rattle.mcf_plan_figures.specs.PlannerFigures.{through_drop, through_number};
+ghost use Rattle.mcf_plan_figures.specs.PlannerFigures.{through_number};
 ghost use Rattle.mcf_plan_figures.specs.Told.{by_own_limit, groups_in, has_figures, pass_told, place_told, places_told, routes_told, way_told};
 
 use mcf_figures::{RowFigures, are_small, groups_of, row_figures};
@@ -119,39 +118,13 @@ fn home_of(places: usize, row: usize, place: Place) -> usize
     }
 }
 
-// Returns how far the price of the entry of the place of a row is above that of its exit.
-fn through_drop(shown: &ShownModel, places: usize, row: usize) -> i128
-    requires figures { has_figures shown.now ≡ true }
-    requires few { places ≤ PLACE_LIMIT }
-    requires inside { row ≤ places }
-    ensures value { result ≡ through_drop shown.now.prices.items places row }
-    ensures small { IsUpTo (2 * figure_limit) result }
-{
-    number_at(&shown.prices, row) - number_at(&shown.prices, places + 2 + row)
-}
-
-// Returns how far the cost of a unit is above the price drop.
-fn above(cost: i64, drop: i128) -> i128
-    requires { IsUpTo (2 * figure_limit) drop }
-    ensures { result ≡ cost -ℤ drop }
-{
-    i128::from(cost) - drop
-}
-
-// Returns what is told, if there is a limit, or if there is none, so that one unit more costs
-// `above` more.
-fn by_own_limit(most: Option<i64>, above: i128, told: RowFigures) -> RowFigures
-    ensures { result ≡ by_own_limit most above told }
+// Returns what is told, if there is a limit, or if there is none.
+fn by_own_limit(most: Option<i64>, told: RowFigures) -> RowFigures
+    ensures { result ≡ by_own_limit most told }
 {
     match most {
         Some(_) => told,
-        None => RowFigures {
-            free: None,
-            saves: 0,
-            exact: true,
-            dearer: Some(above),
-            ..told
-        },
+        None => RowFigures { free: None, ..told },
     }
 }
 
@@ -160,22 +133,16 @@ fn pass_told(
     shown: &ShownModel,
     groups: &[usize],
     number: usize,
-    drop: i128,
     through: Option<Bounds>,
 ) -> Option<PassFigures>
-    requires figures { has_figures shown.now ≡ true }
-    requires drop { IsUpTo (2 * figure_limit) drop }
-    ensures { result ≡ pass_told shown.now groups.now number drop through }
+    requires { has_figures shown.now ≡ true }
+    ensures { result ≡ pass_told shown.now groups.now number through }
 {
     match through {
-        Some(bounds) => {
-            let told = way_told(shown, groups, number);
-            let above = above(bounds.cost, drop);
-            Some(PassFigures {
-                amount: number_at(&shown.carries, number),
-                row: by_own_limit(bounds.most, above, told),
-            })
-        }
+        Some(bounds) => Some(PassFigures {
+            amount: number_at(&shown.carries, number),
+            row: by_own_limit(bounds.most, way_told(shown, groups, number)),
+        }),
         None => None,
     }
 }
@@ -200,8 +167,7 @@ fn place_told(
     let home = home_of(places.len(), row, place);
     let costs = demand_cost(shown, home);
     let group = group_at(groups, home);
-    let drop = through_drop(shown, places.len(), row);
-    let passes = pass_told(shown, groups, number, drop, place.through);
+    let passes = pass_told(shown, groups, number, place.through);
     PlaceFigures {
         costs,
         group,
