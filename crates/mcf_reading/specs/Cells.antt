@@ -42,6 +42,10 @@ as_limit (Err fault) = Err fault
 unfoldable pub read_limit : Option Mark → List ℕ → Result (Option Decimal) NumberFault
 read_limit mark cell = if is_no_limit cell then Ok None else as_limit (read_number mark cell)
 
+-- a penalty, or none if the cell is empty
+unfoldable pub read_penalty : Option Mark → List ℕ → Result (Option Decimal) NumberFault
+read_penalty mark cell = if is_filled cell then as_limit (read_number mark cell) else Ok None
+
 -- the number; 0 if the cell wasn't read
 abbrev pub amount : Result Decimal NumberFault → Decimal
 amount (Ok number) = number

@@ -9,7 +9,7 @@ use Rattle.mcf_reading.specs.declared.columns.PlaceColumns.{PlaceColumns}
 use Rattle.mcf_reading.specs.declared.columns.RouteColumns.{RouteColumns}
 use Rattle.mcf_reading.specs.declared.columns.StepColumns.{StepColumns}
 use Rattle.mcf_reading.specs.declared.locations.Head.{Head}
-use Rattle.mcf_reading.specs.declared.locations.Head.TheVariants.{Name, Supply, Least, Most, Cost, From, To, Both}
+use Rattle.mcf_reading.specs.declared.locations.Head.TheVariants.{Name, Supply, Least, Most, Cost, Penalty, From, To, Both}
 
 -- the place of a column, if just one has its head
 abbrev pub only_place : Column → Option ℕ
@@ -29,6 +29,7 @@ place_columns records = record {
   least = place_under records Least;
   most = place_under records (Most 1);
   cost = place_under records (Cost 1);
+  penalty = place_under records Penalty;
 }
 
 -- the columns of the table of routes, without those of steps

@@ -1,6 +1,6 @@
 -- Faults at their places, and those of heads.
 -- Source: own
-use Rattle.std.specs.Prelude.{ℕ, Bool, true, false, if◌then◌else◌, List, [], ◌∷◌, ◌++◌, map, Option, Some, None}
+use Rattle.std.specs.Prelude.{ℕ, Bool, true, false, if◌then◌else◌, List, [], ◌∷◌, map, Option, Some, None}
 use Rattle.std.specs.List.{flat_map}
 use Rattle.mcf_table.specs.Heads.{beyond}
 use Rattle.mcf_table.specs.Texts.{Record}

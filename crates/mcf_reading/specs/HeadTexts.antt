@@ -7,7 +7,7 @@ use Rattle.mcf_table.specs.Texts.{Record}
 use Rattle.mcf_table.specs.declared.heads.Column.{Column}
 use Rattle.mcf_table.specs.declared.heads.Column.TheVariants.{Missing, Twice, At}
 use Rattle.mcf_reading.specs.declared.locations.Head.{Head}
-use Rattle.mcf_reading.specs.declared.locations.Head.TheVariants.{Name, Supply, Least, Most, Cost, From, To, Both}
+use Rattle.mcf_reading.specs.declared.locations.Head.TheVariants.{Name, Supply, Least, Most, Cost, Penalty, From, To, Both}
 use Rattle.mcf_reading.specs.declared.locations.Table.{Table}
 use Rattle.mcf_reading.specs.declared.locations.Table.TheVariants.{Places, Routes}
 
@@ -18,6 +18,7 @@ head_word Supply = codes "supply"
 head_word Least = codes "least"
 head_word (Most step) = codes "most"
 head_word (Cost step) = codes "cost"
+head_word Penalty = codes "penalty"
 head_word From = codes "from"
 head_word To = codes "to"
 head_word Both = codes "both"
@@ -66,7 +67,7 @@ step_heads step = Most step ∷ Cost step ∷ []
 
 -- the heads that are looked for in the table of places
 abbrev pub place_heads : List Head
-place_heads = Name ∷ Supply ∷ Least ∷ Most 1 ∷ Cost 1 ∷ []
+place_heads = Name ∷ Supply ∷ Least ∷ Most 1 ∷ Cost 1 ∷ Penalty ∷ []
 
 -- the heads that are looked for in the table of routes, without those of further steps
 abbrev pub first_route_heads : List Head

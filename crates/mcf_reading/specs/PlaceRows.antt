@@ -8,13 +8,13 @@ use Rattle.mcf_names.specs.NameFaults.{name_fault}
 use Rattle.mcf_names.specs.Names.{number_of}
 use Rattle.mcf_table.specs.Heads.{cells_of}
 use Rattle.mcf_table.specs.Texts.{Record, is_filled}
-use Rattle.mcf_reading.specs.Cells.{amount, cell_at, limit, number_kind, read_amount, read_limit, rows}
+use Rattle.mcf_reading.specs.Cells.{amount, cell_at, limit, number_kind, read_amount, read_limit, read_penalty, rows}
 use Rattle.mcf_reading.specs.Faults.{told, under}
 use Rattle.mcf_reading.specs.declared.columns.PlaceColumns.{PlaceColumns}
 use Rattle.mcf_reading.specs.declared.kinds.Fault.{Fault}
 use Rattle.mcf_reading.specs.declared.kinds.FaultKind.{FaultKind}
 use Rattle.mcf_reading.specs.declared.kinds.FaultKind.TheVariants.{Name as BadName, Twice}
-use Rattle.mcf_reading.specs.declared.locations.Head.TheVariants.{Name, Supply, Least, Most, Cost}
+use Rattle.mcf_reading.specs.declared.locations.Head.TheVariants.{Name, Supply, Least, Most, Cost, Penalty}
 use Rattle.mcf_reading.specs.declared.locations.Table.TheVariants.{Places}
 use Rattle.mcf_reading.specs.declared.place_rows.BoundsEntry.{BoundsEntry}
 use Rattle.mcf_reading.specs.declared.place_rows.BoundsRead.{BoundsRead}
@@ -54,6 +54,7 @@ unfoldable pub read_place : Option Mark → PlaceColumns → List (List ℕ) →
 read_place mark columns cells = record {
   supply = read_amount mark (cell_at cells columns.supply);
   through = read_bounds mark (cell_at cells columns.least) (cell_at cells columns.most) (cell_at cells columns.cost);
+  penalty = read_penalty mark (cell_at cells columns.penalty);
 }
 
 -- bounds, with 0 for what wasn't read
@@ -62,7 +63,7 @@ bounds_entry read = record { least = amount read.least; most = limit read.most; 
 
 -- a place, with 0 for what wasn't read
 unfoldable pub place_entry : PlaceRead → PlaceEntry
-place_entry read = record { supply = amount read.supply; through = option_map bounds_entry read.through }
+place_entry read = record { supply = amount read.supply; through = option_map bounds_entry read.through; penalty = limit read.penalty }
 
 -- the faults of bounds
 abbrev pub bounds_faults : ℕ → Option BoundsRead → List Fault
@@ -75,7 +76,8 @@ bounds_faults row (Some read) =
 -- the faults of a row's numbers
 unfoldable pub place_number_faults : ℕ → PlaceRead → List Fault
 place_number_faults row read =
-    told (under Places row Supply) (number_kind (result_err read.supply)) ++ bounds_faults row read.through
+    told (under Places row Supply) (number_kind (result_err read.supply))
+    ++ (bounds_faults row read.through ++ told (under Places row Penalty) (number_kind (result_err read.penalty)))
 
 -- the faults of a row's name
 unfoldable pub place_name_faults : List (List ℕ) → ℕ → List ℕ → List Fault

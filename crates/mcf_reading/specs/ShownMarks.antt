@@ -16,14 +16,14 @@ use Rattle.mcf_reading.specs.declared.columns.NumberColumn.{NumberColumn}
 use Rattle.mcf_reading.specs.declared.kinds.Fault.{Fault}
 use Rattle.mcf_reading.specs.declared.kinds.FaultKind.TheVariants.{BothMarks}
 use Rattle.mcf_reading.specs.declared.locations.Head.{Head}
-use Rattle.mcf_reading.specs.declared.locations.Head.TheVariants.{Supply, Least, Most, Cost}
+use Rattle.mcf_reading.specs.declared.locations.Head.TheVariants.{Supply, Least, Most, Cost, Penalty}
 use Rattle.mcf_reading.specs.declared.locations.Location.{Location}
 use Rattle.mcf_reading.specs.declared.locations.Table.{Table}
 use Rattle.mcf_reading.specs.declared.locations.Table.TheVariants.{Places, Routes}
 
 -- the heads of the columns of numbers in the table of places, in the order in which cells are read
 abbrev pub place_number_heads : List Head
-place_number_heads = Supply ∷ Least ∷ Most 1 ∷ Cost 1 ∷ []
+place_number_heads = Supply ∷ Least ∷ Most 1 ∷ Cost 1 ∷ Penalty ∷ []
 
 -- those of the table of routes
 abbrev pub route_number_heads : List Record → List Head

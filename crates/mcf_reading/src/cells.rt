@@ -3,7 +3,7 @@ ghost use Rattle.std.specs.Prelude.{◌≡◌, ◌-◌, ◌<◌, length};
 ghost use Rattle.std.specs.Str.{str_eq_ignore_ascii_case};
 ghost use Rattle.mcf_table.specs.Heads.{cells_of};
 ghost use Rattle.mcf_table.specs.Texts.{is_filled};
-ghost use Rattle.mcf_reading.specs.Cells.{amount, as_limit, cell_at, is_among, is_no_limit, is_unclear, is_yes, limit, no_words, number_kind, read_amount, read_limit, way_kind, zero_decimal};
+ghost use Rattle.mcf_reading.specs.Cells.{amount, as_limit, cell_at, is_among, is_no_limit, is_unclear, is_yes, limit, no_words, number_kind, read_amount, read_limit, read_penalty, way_kind, zero_decimal};
 
 use crate::kinds::FaultKind;
 use mcf_decimal::{Decimal, Mark, NumberFault, number};
@@ -83,6 +83,18 @@ pub(crate) fn read_limit(mark: Option<Mark>, cell: &[u8]) -> Result<Option<Decim
         Ok(None)
     } else {
         as_limit(number(cell, mark))
+    }
+}
+
+// The penalty in a cell, or none if it is empty.
+#[tactic(auto, unfolding(crate::specs::Cells::read_penalty))]
+pub(crate) fn read_penalty(mark: Option<Mark>, cell: &[u8]) -> Result<Option<Decimal>, NumberFault>
+    ensures { result ≡ read_penalty mark cell.now }
+{
+    if is_filled(cell) {
+        as_limit(number(cell, mark))
+    } else {
+        Ok(None)
     }
 }
 

@@ -17,6 +17,7 @@ pub(crate) struct PlaceColumns {
     pub(crate) least: Option<usize>,
     pub(crate) most: Option<usize>,
     pub(crate) cost: Option<usize>,
+    pub(crate) penalty: Option<usize>,
 }
 
 // The places of the columns of the table of routes, without those of steps, from 0; `None` for a
@@ -72,12 +73,14 @@ pub(crate) fn place_columns(alloc: Global, records: &Records) -> Result<PlaceCol
     let least = place_under(alloc, records, Head::Least)?;
     let most = place_under(alloc, records, Head::Most(1))?;
     let cost = place_under(alloc, records, Head::Cost(1))?;
+    let penalty = place_under(alloc, records, Head::Penalty)?;
     Ok(PlaceColumns {
         name,
         supply,
         least,
         most,
         cost,
+        penalty,
     })
 }
 

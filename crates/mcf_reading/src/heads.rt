@@ -10,12 +10,13 @@ use mcf_text::{NoMemory, put_number};
 use std::alloc::Global;
 
 // The heads that the table of places may have.
-static PLACE_HEADS: [Head; 5] = [
+static PLACE_HEADS: [Head; 6] = [
     Head::Name,
     Head::Supply,
     Head::Least,
     Head::Most(1),
     Head::Cost(1),
+    Head::Penalty,
 ];
 
 // The heads that the table of routes may have, without those of further steps.
@@ -48,6 +49,7 @@ pub(crate) fn head_word(head: Head) -> &'static [u8]
         Head::Least => b"least",
         Head::Most(_) => b"most",
         Head::Cost(_) => b"cost",
+        Head::Penalty => b"penalty",
         Head::From => b"from",
         Head::To => b"to",
         Head::Both => b"both",

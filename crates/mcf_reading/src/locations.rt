@@ -23,6 +23,8 @@ pub enum Head {
     Most(usize),
     /// `cost`, or from the second step on `cost 2` and so on: the cost of each unit.
     Cost(usize),
+    /// `penalty`: the cost of each unit that is missing at a place.
+    Penalty,
     /// `from`: the place at which a route begins.
     From,
     /// `to`: the place at which it ends.

@@ -45,7 +45,13 @@ pub(crate) fn settled_mark(
 fn shown_marks(alloc: Global, places: &Records, routes: &Records) -> Result<Shown, NoMemory>
     ensures { IfOk result (λ shown. shown ≡ with_cells none_shown (number_cells places.now routes.now)) }
 {
-    let place_heads = [Head::Supply, Head::Least, Head::Most(1), Head::Cost(1)];
+    let place_heads = [
+        Head::Supply,
+        Head::Least,
+        Head::Most(1),
+        Head::Cost(1),
+        Head::Penalty,
+    ];
     let place_columns = number_columns(alloc, places, &place_heads)?;
     let route_heads = route_number_heads(alloc, routes)?;
     let route_columns = number_columns(alloc, routes, &route_heads)?;

@@ -6,7 +6,8 @@ ghost use Rattle.mcf_reading.specs.Cells.{cell_at};
 ghost use Rattle.mcf_reading.specs.PlaceRows.{all_place_faults, bounds_entry, bounds_faults, is_before, is_bounded, name_kind, place_entries, place_entry, place_faults, place_name_faults, place_names, place_number_faults, read_bounds, read_place, twice_kind};
 
 use crate::cells::{
-    amount, cell_at, is_filled, limit, number_kind, read_amount, read_limit, row_count,
+    amount, cell_at, is_filled, limit, number_kind, read_amount, read_limit, read_penalty,
+    row_count,
 };
 use crate::columns::PlaceColumns;
 use crate::kinds::{Fault, FaultKind};
@@ -36,6 +37,8 @@ pub struct PlaceEntry {
     pub supply: Decimal,
     /// The bounds on what passes through, or `None` if all their cells are empty.
     pub through: Option<BoundsEntry>,
+    /// The cost of each unit that is missing here, or `None` if its cell is empty.
+    pub penalty: Option<Decimal>,
 }
 
 // What was read of bounds.
@@ -51,6 +54,7 @@ pub(crate) struct BoundsRead {
 pub(crate) struct PlaceRead {
     pub(crate) supply: Result<Decimal, NumberFault>,
     pub(crate) through: Option<BoundsRead>,
+    pub(crate) penalty: Result<Option<Decimal>, NumberFault>,
 }
 
 // The names of the places, in order.
@@ -137,7 +141,12 @@ fn read_place(mark: Option<Mark>, columns: PlaceColumns, records: &Records, row:
     let most = cell_at(records, row, columns.most);
     let cost = cell_at(records, row, columns.cost);
     let through = read_bounds(mark, least, most, cost);
-    PlaceRead { supply, through }
+    let penalty = read_penalty(mark, cell_at(records, row, columns.penalty));
+    PlaceRead {
+        supply,
+        through,
+        penalty,
+    }
 }
 
 // Bounds, with 0 for what wasn't read.
@@ -163,13 +172,21 @@ fn place_entry(read: PlaceRead) -> PlaceEntry
     PlaceEntry {
         supply: amount(read.supply),
         through,
+        penalty: limit(read.penalty),
     }
 }
 
 // Appends the faults of bounds.
-fn push_bounds_faults(faults: &mut Vec<Fault>, row: usize, read: BoundsRead) -> Result<(), NoMemory>
-    ensures { OnOk result (faults.new.items ≡ faults.old.items ++ bounds_faults row (Some read)) }
+fn push_bounds_faults(
+    faults: &mut Vec<Fault>,
+    row: usize,
+    through: Option<BoundsRead>,
+) -> Result<(), NoMemory>
+    ensures { OnOk result (faults.new.items ≡ faults.old.items ++ bounds_faults row through) }
 {
+    let Some(read) = through else {
+        return Ok(());
+    };
     let least = under(Table::Places, row, Head::Least);
     let most = under(Table::Places, row, Head::Most(1));
     let cost = under(Table::Places, row, Head::Cost(1));
@@ -184,11 +201,10 @@ fn push_number_faults(faults: &mut Vec<Fault>, row: usize, read: PlaceRead) -> R
     ensures { OnOk result (faults.new.items ≡ faults.old.items ++ place_number_faults row read) }
 {
     let supply = under(Table::Places, row, Head::Supply);
+    let penalty = under(Table::Places, row, Head::Penalty);
     push_told(faults, supply, number_kind(read.supply.err()))?;
-    match read.through {
-        Some(bounds) => push_bounds_faults(faults, row, bounds),
-        None => Ok(()),
-    }
+    push_bounds_faults(faults, row, read.through)?;
+    push_told(faults, penalty, number_kind(read.penalty.err()))
 }
 
 // Appends the faults of a row's name.

@@ -5,7 +5,7 @@ use mcf_reading::{BoundsEntry, PlaceEntry, StepEntry, Tables};
 use std::test::Fail;
 
 const PLACES: &[u8] =
-    b"Supply;NAME;most;least;cost\n12,50;Mill;;;\n-12,5;Wien;inf;1.000;\n;Graz;7;;0,2\n";
+    b"Supply;NAME;most;least;cost;Penalty\n12,50;Mill;;;;\n-12,5;Wien;inf;1.000;;0,75\n;Graz;7;;0,2;0\n";
 
 const ROUTES: &[u8] =
     b"cost;to;from;most;most 2;cost 2;most 3;cost 3;both;least\n1,5;Wien;Mill;20;;2;;;;2\n-4;Mill;Graz;5;;;;;ja;\n";
@@ -32,14 +32,17 @@ fn has_places(tables: &Tables) -> bool {
         PlaceEntry {
             supply: decimal(125, 1),
             through: None,
+            penalty: None,
         },
         PlaceEntry {
             supply: decimal(-125, 1),
             through: Some(wien),
+            penalty: Some(decimal(75, 2)),
         },
         PlaceEntry {
             supply: none,
             through: Some(graz),
+            penalty: Some(none),
         },
     ];
     tables.places() == places.as_slice()

@@ -15,7 +15,7 @@ type FaultRow = (
     FaultKind,
 );
 
-static ROWS: [FaultRow; 15] = [
+static ROWS: [FaultRow; 17] = [
     (
         b"name\nA\n",
         b"from;to;most;cost\n",
@@ -103,6 +103,22 @@ static ROWS: [FaultRow; 15] = [
         1,
         ColumnAt::Under(Head::Most(1)),
         FaultKind::Number(NumberFault::NoNumber),
+    ),
+    (
+        b"name;supply;penalty\nA;1;\nB;-1;inf\n",
+        b"from;to;most;cost\n",
+        Table::Places,
+        2,
+        ColumnAt::Under(Head::Penalty),
+        FaultKind::Number(NumberFault::NoNumber),
+    ),
+    (
+        b"name;supply;penalty\nA;1,5;\nB;-1;2.5\n",
+        b"from;to;most;cost\n",
+        Table::Places,
+        2,
+        ColumnAt::Under(Head::Penalty),
+        FaultKind::BothMarks,
     ),
     (
         b"name;supply\nA;1\nB;1\n",

@@ -10,7 +10,7 @@ use std::alloc::Global;
 use std::test::Fail;
 
 const PLACES: &[u8] =
-    b"name;supply;least;most;cost\nMill;12,5;;;\nGraz;;1;inf;0,25\nWien;-12,5;;;\n";
+    b"name;supply;least;most;cost;penalty\nMill;12,5;;;;\nGraz;;1;inf;0,25;\nWien;-12,5;;;;7,0004\n";
 
 const ROUTES: &[u8] = b"from;to;most;cost;most 2;cost 2\nMill;Graz;10;1,5;;2\nGraz;Wien;;3;;\n";
 
@@ -36,7 +36,7 @@ fn made(
     }
 }
 
-// Whether the problem is that of the tables: tenths of amounts, thousandths of costs.
+// Whether the problem is that of the tables: tenths of amounts, ten thousandths of costs.
 fn is_whole(made: &WholeProblem) -> bool {
     let places = made.planner.places();
     if places.len() != 3 || made.planner.route_count() != 2 {
@@ -47,12 +47,13 @@ fn is_whole(made: &WholeProblem) -> bool {
     };
     let scales = Scales {
         amounts: 1,
-        costs: 3,
+        costs: 4,
     };
     let has_supplies = (places[0].supply, places[2].supply) == (125, -125);
-    let has_bounds = (bounds.least, bounds.most, bounds.cost) == (10, None, 250);
-    let has_penalty = made.planner.policy().penalty == Some(1001);
-    made.scales == scales && has_supplies && has_bounds && has_penalty
+    let has_bounds = (bounds.least, bounds.most, bounds.cost) == (10, None, 2500);
+    let has_penalty = made.planner.policy().penalty == Some(10010);
+    let has_own = places[2].penalty == Some(70004) && places[1].penalty.is_none();
+    made.scales == scales && has_supplies && has_bounds && has_penalty && has_own
 }
 
 // Whether a problem is made, and it is that of the tables.
@@ -83,12 +84,17 @@ fn are_great(made: &Made, faults: &[GreatFault]) -> bool {
 
 #[test]
 fn great_numbers_are_told(rt: HostRuntime) -> Result<(), Fail> {
-    let places = b"name;supply\nMill;9223372036854775807\nWien;-0,5\n";
+    let places = b"name;supply;penalty\nMill;9223372036854775807;\nWien;-0,5;9223372036854775808\n";
     let routes = b"from;to;most;cost\nMill;Wien;;9223372036854775808\n";
     let supply = GreatFault::Cell(Location {
         table: Table::Places,
         row: 1,
         column: ColumnAt::Under(Head::Supply),
+    });
+    let penalty = GreatFault::Cell(Location {
+        table: Table::Places,
+        row: 2,
+        column: ColumnAt::Under(Head::Penalty),
     });
     let cost = GreatFault::Cell(Location {
         table: Table::Routes,
@@ -99,7 +105,7 @@ fn great_numbers_are_told(rt: HostRuntime) -> Result<(), Fail> {
         assert!(rt; false);
         return Ok(());
     };
-    assert!(rt; are_great(&made, &[supply, cost]));
+    assert!(rt; are_great(&made, &[supply, penalty, cost]));
     Ok(())
 }
 

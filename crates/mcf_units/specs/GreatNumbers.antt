@@ -3,7 +3,7 @@
 use Rattle.std.specs.Prelude.{ℕ, suc, ◌+◌, nat_lt, if◌then◌else◌, List, [], ◌∷◌, ◌++◌, Option, Some, None}
 use Rattle.mcf_decimal.specs.declared.decimal.Decimal.{Decimal}
 use Rattle.mcf_reading.specs.declared.locations.Head.{Head}
-use Rattle.mcf_reading.specs.declared.locations.Head.TheVariants.{Supply, Least, Most, Cost}
+use Rattle.mcf_reading.specs.declared.locations.Head.TheVariants.{Supply, Least, Most, Cost, Penalty as HeadPenalty}
 use Rattle.mcf_reading.specs.declared.locations.Table.{Table}
 use Rattle.mcf_reading.specs.declared.locations.Table.TheVariants.{Places, Routes}
 use Rattle.mcf_reading.specs.declared.place_rows.BoundsEntry.{BoundsEntry}
@@ -42,7 +42,9 @@ great_bounds s row (Some b) =
 
 -- the numbers of a place that are too great
 abbrev pub great_place : Scales → ℕ → PlaceEntry → List GreatFault
-great_place s row e = unless_whole s.amounts e.supply (great_at Places row Supply) ++ great_bounds s row e.through
+great_place s row e =
+    unless_whole s.amounts e.supply (great_at Places row Supply)
+    ++ (great_bounds s row e.through ++ unless_whole_limit s.costs e.penalty (great_at Places row HeadPenalty))
 
 -- the numbers of a step, counted from 1, that are too great
 abbrev pub great_step : Scales → ℕ → ℕ → StepEntry → List GreatFault

@@ -30,9 +30,9 @@ bounds_costs (Some b) = b.cost ∷ []
 abbrev pub place_amounts : PlaceEntry → List Decimal
 place_amounts e = e.supply ∷ bounds_amounts e.through
 
--- the costs of a place
+-- the costs of a place, with its penalty
 abbrev pub place_costs : PlaceEntry → List Decimal
-place_costs e = bounds_costs e.through
+place_costs e = bounds_costs e.through ++ given_number e.penalty
 
 -- the amounts of steps
 abbrev pub step_amounts : List StepEntry → List Decimal

@@ -1,6 +1,6 @@
 -- What the tables say, in whole units.
 -- Source: own
-use Rattle.std.specs.Prelude.{ℕ, ◌+◌, ◌-◌, ◌^◌, nat_le, nat_lt, Bool, not, ◌&&◌, if◌then◌else◌, List, [], ◌∷◌, length, map, take, slice_index_or, ℤ, pos, neg_ℤ, int_lt, Option, Some, None, option_map}
+use Rattle.std.specs.Prelude.{ℕ, ◌+◌, ◌-◌, ◌^◌, nat_le, nat_lt, Bool, not, ◌&&◌, if◌then◌else◌, List, [], ◌∷◌, length, map, take, slice_index_or, ℤ, pos, neg_ℤ, int_lt, Option, Some, option_map}
 use Rattle.std.specs.List.{flat_map}
 use Rattle.mcf_decimal.specs.Decimals.{at_scale}
 use Rattle.mcf_decimal.specs.declared.decimal.Decimal.{Decimal}
@@ -44,7 +44,7 @@ bounds_in s b = record { least = whole s.amounts b.least; most = whole_limit s.a
 
 -- a place in units
 abbrev pub place_in : Scales → PlaceEntry → Place
-place_in s e = record { supply = whole s.amounts e.supply; through = option_map (bounds_in s) e.through; penalty = None }
+place_in s e = record { supply = whole s.amounts e.supply; through = option_map (bounds_in s) e.through; penalty = whole_limit s.costs e.penalty }
 
 -- a step before the last, in units
 abbrev pub step_in : Scales → StepEntry → Step

@@ -97,8 +97,10 @@ fn push_place(
     ensures { OnOk result (found.new.items ≡ found.old.items ++ great_place scales row entry) }
 {
     let supply = great_at(Table::Places, row, Head::Supply);
+    let penalty = great_at(Table::Places, row, Head::Penalty);
     push_unless_whole(found, scales.amounts, entry.supply, supply)?;
-    push_bounds(found, scales, row, entry.through)
+    push_bounds(found, scales, row, entry.through)?;
+    push_limit(found, scales.costs, entry.penalty, penalty)
 }
 
 // Appends the numbers of places that are too great.

@@ -50,7 +50,11 @@ fn with_place(scales: Scales, entry: PlaceEntry) -> Scales
         amounts: scales.amounts.max(entry.supply.places),
         costs: scales.costs,
     };
-    with_bounds(with_supply, entry.through)
+    let with_through = with_bounds(with_supply, entry.through);
+    Scales {
+        amounts: with_through.amounts,
+        costs: with_limit(with_through.costs, entry.penalty),
+    }
 }
 
 // The scales with those of places.

@@ -64,7 +64,7 @@ pub(crate) fn place_in(scales: Scales, entry: PlaceEntry) -> Place
     Place {
         supply: whole(scales.amounts, entry.supply),
         through,
-        penalty: None,
+        penalty: whole_limit(scales.costs, entry.penalty),
     }
 }
 
