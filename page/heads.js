@@ -9,9 +9,13 @@ import { cellAt } from './tables.js';
 const OWN = 'name supply x y from to least most cost both who what takes needs'.split(' ');
 const NAMED = new RegExp(`(?:^|\\s)(${OWN.join('|')}|(?:most|cost) (?:[2-9]|[1-9]\\d+))=`);
 // The heads of results, in groups.
-export const FLOW_RESULTS = ['carries', 'total', 'free', 'one_more_saves', 'exact'];
+export const FLOW_RESULTS = [
+  'carries', 'total', 'free', 'one_more_saves', 'exact', 'one_more_carried_costs',
+];
 export const PLACE_RESULTS = ['one_more_costs', 'group'];
-export const THROUGH_RESULTS = ['passes', 'passing_costs', 'free', 'one_more_saves', 'exact'];
+export const THROUGH_RESULTS = [
+  'passes', 'passing_costs', 'free', 'one_more_saves', 'exact', 'one_more_passing_costs',
+];
 // A sentence names at most so many of the columns that the results copy.
 const LISTED = 24;
 

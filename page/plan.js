@@ -12,9 +12,10 @@ export const STAYS = '(stays)', MISSING = '(missing)', THROUGH = '(through)';
 
 // The results of a plan; null where a figure is beyond what figures take. For a route, or for what
 // passes through a place: the amount, its cost, the residual capacity (null: no limit), what one
-// more unit of capacity saves, and whether that saving is exact. For a place: what one more unit
-// costs there, the group within which that is exact, the amount that stays there or is missing,
-// and, if it has bounds, what passes through it.
+// more unit of capacity saves, whether that saving is exact, and what it costs at least to carry
+// one more unit (null: it is full). For a place: what one more unit costs there, the group within
+// which that is exact, the amount that stays there or is missing, and, if it has bounds, what
+// passes through it.
 export class FlowPlan {
   /**
    * @param {Problem} problem
@@ -56,7 +57,7 @@ export class FlowPlan {
 
   // This method returns what cells say of a route, or of what passes through a place.
   /** @type {(cells: string[]) => RouteResult} */
-  result([carries, cost, free, saves, exact]) {
+  result([carries, cost, free, saves, exact, dearer]) {
     const { amounts, costs } = this.problem.units;
     return {
       carries: this.amountOf(carries),
@@ -64,6 +65,7 @@ export class FlowPlan {
       free: free ? this.amountOf(free) : null,
       saves: saves ? this.rateOf(saves) : null,
       isExact: exact === 'yes',
+      dearer: dearer ? this.rateOf(dearer) : null,
     };
   }
 
@@ -81,7 +83,8 @@ export class FlowPlan {
 }
 
 // This function returns the results of a route both ways whose way back is told by itself: what
-// goes back counts as below 0, and one more unit of room saves what it saves on the better way.
+// goes back counts as below 0, and one more unit of room saves what it saves on the better way. One
+// more unit goes the way that is used, or, if none is, the cheaper way.
 /** @type {(there: RouteResult, back: RouteResult) => RouteResult} */
 function bothWays(there, back) {
   const better = back.saves > there.saves ? back : there, carries = there.carries - back.carries;
@@ -91,5 +94,12 @@ function bothWays(there, back) {
     free: there.free === null ? null : there.free + there.carries - size(carries),
     saves: better.saves,
     isExact: better.isExact,
+    dearer: carries > 0n ? there.dearer
+      : carries < 0n ? back.dearer : cheaper(there.dearer, back.dearer),
   };
 }
+
+// This function returns the lower of two numbers, of which each may be missing.
+/** @type {(one: bigint | null, other: bigint | null) => bigint | null} */
+const cheaper = (one, other) =>
+  one === null || (other !== null && other < one) ? other : one;

@@ -51,7 +51,7 @@ export function flowsTable(plan) {
       const cost = isSupply ? 0n : penalty === null ? null : penalty * amount;
       rows.push([
         problem.routeTable.heads.map((head) => ends.get(head) || ''),
-        [units.amount(amount), units.total(cost), '', '', ''],
+        [units.amount(amount), units.total(cost), '', '', '', ''],
       ]);
     }
   }
@@ -59,7 +59,7 @@ export function flowsTable(plan) {
 }
 
 /** @type {(plan: FlowPlan, result: RouteResult) => string[]} */
-function cellsOf(plan, { carries, cost, free, saves, isExact }) {
+function cellsOf(plan, { carries, cost, free, saves, isExact, dearer }) {
   const { units } = plan.problem;
   return [
     units.amount(carries),
@@ -67,6 +67,7 @@ function cellsOf(plan, { carries, cost, free, saves, isExact }) {
     units.amount(free),
     units.rate(saves),
     isExact ? 'yes' : 'no',
+    units.rate(dearer),
   ];
 }
 
@@ -83,7 +84,7 @@ export function pricesTable(plan) {
       [
         plan.problem.units.rate(price),
         String(group),
-        ...(!hasBounds ? [] : through ? cellsOf(plan, through) : ['', '', '', '', '']),
+        ...(!hasBounds ? [] : through ? cellsOf(plan, through) : THROUGH_RESULTS.map(() => '')),
       ],
     ];
   });

@@ -139,6 +139,7 @@ const routeColumns = (problem) => [
   number('of its room', 'what it carries of its most', { share: true }),
   number('one more saves', 'what one more unit of room saves'),
   column('exact', 'whether it saves just that'),
+  number('one more carried costs', 'at least, if it has to carry one more; empty: full'),
   ...ownOf(problem.routeTable),
 ];
 
@@ -151,7 +152,7 @@ function routesSheet(plan) {
   const columns = routeColumns(problem);
   /** @type {Sheet['row']} */
   const row = (k) => {
-    const route = problem.routes[k], { carries, cost, saves, isExact } = plan.routes[k];
+    const route = problem.routes[k], { carries, cost, saves, isExact, dearer } = plan.routes[k];
     const share = route.most
       ? String(Math.round(100 * Number(size(carries)) / Number(size(route.most))))
       : '';
@@ -167,6 +168,7 @@ function routesSheet(plan) {
         share,
         saves ? units.rate(saves) : '',
         saves ? (isExact ? 'exactly' : 'at most') : '',
+        units.rate(dearer),
         ...own.map((place) => cellAt(route.cells, place)),
       ],
     };
@@ -201,6 +203,7 @@ const PASSING = [
   number('passes at most', 'empty: no limit'),
   number('passing costs', 'in this plan'),
   number('one more saves', 'what one more unit of room saves'),
+  number('one more passing costs', 'at least, if one more has to pass; empty: full'),
 ];
 
 /** @type {(table: Table, hasUnmet: boolean, hasBounds: boolean) => Column[]} */
@@ -227,7 +230,8 @@ function placesSheet(plan) {
     const passing = through ? [
       units.amount(through.carries), units.amount(place.bounds.most), units.total(through.cost),
       through.saves ? units.rate(through.saves) : '',
-    ] : ['', '', '', ''];
+      units.rate(through.dearer),
+    ] : PASSING.map(() => '');
     return {
       kind: '',
       cells: [

@@ -136,7 +136,7 @@ async function written(expect, solver) {
   const choices = asked(['--unused', 'allow']);
   const { tables, mark } = await told('flow', solver, sources, choices);
   const [flows, prices] = tables.map((table) => csvOf(table, mark));
-  expect(flows.endsWith('\nA|(stays)||||1|0|||\n'), `a column constructor: ${flows}`);
+  expect(flows.endsWith('\nA|(stays)||||1|0||||\n'), `a column constructor: ${flows}`);
   const again = await told('flow', solver, [{ name: 'prices', text: prices }, sources[1]], choices);
   expect(
     again.status === 0 && csvOf(again.tables[1], mark) === prices,
@@ -158,8 +158,8 @@ async function mapped(expect, solver) {
     { name: 'places', text: 'name,supply\nA,2\nB,-2\n' },
     {
       name: 'routes',
-      text: 'from;to;most;cost;carries;total;free;one_more_saves;exact;"a\r\nnote"\r\n'
-        + 'A;B;5;0;0;7;5;0;no;x\r\n',
+      text: 'from;to;most;cost;carries;total;free;one_more_saves;exact;one_more_carried_costs;'
+        + '"a\r\nnote"\r\nA;B;5;0;0;7;5;0;no;8;x\r\n',
     },
   ];
   const { plan } = await flowOf(
@@ -174,8 +174,9 @@ async function mapped(expect, solver) {
   const { tables, mark } = await told('flow', solver, sources, asked(['--map', 'cost=total']));
   const flows = csvOf(tables[0], mark);
   expect(
-    flows === 'from;to;most;cost;carries;total;free;one_more_saves;exact;"a\nnote";carries;total;'
-      + 'free;one_more_saves;exact\nA;B;5;0;0;7;5;0;no;x;2;14;3;0;yes\n',
+    flows === 'from;to;most;cost;carries;total;free;one_more_saves;exact;one_more_carried_costs;'
+      + '"a\nnote";carries;total;free;one_more_saves;exact;one_more_carried_costs\n'
+      + 'A;B;5;0;0;7;5;0;no;8;x;2;14;3;0;yes;0\n',
     `own heads among earlier results: ${flows}`
   );
 }

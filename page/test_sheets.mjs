@@ -15,11 +15,11 @@ function answerOf(kind, places, routes, { mark = '.', cost = '0', carries = [], 
   );
   carries.forEach(([carried, total], k) => {
     const [tail, head] = routeRows[k + 1];
-    rows.push(['route', k + 2, tail, head, carried, total, '', '0', 'yes']);
+    rows.push(['route', k + 2, tail, head, carried, total, '', '0', 'yes', '0']);
   });
   placeRows.slice(1).forEach(([name], k) => {
     const [stays = '0', missing = '0'] = unmet[k] || [];
-    rows.push(['place', k + 2, name, stays, missing, '0', '1', '', '', '', '', '']);
+    rows.push(['place', k + 2, name, stays, missing, '0', '1', '', '', '', '', '', '']);
   });
   rows.push(['mark', mark]);
   for (const [name, [heads, ...lines]] of [['places', placeRows], ['routes', routeRows]]) {
@@ -108,7 +108,7 @@ async function penalties(expect) {
   const missing = '1,5 are missing at: B 1,5, which costs 0,375 of that.';
   expect(lines[0].endsWith(': cost 5,375.') && lines[2] === missing, lines.join('; '));
   const row = (one) => csvOf(flowsTable(one), ',').split('\n')[2];
-  expect(row(plan) === '(missing);B;;;1,5;0,375;;;', row(plan));
+  expect(row(plan) === '(missing);B;;;1,5;0,375;;;;', row(plan));
   const { headline, facts, lead, scene } = planShown(plan);
   const caption = { title: '', source: '', unit: 'hl', currency: 'EUR' };
   expect(headline(caption) === 'Least cost: 5,375 EUR', headline(caption));
@@ -117,9 +117,9 @@ async function penalties(expect) {
   expect(lead.includes(missing), lead.join('; '));
   expect(String(facts[4]) === '1.5,are missing,true', String(facts));
   expect(flowSummary(free)[2] === '1,5 are missing at: B 1,5.', flowSummary(free)[2]);
-  expect(row(free) === '(missing);B;;;1,5;0;;;', row(free));
+  expect(row(free) === '(missing);B;;;1,5;0;;;;', row(free));
   const least = row(await made('', '5'));
-  expect(least === '(missing);B;;;1,5;;;;', least);
+  expect(least === '(missing);B;;;1,5;;;;;', least);
   await made('0.25', '5').then(
     () => expect(false, 'a penalty with another mark'),
     ({ lines: [told] }) => expect(

@@ -191,13 +191,17 @@ interface Plan {
   prices: bigint[];
 }
 
-/** What a plan says of a route, or of what passes through a place; `free` of null is no limit. */
+/**
+ * What a plan says of a route, or of what passes through a place; `free` of null is no limit, and
+ * `dearer` of null a full route.
+ */
 interface RouteResult {
   carries: bigint;
   cost: bigint;
   free: bigint | null;
   saves: bigint;
   isExact: boolean;
+  dearer: bigint | null;
 }
 
 /** What a plan says of a place; `through` is null where nothing bounds it. */

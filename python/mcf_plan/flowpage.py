@@ -20,6 +20,7 @@ ROUTE_COLUMNS = [
     ("of its room", "what it carries of its most"),
     ("one more saves", "what one more unit of room saves"),
     ("exact", "whether it saves just that"),
+    ("one more carried costs", "at least, if it has to carry one more; empty: full"),
 ]
 PLACE_COLUMNS = [
     ("name", ""),
@@ -33,6 +34,7 @@ THROUGH_COLUMNS = [
     ("passes at most", "empty: no limit"),
     ("passing costs", "in this plan"),
     ("one more saves", "what one more unit of room saves"),
+    ("one more passing costs", "at least, if one more has to pass; empty: full"),
 ]
 # The heads of columns that the page always shows.
 USED = ("from", "to", "least", "most", "cost", "name", "supply", "x", "y")
@@ -122,6 +124,7 @@ def route_cells(plan, number):
         Share(100 * float(abs(result.carries)) / float(abs(route.most))) if route.most else "",
         figure(result.saves) if result.saves else "",
         exact if result.saves else "",
+        figure(result.dearer),
     ]
 
 
@@ -157,6 +160,7 @@ def through_cells(place, through):
         figure(place.bounds.most),
         figure(through.cost),
         figure(through.saves) if through.saves else "",
+        figure(through.dearer),
     ]
 
 

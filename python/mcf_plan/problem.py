@@ -24,9 +24,10 @@ Bounds = collections.namedtuple("Bounds", "least most cost")
 Step = collections.namedtuple("Step", "most cost")
 # The result of a route, or of the flow through a place: the flow and its cost; the residual
 # capacity (None without a limit); how much one more unit of capacity saves, and whether that is
-# exact. The result of a place: what one more unit costs there, the group in which that is exact,
-# how much stays there and is missing, and the RouteResult of the flow through it, if it has bounds.
-RouteResult = collections.namedtuple("RouteResult", "carries cost free saves is_exact")
+# exact; what it costs at least to carry one more unit (None if it is full). The result of a place:
+# what one more unit costs there, the group in which that is exact, how much stays there and is
+# missing, and the RouteResult of the flow through it, if it has bounds.
+RouteResult = collections.namedtuple("RouteResult", "carries cost free saves is_exact dearer")
 PlaceResult = collections.namedtuple("PlaceResult", "costs group stays missing through")
 
 
@@ -153,21 +154,24 @@ def check_spots(sheet, name, faults):
 
 def route_result(cells):
     """The results of a route, from cells of an answer."""
-    return RouteResult(*map(number_in, cells[:4]), cells[4] == "yes")
+    return RouteResult(*map(number_in, cells[:4]), cells[4] == "yes", number_in(cells[5]))
 
 
 def both_ways(there, back):
-    """The results of a route both ways whose two directions an answer tells one by one."""
+    """The results of a route both ways whose two directions an answer tells one by one. One more
+    unit goes the way that is used, or, if none is, the cheaper way."""
     if not back:
         return there
     carries = there.carries - back.carries
     last = max((there, back), key=lambda one: one.saves or 0)
+    used = [there] * (carries >= 0) + [back] * (carries <= 0)
     return RouteResult(
         carries,
         None if None in (there.cost, back.cost) else there.cost + back.cost,
         None if there.free is None else there.free + there.carries - abs(carries),
         last.saves,
         last.is_exact,
+        min((one.dearer for one in used if one.dearer is not None), default=None),
     )
 
 

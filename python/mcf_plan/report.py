@@ -22,7 +22,7 @@ def write_flows(results, plan):
             penalty = 0 if is_supply else problem.penalty
             cost = "" if penalty is None else figure(penalty * amount)
             cells = [ends.get(head, "") for head in problem.route_sheet.heads]
-            rows.append((None, cells, [figure(amount), cost, "", "", ""]))
+            rows.append((None, cells, [figure(amount), cost, *[""] * (len(FLOW_RESULTS) - 2)]))
     results.after("flows", problem.route_table, problem.route_sheet, [FLOW_RESULTS], rows)
 
 
@@ -35,7 +35,8 @@ def write_prices(results, plan):
     for place, result in zip(problem.places, plan.places):
         cells = [figure(result.costs), result.group]
         if has_bounds:
-            cells += result_cells(result.through) if result.through else [""] * 5
+            through = result.through
+            cells += result_cells(through) if through else [""] * len(THROUGH_RESULTS)
         rows.append((place.line, place.cells, cells))
     results.after("prices", problem.place_table, problem.place_sheet, groups, rows)
 
@@ -44,7 +45,7 @@ def result_cells(result):
     """The results of a route, or of the flow through a place. Figures that are too great are
     empty."""
     exact = "" if result.saves is None else "yes" if result.is_exact else "no"
-    return [*map(figure, result[:4]), exact]
+    return [*map(figure, result[:4]), exact, figure(result.dearer)]
 
 
 def write_bottlenecks(results, problem, bottlenecks):

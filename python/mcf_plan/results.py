@@ -8,9 +8,16 @@ from .workbook import openpyxl_for, write_workbook
 
 FORMULA = ("=", "+", "-", "@", "\t", "\r")
 # The heads of results, in groups.
-FLOW_RESULTS = ("carries", "total", "free", "one_more_saves", "exact")
+FLOW_RESULTS = ("carries", "total", "free", "one_more_saves", "exact", "one_more_carried_costs")
 PLACE_RESULTS = ("one_more_costs", "group")
-THROUGH_RESULTS = ("passes", "passing_costs", "free", "one_more_saves", "exact")
+THROUGH_RESULTS = (
+    "passes",
+    "passing_costs",
+    "free",
+    "one_more_saves",
+    "exact",
+    "one_more_passing_costs",
+)
 GROUPS = (FLOW_RESULTS, PLACE_RESULTS, THROUGH_RESULTS)
 
 

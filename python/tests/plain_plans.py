@@ -11,8 +11,9 @@ Place = collections.namedtuple("Place", "name supply bounds")
 Route = collections.namedtuple("Route", "tail head least steps both")
 # Whether supplies may stay, whether demands may be missing, and the cost of each missing unit.
 Policy = collections.namedtuple("Policy", "unused short penalty")
-# An arc, and the row of a plan that tells what more room there saves: a word, a number from 0.
-Arc = collections.namedtuple("Arc", "tail head low cap cost row", defaults=[None])
+# An arc, the row of a plan that tells what more room there saves (a word, a number from 0), and the
+# way of which it is a step: such a row, and 1 if the way goes back, or 0.
+Arc = collections.namedtuple("Arc", "tail head low cap cost row way", defaults=[None, None])
 
 # More than any plan of a random problem carries, and more than any costs.
 WIDE, GREAT = Fraction(10) ** 9, Fraction(10) ** 30
@@ -60,11 +61,12 @@ class Problem:
             if route.both:
                 word = "back" if self.is_bounded(route) else "route"
                 ways.append((word, route.head, route.tail, Fraction(0)))
-            for word, tail, head, least in ways:
+            for is_back, (word, tail, head, least) in enumerate(ways):
                 *steps, last = self.steps_of(route, least)
+                row, way = (word, number), (word, number, is_back)
                 for step in steps:
-                    yield Arc(self.exit(tail), self.entry(head), *step)
-                yield Arc(self.exit(tail), self.entry(head), *last, (word, number))
+                    yield Arc(self.exit(tail), self.entry(head), *step, None, way)
+                yield Arc(self.exit(tail), self.entry(head), *last, row, way)
 
     def arcs(self, lack, missing=None):
         """The arcs of routes, of bounds, and of what stays or is missing: each unit of that costs
@@ -78,7 +80,8 @@ class Problem:
                 least, most, cost = place.bounds
                 most = WIDE if most is None else most
                 row = "place", number
-                yield Arc(self.entry(number), self.exit(number), least, most, cost, row)
+                way = *row, 0
+                yield Arc(self.entry(number), self.exit(number), least, most, cost, row, way)
             if place.supply > 0:
                 stays = place.supply if self.policy.unused else Fraction(0)
                 yield Arc("source", self.entry(number), place.supply - stays, place.supply, 0)
@@ -302,9 +305,9 @@ def is_bottleneck(policy, rows):
 # ---- figures of a plan
 
 # What a row of a plan tells: the row, what its route carries or what passes through its place, at
-# which steps, the cost of that, how much more may, what one more unit of room saves, and whether
-# it saves just that.
-Figures = collections.namedtuple("Figures", "row amount steps cost free saves exact")
+# which steps, the cost of that, how much more may, what one more unit of room saves, whether it
+# saves just that, and what it costs at least to carry one more.
+Figures = collections.namedtuple("Figures", "row amount steps cost free saves exact dearer")
 
 
 def unit_of(problem):
@@ -330,10 +333,12 @@ def passing(problem, rows):
 
 
 def figures_of(row, amount, steps, cells):
-    """The figures in the last cells of a row. A cell is empty where nothing limits an amount."""
-    cost, free, saves, exact = cells[-4:]
-    free = Fraction(free) if free else None
-    return Figures(row, amount, steps, Fraction(cost), free, Fraction(saves), exact == "yes")
+    """The figures in the last cells of a row. A cell is empty where nothing limits an amount, and
+    where no more may be carried."""
+    cost, free, saves, exact, dearer = cells[-5:]
+    free, dearer = (Fraction(cell) if cell else None for cell in (free, dearer))
+    cost, saves = Fraction(cost), Fraction(saves)
+    return Figures(row, amount, steps, cost, free, saves, exact == "yes", dearer)
 
 
 def told_figures(problem, rows):
@@ -389,6 +394,21 @@ class Margins:
         wider = [arc._replace(cap=arc.cap + self.unit) if arc.row == row else arc for arc in arcs]
         return self.cost(wider, self.flow)
 
+    def with_more(self, way, amount, is_signed):
+        """The least cost if a way has to carry one more unit than an amount, or None. A signed
+        route then carries nothing in its other direction."""
+        more, arcs = amount + self.unit, []
+        for arc in self.arcs:
+            if arc.way == way:
+                arcs.append(arc._replace(head="way"))
+                end = arc.head
+            elif is_signed and arc.way and arc.way[:2] == way[:2]:
+                arcs.append(arc._replace(cap=arc.low))
+            else:
+                arcs.append(arc)
+        flow = [min(x, arc.cap) for arc, x in zip(arcs, self.flow)]
+        return self.cost([*arcs, Arc("way", end, more, WIDE, Fraction(0))], [*flow, more])
+
     def with_unit(self, begin, end):
         """The least cost if one more unit comes in at one node and is taken out at another, or
         None."""
@@ -419,6 +439,35 @@ def why_wrong_savings(problem, rows, margins):
     return None
 
 
+def used_ways(problem, rows, told):
+    """The ways of a row in which it may carry one more unit than it does: on a route both ways the
+    one in which it carries something, or either; and whether they are those of a signed route."""
+    word, number = told.row
+    route = problem.routes[number] if word == "route" else None
+    if route is None or not route.both or problem.is_bounded(route):
+        return [(word, number, int(word == "back"))], False
+    amount = Fraction(rows.by_word["route"][number][3])
+    return [(word, number, way) for way, sign in enumerate((1, -1)) if sign * amount >= 0], True
+
+
+def why_wrong_rises(problem, rows, margins):
+    """What is wrong with what is told of carrying one more unit; None if nothing is."""
+    for told in told_figures(problem, rows):
+        if (told.dearer is None) != (told.free == 0) or told.dearer is not None and told.dearer < 0:
+            return f"{told.row} tells {told.dearer} where {told.free} is free"
+        if told.dearer is None:
+            continue
+        ways, is_signed = used_ways(problem, rows, told)
+        costs = [margins.with_more(way, told.amount, is_signed) for way in ways]
+        least = min((cost for cost in costs if cost is not None), default=None)
+        rise = None if least is None else (least - rows.number("cost")) / margins.unit
+        if rise is not None and rise < told.dearer:
+            return f"{told.row} costs {rise} more, and {told.dearer} is told"
+        if told.dearer > 0 and is_joined(problem, rows, told.row) and rise != told.dearer:
+            return f"{told.row} costs {rise} more, and {told.dearer} is told exactly"
+    return None
+
+
 def why_wrong_prices(problem, rows, margins):
     """What is wrong with what is told of one more unit from one place to another; None if nothing
     is."""
@@ -440,5 +489,6 @@ def why_wrong_figures(problem, rows):
     return (
         why_wrong_amounts(problem, rows)
         or why_wrong_savings(problem, rows, margins)
+        or why_wrong_rises(problem, rows, margins)
         or why_wrong_prices(problem, rows, margins)
     )

@@ -45,6 +45,26 @@ class Examples(WithFolder):
                     self.assertLessEqual(plan.cost - again.cost, result.saves)
                     self.assertTrue(plan.cost - again.cost == result.saves or not result.is_exact)
 
+    def test_one_more_unit_on_a_route(self):
+        for name in SOLVED_AGAIN:
+            places, routes = self.read(name)
+            plan = plan_of([places, routes])
+            for number in range(1, len(routes), 1 if len(routes) < 20 else 6):
+                if plan.routes[number - 1].dearer is not None:
+                    with self.subTest(name=name, route=number):
+                        self.check_one_more(places, routes, plan, number)
+
+    def check_one_more(self, places, routes, plan, number):
+        """Checks the figure on one more unit on a route: with the least amount so high."""
+        route, result = plan.problem.routes[number - 1], plan.routes[number - 1]
+        more = int(result.carries + 1 - route.least)
+        again = plan_of([places, with_more(routes, number, "least", more)])
+        tail, head = (plan.places[end - 1].group for end in (route.tail, route.head))
+        self.assertTrue(again is None or again.cost - plan.cost >= result.dearer)
+        self.assertTrue(
+            not result.dearer or tail != head or again.cost - plan.cost == result.dearer
+        )
+
     def test_one_more_unit_at_a_place(self):
         for name in SOLVED_AGAIN:
             tables = self.read(name)

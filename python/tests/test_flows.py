@@ -65,9 +65,10 @@ class Flows(WithFolder):
         self.assertEqual(
             (self.out / "flows.csv").read_text(),
             (
-                "from,to,least,most,cost,carries,total,free,one_more_saves,exact\n"
-                "Mill,Wien,0,15,4,15,60,0,5,yes\nMill,Graz,0,20,7,15,105,5,0,yes\n"
-                "Graz,Wien,0,10,2,3,6,7,0,yes\n"
+                "from,to,least,most,cost,carries,total,free,one_more_saves,exact,"
+                "one_more_carried_costs\n"
+                "Mill,Wien,0,15,4,15,60,0,5,yes,\nMill,Graz,0,20,7,15,105,5,0,yes,0\n"
+                "Graz,Wien,0,10,2,3,6,7,0,yes,0\n"
             ),
         )
         self.assertEqual(
@@ -165,6 +166,9 @@ class Flows(WithFolder):
         rows = rows_of(self.out / "flows.csv")
         self.assertEqual([row["carries"] for row in rows], ["15", "13", "1", "2", "3", "1"])
         self.assertEqual(rows[4]["one_more_saves"], "7")
+        self.assertEqual(
+            [row["one_more_carried_costs"] for row in rows], ["", "0", "0", "", "", "7"]
+        )
 
     def test_tables_without_rows(self):
         status, said, _ = self.flow("name,supply\n", "from,to,least,most,cost\n")
@@ -184,7 +188,7 @@ class Unbalanced(WithFolder):
         self.assertIn("cost 19.", said)
         self.assertIn("3 stay at: A 3.", said)
         self.assertEqual(
-            (self.out / "flows.csv").read_text().splitlines()[-1], "A,(stays),,,3,0,,,"
+            (self.out / "flows.csv").read_text().splitlines()[-1], "A,(stays),,,3,0,,,,"
         )
 
     def test_demands_that_are_written_as_supplies(self):

@@ -10,6 +10,7 @@ import shutil
 import subprocess
 import unittest
 
+from mcf_plan.results import THROUGH_RESULTS
 from support import WithFolder, last_limit, plan_of, rows_of, with_more
 
 GLPSOL = shutil.which("glpsol")
@@ -323,11 +324,7 @@ class Columns(WithFolder):
         )
         rows = rows_of(self.out / "prices.csv")
         self.assertEqual(
-            [
-                rows[1][head]
-                for head in ("passes", "passing_costs", "free", "one_more_saves", "exact")
-            ],
-            ["5", "10", "0", "3", "yes"],
+            [rows[1][head] for head in THROUGH_RESULTS], ["5", "10", "0", "3", "yes", ""]
         )
         status, said, _ = self.flow(places, routes.replace("A,B,,7", "A,B,3,7"))
         self.assertEqual(status, 1)

@@ -247,6 +247,6 @@ class Pages(WithFolder):
             ("carried", "of 3 of 6 lines", whole),
             ("again", "", whole),
         ):
-            self.assertEqual(said[name], [lines, "", "", "", "", "", total, "", "", ""], name)
+            self.assertEqual(said[name], [lines, *[""] * 5, total, *[""] * 4], name)
         self.assertAlmostEqual(said["nearer"], 0.7)
         self.assertAlmostEqual(said["whole"], 1)

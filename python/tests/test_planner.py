@@ -127,9 +127,11 @@ class Plans(Answering):
                 self.assertIsNone(why_wrong_figures(problem, rows))
                 for told in told_figures(problem, rows):
                     seen[told.row[0], told.saves > 0, told.exact] += 1
+                    seen[told.row[0], bool(told.dearer)] += 1
         self.assertLess(FIGURE_CASES / 3, seen["route", True, True])
         for word in ("route", "back", "place"):
             self.assertLess(1, min(seen[word, True, True], seen[word, True, False]))
+            self.assertLess(FIGURE_CASES / 10, seen[word, True])
 
 
 @unittest.skipUnless(PROGRAM.exists(), "bin/mcfplan isn't built")

@@ -40,13 +40,13 @@ class Programs(WithFolder):
 
     def test_figures_that_are_too_great_are_empty(self):
         answer = answer_to(program("mcfplan"), ["flow"], [PLACES, ROUTES]).data.decode()
-        answer = re.sub(r'("route"(?:,"[^"]*"){4}),.*', r'\1,"","","",""', answer)
-        answer = re.sub(r'("place"(?:,"[^"]*"){4}),.*', r'\1,"","","","","","",""', answer)
+        answer = re.sub(r'("route"(?:,"[^"]*"){4}),.*', r'\1,"","","","",""', answer)
+        answer = re.sub(r'("place"(?:,"[^"]*"){4}),.*', r'\1,"","","","","","","",""', answer)
         script(self.folder / "mcfplan", f"cat {self.put('answer', answer)}")
         status, said, told = self.flow(PLACES, ROUTES, "--programs", self.folder)
         self.assertEqual((status, told), (0, ""))
         self.assertIn("cost 171.\n3 places, 3 routes: 3 carry something, 0 are full.\n", said)
-        self.assertIn("Mill,Wien,0,15,4,15,,,,\n", (self.out / "flows.csv").read_text())
+        self.assertIn("Mill,Wien,0,15,4,15,,,,,\n", (self.out / "flows.csv").read_text())
         self.assertIn("Wien,-18,,\n", (self.out / "prices.csv").read_text())
 
     def test_the_answer_is_kept_byte_for_byte(self):

@@ -133,8 +133,8 @@ class Reading(WithFolder):
         self.total("12,50")
         self.assertEqual(
             (self.out / "flows.csv").read_text(),
-            "from;to;most;cost;carries;total;free;one_more_saves;exact\n"
-            "A;B;;12,50;2,5;31,25;;0;yes\n",
+            "from;to;most;cost;carries;total;free;one_more_saves;exact;one_more_carried_costs\n"
+            "A;B;;12,50;2,5;31,25;;0;yes;0\n",
         )
         self.assertEqual(
             (self.out / "prices.csv").read_text(),
@@ -171,7 +171,7 @@ class Reading(WithFolder):
         self.assertEqual(self.flow(places, routes, *words)[0], 0)
         self.assertEqual(
             (self.out / "flows.csv").read_text().splitlines()[0],
-            "Von;Nach;Max;Preis;carries;total;free;one_more_saves;exact",
+            "Von;Nach;Max;Preis;carries;total;free;one_more_saves;exact;one_more_carried_costs",
         )
         self.assertEqual(
             (self.out / "prices.csv").read_text().splitlines()[0],
@@ -202,7 +202,10 @@ class Reading(WithFolder):
         )
         self.assertEqual(
             (self.out / "flows.csv").read_text().splitlines()[:2],
-            ["sep=|", "von|to|most|cost|carries|total|free|one_more_saves|exact"],
+            [
+                "sep=|",
+                "von|to|most|cost|carries|total|free|one_more_saves|exact|one_more_carried_costs",
+            ],
         )
 
     def test_two_ways_to_write_an_accent(self):
@@ -220,7 +223,7 @@ class Reading(WithFolder):
         )
         once = (self.out / "flows.csv").read_text()
         self.assertIn("from,to,least,most,cost,'=A1,carries,", once)
-        self.assertIn("Mill,Wien,0,15,4,'=HYPERLINK(1),15,60,0,5,yes\n", once)
+        self.assertIn("Mill,Wien,0,15,4,'=HYPERLINK(1),15,60,0,5,yes,\n", once)
         self.assertEqual(
             run(
                 "flow", self.out / "prices.csv", self.out / "flows.csv", "-o", self.folder / "again"
@@ -231,7 +234,9 @@ class Reading(WithFolder):
 
     def test_own_columns_that_are_called_as_results_are(self):
         self.flow(PLACES, ROUTES.replace("cost\n", "cost,total\n").replace(",4\n", ",4,mine\n"))
-        self.assertIn("Mill,Wien,0,15,4,mine,15,60,0,5,yes\n", (self.out / "flows.csv").read_text())
+        self.assertIn(
+            "Mill,Wien,0,15,4,mine,15,60,0,5,yes,\n", (self.out / "flows.csv").read_text()
+        )
 
     def test_no_limit(self):
         routes = (
@@ -264,11 +269,11 @@ class Reading(WithFolder):
     def test_own_heads_among_earlier_results(self):
         """Columns of earlier results stay if one of them is read, by another head. Heads of two
         lines don't hide what separates them."""
-        heads = "from;to;most;cost;carries;total;free;one_more_saves;exact"
-        routes = f'{heads};"a\r\nnote"\r\nA;B;5;0;0;7;5;0;no;x\r\n'
+        results = ";carries;total;free;one_more_saves;exact;one_more_carried_costs"
+        heads = f"from;to;most;cost{results}"
+        routes = f'{heads};"a\r\nnote"\r\nA;B;5;0;0;7;5;0;no;8;x\r\n'
         status = self.flow("name,supply\nA,2\nB,-2\n", routes, "--map", "cost=total")[0]
-        results = ";carries;total;free;one_more_saves;exact"
-        expected = f'{heads};"a\nnote"{results}\nA;B;5;0;0;7;5;0;no;x;2;14;3;0;yes\n'
+        expected = f'{heads};"a\nnote"{results}\nA;B;5;0;0;7;5;0;no;8;x;2;14;3;0;yes;0\n'
         self.assertEqual((status, (self.out / "flows.csv").read_text()), (0, expected))
 
     def test_costs_with_decimals_of_pairs(self):
@@ -319,7 +324,7 @@ class Workbooks(WithFolder):
         self.assertEqual(made.sheetnames, ["flows", "prices"])
         rows = list(made["flows"].iter_rows(values_only=True))
         self.assertEqual(
-            rows[1], ("A", "B", None, 8.07, "=1+1 GmbH", 500.5, 4039.035, None, 0, "yes")
+            rows[1], ("A", "B", None, 8.07, "=1+1 GmbH", 500.5, 4039.035, None, 0, "yes", 0)
         )
         self.assertEqual(made["flows"]["E2"].data_type, "s")
 

@@ -51,10 +51,16 @@ abbrev pub exact_cell : Option RowFigures → List ℕ
 exact_cell (Some told) = yes_or_no told.exact
 exact_cell None = []
 
--- the cost of what is carried, how much more may be, what one more unit of room saves at most, and
--- whether it saves just that
+-- what it costs at least to carry one more unit
+abbrev pub dearer_cell : Scales → Option RowFigures → List ℕ
+dearer_cell scales (Some told) = text_if (rate_text scales) told.dearer
+dearer_cell scales None = []
+
+-- the cost of what is carried, how much more may be, what one more unit of room saves at most,
+-- whether it saves just that, and what it costs at least to carry one more unit
 abbrev pub figure_cells : Scales → Option RowFigures → List (List ℕ)
-figure_cells scales told = cost_cell scales told ∷ free_cell scales told ∷ saves_cell scales told ∷ exact_cell told ∷ []
+figure_cells scales told =
+    cost_cell scales told ∷ free_cell scales told ∷ saves_cell scales told ∷ exact_cell told ∷ dearer_cell scales told ∷ []
 
 -- what one more unit of demand costs at a place
 abbrev pub demand_cell : Scales → Option PlaceFigures → List ℕ

@@ -1,6 +1,6 @@
 //! Amounts, costs and figures as cells.
 ghost use Rattle.std.specs.Prelude.{◌≡◌, IfOk};
-ghost use Rattle.mcf_plan_text.specs.Cells.{amount_text, cost_cell, cost_text, demand_cell, exact_cell, free_cell, group_cell, passes_cell, passes_in, rate_text, row_in, saves_cell, text_if, yes_or_no};
+ghost use Rattle.mcf_plan_text.specs.Cells.{amount_text, cost_cell, cost_text, dearer_cell, demand_cell, exact_cell, free_cell, group_cell, passes_cell, passes_in, rate_text, row_in, saves_cell, text_if, yes_or_no};
 
 use mcf_answer_rows::{decimal_cell, number_cell};
 use mcf_plan_figures::{PassFigures, PlaceFigures, RowFigures};
@@ -57,6 +57,16 @@ fn total_if_some(alloc: Global, scales: Scales, cost: Option<i128>) -> Result<Ve
     }
 }
 
+// What one unit costs, in the units of the tables, if that is known.
+fn rate_if_some(alloc: Global, scales: Scales, rate: Option<i128>) -> Result<Vec<u8>, NoMemory>
+    ensures { IfOk result (λ made. made.items ≡ text_if (rate_text scales) rate) }
+{
+    match rate {
+        Some(rate) => rate_cell(alloc, scales, rate),
+        None => Ok(Vec::new(alloc)),
+    }
+}
+
 // The cost of what is carried.
 fn cost_cell(alloc: Global, scales: Scales, told: Option<RowFigures>) -> Result<Vec<u8>, NoMemory>
     ensures { IfOk result (λ made. made.items ≡ cost_cell scales told) }
@@ -87,6 +97,16 @@ fn saves_cell(alloc: Global, scales: Scales, told: Option<RowFigures>) -> Result
     }
 }
 
+// What it costs at least to carry one more unit.
+fn dearer_cell(alloc: Global, scales: Scales, told: Option<RowFigures>) -> Result<Vec<u8>, NoMemory>
+    ensures { IfOk result (λ made. made.items ≡ dearer_cell scales told) }
+{
+    match told {
+        Some(told) => rate_if_some(alloc, scales, told.dearer),
+        None => Ok(Vec::new(alloc)),
+    }
+}
+
 /// Whether one more unit of room saves just that.
 pub(crate) fn exact_cell(told: Option<RowFigures>) -> &'static [u8]
     ensures { result.now ≡ exact_cell told }
@@ -97,15 +117,17 @@ pub(crate) fn exact_cell(told: Option<RowFigures>) -> &'static [u8]
     }
 }
 
-/// The cells of the figures of a route, but the last.
+/// The cells of the figures of a route, but whether its saving is exact.
 #[derive(Drop)]
 pub(crate) struct RowCells {
     pub(crate) cost: Vec<u8>,
     pub(crate) free: Vec<u8>,
     pub(crate) saves: Vec<u8>,
+    pub(crate) dearer: Vec<u8>,
 }
 
-/// The cost of what is carried, how much more may be, and what one more unit of room saves.
+/// The cost of what is carried, how much more may be, what one more unit of room saves, and what it
+/// costs to carry one more.
 pub(crate) fn row_cells(
     alloc: Global,
     scales: Scales,
@@ -114,11 +136,18 @@ pub(crate) fn row_cells(
     ensures cost { IfOk result (λ made. made.cost.items ≡ cost_cell scales told) }
     ensures free { IfOk result (λ made. made.free.items ≡ free_cell scales told) }
     ensures saves { IfOk result (λ made. made.saves.items ≡ saves_cell scales told) }
+    ensures dearer { IfOk result (λ made. made.dearer.items ≡ dearer_cell scales told) }
 {
     let cost = cost_cell(alloc, scales, told)?;
     let free = free_cell(alloc, scales, told)?;
     let saves = saves_cell(alloc, scales, told)?;
-    Ok(RowCells { cost, free, saves })
+    let dearer = dearer_cell(alloc, scales, told)?;
+    Ok(RowCells {
+        cost,
+        free,
+        saves,
+        dearer,
+    })
 }
 
 // What one more unit of demand costs at a place.

@@ -47,7 +47,8 @@ fn put_way_cells(
 ) -> Result<(), NoMemory>
     ensures { OnOk result (out.new.items ≡ out.old.items
         ++ row_line (words.entry.word.now ∷ line.now ∷ words.entry.tail.now ∷ words.entry.head.now ∷ carries.now
-        ∷ cells.now.cost.items ∷ cells.now.free.items ∷ cells.now.saves.items ∷ words.entry.exact.now ∷ [])) }
+        ∷ cells.now.cost.items ∷ cells.now.free.items ∷ cells.now.saves.items ∷ words.entry.exact.now
+        ∷ cells.now.dearer.items ∷ [])) }
 {
     put_line(
         out,
@@ -61,6 +62,7 @@ fn put_way_cells(
             &cells.free,
             &cells.saves,
             words.exact,
+            &cells.dearer,
         ],
     )
 }
@@ -265,7 +267,8 @@ fn put_place_cells(
     ensures { OnOk result (out.new.items ≡ out.old.items
         ++ row_line (codes "place" ∷ line.now ∷ words.entry.name.now ∷ left.now.stays.items ∷ left.now.missing.items
         ∷ own.now.demand.items ∷ own.now.group.items ∷ own.now.passes.items
-        ∷ cells.now.cost.items ∷ cells.now.free.items ∷ cells.now.saves.items ∷ words.entry.exact.now ∷ [])) }
+        ∷ cells.now.cost.items ∷ cells.now.free.items ∷ cells.now.saves.items ∷ words.entry.exact.now
+        ∷ cells.now.dearer.items ∷ [])) }
 {
     put_line(
         out,
@@ -282,6 +285,7 @@ fn put_place_cells(
             &cells.free,
             &cells.saves,
             words.exact,
+            &cells.dearer,
         ],
     )
 }

@@ -205,13 +205,14 @@ fn text_of(alloc: Global, answer: &FlowAnswer) -> Result<PlanText, NoMemory>
 ///
 /// Of a plan, `cost` and `missing` with their number; for each route `route`, its line, its ends,
 /// what it carries, what that costs, how much more it may carry, what one more unit of room saves
-/// at most, and whether it saves just that; for each place `place`, its line, its name, what stays
-/// there, what is missing, what one more unit costs there, its group, and what passes, with the
-/// figures of a route. Of a bottleneck, `side`, its places, and the routes that lead out of it or
-/// into it, with the amounts that count. For each fault `fault`, the table, the line, the column,
-/// what is wrong, and the cell. At the end, unless a text is no table, `mark` with the mark before
-/// decimals that was settled, and both tables: `heads` the row of the heads and `row` each further
-/// one, with the table, the line and all cells. The manual page `mcfplan(1)` has all rows.
+/// at most, whether it saves just that, and what it costs at least to carry one unit more; for each
+/// place `place`, its line, its name, what stays there, what is missing, what one more unit costs
+/// there, its group, and what passes, with the figures of a route. Of a bottleneck, `side`, its
+/// places, and the routes that lead out of it or into it, with the amounts that count. For each
+/// fault `fault`, the table, the line, the column, what is wrong, and the cell. At the end, unless
+/// a text is no table, `mark` with the mark before decimals that was settled, and both tables:
+/// `heads` the row of the heads and `row` each further one, with the table, the line and all cells.
+/// The manual page `mcfplan(1)` has all rows.
 ///
 /// # Errors
 ///
