@@ -18,7 +18,7 @@ use Rattle.mcf_network.specs.Residual.{no_arc, arc_at, head, tail, unit_cost}
 use Rattle.mcf_network.specs.TreeSolutions.{at_arc}
 use Rattle.mcf_network.specs.Walks.{IsWalk, walk_cost}
 use Rattle.mcf_network.proofs.StateLaws.{rid}
-use Rattle.mcf_ranges.specs.Ranges.{IsCostRange, IsInRange, with_cost}
+use Rattle.mcf_ranges.specs.Ranges.{IsCostRange, IsInRange, IsShownInRange, with_cost}
 use Rattle.mcf_ranges.specs.Private.Distances.{IsFall, IsOpen, IsPath, IsRise, length_of, room_in}
 use Rattle.mcf_ranges.proofs.Costs.{alike, arc_here, arc_other, ends_still, feasible_still}
 use Rattle.mcf_ranges.proofs.Pushes.{CanGo, IsRoomy, no_walk_earns}
@@ -172,21 +172,30 @@ module _ (g : Network) (flow prices : List ℤ) (k : ℕ) (ends : All (HasEnds (
           | inr n ↦ subst (λ (a : Arc). IsComplementary (lowered label) a (at_arc flow j)) (sym (arc_other g k j c hk h n)) (shown_other label j rises h n)
         ]
 
-    -- so the flow is least with that cost
-    least_by : (c : ℤ) (label : ℕ → ℤ) → Rises label → ShowsAt c label → IsLeast (with_cost g k c) flow
-    least_by c label rises here =
+    -- prices that show the flow at that cost
+    abbrev IsShownAt : ℤ → Type 0
+    IsShownAt c = (prices : List ℤ) × Shows (with_cost g k c).arcs prices flow
+
+    shown_by : (c : ℤ) (label : ℕ → ℤ) → Rises label → ShowsAt c label → IsShownAt c
+    shown_by c label rises here =
         let bounds = (feasible_still g flow k c hk feasible).within_bounds in
         let count : length (with_cost g k c).arcs ≡ length flow = length-AllZip CanCarry (with_cost g k c).arcs flow bounds in
-        let same = length-set g.arcs (k - 1) (record (arc_at g k) { cost = c }) in
-        shown_flows_are_least_lem (with_cost g k c) (lowered label) flow (ends_still g k c hk ends) (feasible_still g flow k c hk feasible)
-        (AllZip_from (IsComplementary (lowered label)) (with_cost g k c).arcs flow count (λ i h x y.
-        let e : suc i - 1 ≡ i = omega arith in
-        let number : IsArcNumber g (suc i) = (omega arith, omega (arith, h, same)) in
-        let at : IsComplementary (lowered label) (get_or (with_cost g k c).arcs i no_arc) (get_or flow i (pos 0)) =
-        subst (λ m. IsComplementary (lowered label) (get_or (with_cost g k c).arcs m no_arc) (get_or flow m (pos 0))) e (shown_each c label (suc i) rises here number) in
-        let long : i < length flow = omega (arith, h, count) in
-        subst (λ (a : Arc). IsComplementary (lowered label) a (get_or flow i y)) (get_or_default (with_cost g k c).arcs i no_arc x h)
-        (subst (λ z. IsComplementary (lowered label) (get_or (with_cost g k c).arcs i no_arc) z) (get_or_default flow i (pos 0) y long) at)))
+        let same = length-set g.arcs (k - 1) (record (arc_at g k) { cost = c }) in (
+          lowered label,
+          AllZip_from (IsComplementary (lowered label)) (with_cost g k c).arcs flow count (λ i h x y.
+              let e : suc i - 1 ≡ i = omega arith in
+              let number : IsArcNumber g (suc i) = (omega arith, omega (arith, h, same)) in
+              let at : IsComplementary (lowered label) (get_or (with_cost g k c).arcs i no_arc) (get_or flow i (pos 0)) =
+              subst (λ m. IsComplementary (lowered label) (get_or (with_cost g k c).arcs m no_arc) (get_or flow m (pos 0))) e (shown_each c label (suc i) rises here number) in
+              let long : i < length flow = omega (arith, h, count) in
+              subst (λ (a : Arc). IsComplementary (lowered label) a (get_or flow i y)) (get_or_default (with_cost g k c).arcs i no_arc x h)
+              (subst (λ z. IsComplementary (lowered label) (get_or (with_cost g k c).arcs i no_arc) z) (get_or_default flow i (pos 0) y long) at)),
+        )
+
+    -- so the flow is least with that cost
+    least_at : (c : ℤ) → IsShownAt c → IsLeast (with_cost g k c) flow
+    least_at c shown =
+        shown_flows_are_least_lem (with_cost g k c) shown.0 flow (ends_still g k c hk ends) (feasible_still g flow k c hk feasible) shown.1
 
     -- ---- the range
 
@@ -206,15 +215,15 @@ module _ (g : Network) (flow prices : List ℤ) (k : ℕ) (ends : All (HasEnds (
         )
 
     -- with no labels, where arc k carries what its reduced cost asks for
-    least_as_is : (c : ℤ) → (pos 0 <ℤ at_cost c → at_arc flow k ≡ (arc_at g k).low) → (at_cost c <ℤ pos 0 → at_arc flow k ≡ (arc_at g k).cap)
-        → IsLeast (with_cost g k c) flow
-    least_as_is c above below =
-        least_by c (λ v. pos 0) zeros_rise (shows_at c (λ v. pos 0) (at_cost c) (omega (arith, ints)) above below)
+    shown_as_is : (c : ℤ) → (pos 0 <ℤ at_cost c → at_arc flow k ≡ (arc_at g k).low) → (at_cost c <ℤ pos 0 → at_arc flow k ≡ (arc_at g k).cap)
+        → IsShownAt c
+    shown_as_is c above below =
+        shown_by c (λ v. pos 0) zeros_rise (shows_at c (λ v. pos 0) (at_cost c) (omega (arith, ints)) above below)
 
     -- with labels that make the reduced cost of arc k 0
-    least_by_zero : (c : ℤ) (label : ℕ → ℤ) → Rises label → at_cost c +ℤ label (arc_at g k).src -ℤ label (arc_at g k).dst ≡ pos 0 → IsLeast (with_cost g k c) flow
-    least_by_zero c label rises zero =
-        least_by c label rises (shows_at c label (pos 0) zero (λ more. absurd (omega (arith, ints, more))) (λ less. absurd (omega (arith, ints, less))))
+    shown_by_zero : (c : ℤ) (label : ℕ → ℤ) → Rises label → at_cost c +ℤ label (arc_at g k).src -ℤ label (arc_at g k).dst ≡ pos 0 → IsShownAt c
+    shown_by_zero c label rises zero =
+        shown_by c label rises (shows_at c label (pos 0) zero (λ more. absurd (omega (arith, ints, more))) (λ less. absurd (omega (arith, ints, less))))
 
     module _ (down up : Option ℤ) (rise : IsRise g flow prices k up) (fall : IsFall g flow prices k down) where
       -- a least flow keeps the cost in the range
@@ -250,9 +259,9 @@ module _ (g : Network) (flow prices : List ℤ) (k : ℕ) (ends : All (HasEnds (
           distance.path)
           (λ least_cap. let full : at_arc flow k ≡ (arc_at g k).cap = omega (arith, ints, least_cap, carried k hk) in if_none down (λ d. ((arc_at g k).cost -ℤ d) ≤ℤ c) (fall.full full))
 
-      -- a cost in the range keeps the flow least
-      least_above : (c : ℤ) → IfSome up (λ u. c ≤ℤ ((arc_at g k).cost +ℤ u)) → pos 0 <ℤ at_cost c → IsLeast (with_cost g k c) flow
-      least_above c most more =
+      -- at a cost in the range some prices show the flow
+      shown_above : (c : ℤ) → IfSome up (λ u. c ≤ℤ ((arc_at g k).cost +ℤ u)) → pos 0 <ℤ at_cost c → IsShownAt c
+      shown_above c most more =
           by_lt_z (arc_at g k).low (at_arc flow k)
           (λ used.
           let (found, distance, is) = rise.used used in
@@ -262,11 +271,11 @@ module _ (g : Network) (flow prices : List ℤ) (k : ℕ) (ends : All (HasEnds (
           let labels = distance.potential (at_cost c) (omega (arith, ints, more)) reach in
           let begins = labels.begins in
           let ends_at = labels.ends in
-          least_by_zero c labels.label labels.rises (omega (arith, ints, begins, ends_at)))
-          (λ idle. least_as_is c (λ m. omega (arith, ints, idle, carried k hk)) (λ less. absurd (omega (arith, ints, more, less))))
+          shown_by_zero c labels.label labels.rises (omega (arith, ints, begins, ends_at)))
+          (λ idle. shown_as_is c (λ m. omega (arith, ints, idle, carried k hk)) (λ less. absurd (omega (arith, ints, more, less))))
 
-      least_below : (c : ℤ) → IfSome down (λ d. ((arc_at g k).cost -ℤ d) ≤ℤ c) → at_cost c <ℤ pos 0 → IsLeast (with_cost g k c) flow
-      least_below c least less =
+      shown_below : (c : ℤ) → IfSome down (λ d. ((arc_at g k).cost -ℤ d) ≤ℤ c) → at_cost c <ℤ pos 0 → IsShownAt c
+      shown_below c least less =
           by_lt_z (at_arc flow k) (arc_at g k).cap
           (λ free.
           let (found, distance, is) = fall.free free in
@@ -276,15 +285,18 @@ module _ (g : Network) (flow prices : List ℤ) (k : ℕ) (ends : All (HasEnds (
           let labels = distance.potential (neg_ℤ (at_cost c)) (omega (arith, ints, less)) reach in
           let begins = labels.begins in
           let ends_at = labels.ends in
-          least_by_zero c labels.label labels.rises (omega (arith, ints, begins, ends_at)))
-          (λ full. least_as_is c (λ more. absurd (omega (arith, ints, more, less))) (λ m. omega (arith, ints, full, carried k hk)))
+          shown_by_zero c labels.label labels.rises (omega (arith, ints, begins, ends_at)))
+          (λ full. shown_as_is c (λ more. absurd (omega (arith, ints, more, less))) (λ m. omega (arith, ints, full, carried k hk)))
 
-      least_in_range : (c : ℤ) → IsInRange (arc_at g k).cost (record { down = down; up = up }) c → IsLeast (with_cost g k c) flow
-      least_in_range c range =
-          by_lt_z (pos 0) (at_cost c) (λ more. least_above c range.1 more)
+      shown_in_range : (c : ℤ) → IsInRange (arc_at g k).cost (record { down = down; up = up }) c → IsShownAt c
+      shown_in_range c range =
+          by_lt_z (pos 0) (at_cost c) (λ more. shown_above c range.1 more)
           (λ most.
-          by_lt_z (at_cost c) (pos 0) (λ less. least_below c range.0 less)
-          (λ least. least_as_is c (λ more. absurd (omega (arith, ints, most, more))) (λ less. absurd (omega (arith, ints, least, less)))))
+          by_lt_z (at_cost c) (pos 0) (λ less. shown_below c range.0 less)
+          (λ least. shown_as_is c (λ more. absurd (omega (arith, ints, most, more))) (λ less. absurd (omega (arith, ints, least, less)))))
 
       pub is_cost_range : IsCostRange g flow k (record { down = down; up = up })
-      is_cost_range c = ((λ range. least_in_range c range), (λ least. (not_too_low c least, not_too_high c least)))
+      is_cost_range c = ((λ range. least_at c (shown_in_range c range)), (λ least. (not_too_low c least, not_too_high c least)))
+
+      pub is_shown_in_range : IsShownInRange g flow k (record { down = down; up = up })
+      is_shown_in_range c range = shown_in_range c range

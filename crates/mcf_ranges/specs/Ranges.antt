@@ -2,7 +2,7 @@
 -- Orlin, Network Flows, section 9.11).
 -- Source: AMO 9.11
 use Rattle.std.specs.Prelude.{ℕ, ◌-◌, List, ℤ, ◌+ℤ◌, ◌-ℤ◌, ◌≤ℤ◌, ◌↔◌, IfSome, slice_set}
-use Rattle.mcf_flows.specs.Flow.{IsLeast}
+use Rattle.mcf_flows.specs.Flow.{IsLeast, Shows}
 use Rattle.mcf_flows.specs.Network.{Network}
 use Rattle.mcf_network.specs.Residual.{arc_at}
 use Rattle.mcf_ranges.specs.declared.range.CostRange.{CostRange}
@@ -20,3 +20,8 @@ IsInRange cost range c = IfSome range.down (λ d. (cost -ℤ d) ≤ℤ c) × IfS
 -- whatever the cost of arc k is, the flow is least exactly if the cost is in the range
 abbrev pub IsCostRange : Network → List ℤ → ℕ → CostRange → Type 0
 IsCostRange g flow k range = (c : ℤ) → IsInRange (arc_at g k).cost range c ↔ IsLeast (with_cost g k c) flow
+
+-- at each cost of arc k in the range, some prices show the flow
+-- Source: AMO 9.3
+abbrev pub IsShownInRange : Network → List ℤ → ℕ → CostRange → Type 0
+IsShownInRange g flow k range = (c : ℤ) → IsInRange (arc_at g k).cost range c → (prices : List ℤ) × Shows (with_cost g k c).arcs prices flow

@@ -5,7 +5,7 @@ ghost use Rattle.mcf_flows.specs.Flow.{IsFeasible, Shows};
 ghost use Rattle.mcf_flows.specs.Network.{IsArcNumber, node_count};
 ghost use Rattle.mcf_flows.specs.WellFormed.{IsUpTo};
 ghost use Rattle.mcf_engine.specs.SmallPrices.{price_limit};
-ghost use Rattle.mcf_ranges.specs.Ranges.{IsCostRange};
+ghost use Rattle.mcf_ranges.specs.Ranges.{IsCostRange, IsShownInRange};
 ghost use Rattle.mcf_ranges.specs.Private.Distances.{IsFall, IsRise};
 
 use crate::range::CostRange;
@@ -21,7 +21,8 @@ use std::alloc::Global;
 /// Orlin, Network Flows, section 9.11). The flow is least, since prices show it.
 ///
 /// For each end that has a limit it searches a shortest walk in the residual network without the
-/// arc. The result doesn't depend on the prices, which are at most 10^21 from 0.
+/// arc. At each cost in a range some prices show the flow. The result doesn't depend on the prices,
+/// which are at most 10^21 from 0.
 ///
 /// # Errors
 ///
@@ -39,6 +40,7 @@ pub fn cost_ranges(
     requires small { All (IsUpTo price_limit) prices.now }
     requires arcs { All (IsArcNumber instance.now) arcs.now }
     ensures ranges { IfOk result (λ ranges. AllZip (IsCostRange instance.now flow.now) arcs.now ranges.items) }
+    ensures shown { IfOk result (λ ranges. AllZip (IsShownInRange instance.now flow.now) arcs.now ranges.items) }
     ensures wants { OnErr result (1 ≤ node_count instance.now) }
 {
     // Called only for its clause: the instance is within the limits.
@@ -58,6 +60,7 @@ impl<'a> Shown<'a> {
     fn ranges(&self, alloc: Global, arcs: &[ArcId]) -> Result<Vec<CostRange>, NoMemory>
         requires { All (IsArcNumber self.now.network) arcs.now }
         ensures ranges { IfOk result (λ ranges. AllZip (IsCostRange self.now.network self.now.flow) arcs.now ranges.items) }
+        ensures shown { IfOk result (λ ranges. AllZip (IsShownInRange self.now.network self.now.flow) arcs.now ranges.items) }
         ensures wants { OnErr result (1 ≤ length arcs.now) }
     {
         let mut ranges = Vec::with_capacity(alloc, arcs.len())?;
@@ -71,7 +74,8 @@ impl<'a> Shown<'a> {
     // Returns the range of the cost of an arc.
     fn range(&self, alloc: Global, k: ArcId) -> Result<CostRange, NoMemory>
         requires { IsArcNumber self.now.network k }
-        ensures { IfOk result (IsCostRange self.now.network self.now.flow k) }
+        ensures exact { IfOk result (IsCostRange self.now.network self.now.flow k) }
+        ensures shown { IfOk result (IsShownInRange self.now.network self.now.flow k) }
     {
         // Called only for its clause: prices show the flow.
         let _net = self.net();
