@@ -1,4 +1,4 @@
-mod PlanSums
+pub mod PlanSums
 mod UnitCosts
 mod Wider
 mod Chains

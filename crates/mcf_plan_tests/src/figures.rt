@@ -11,9 +11,9 @@ use std::test::Fail;
 // A model of three places and three routes, the figures of each route in its least plan, and the
 // group of each place.
 #[derive(Clone, Copy)]
-struct FigureRow {
-    supplies: [i64; 3],
-    routes: [RouteRow; 3],
+pub(crate) struct FigureRow {
+    pub(crate) supplies: [i64; 3],
+    pub(crate) routes: [RouteRow; 3],
     free: [Option<i128>; 3],
     saves: [i128; 3],
     loose: [bool; 3],
@@ -21,7 +21,7 @@ struct FigureRow {
     groups: [usize; 3],
 }
 
-const ROWS: [FigureRow; 4] = [
+pub(crate) const ROWS: [FigureRow; 4] = [
     // the plan of the manual page
     FigureRow {
         supplies: [30, -18, -12],

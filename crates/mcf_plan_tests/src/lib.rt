@@ -30,6 +30,8 @@ mod plan_texts;
 #[cfg(test)]
 mod plans;
 #[cfg(test)]
+mod ranges;
+#[cfg(test)]
 mod roster;
 #[cfg(test)]
 mod throughput;

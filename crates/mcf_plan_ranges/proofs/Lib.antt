@@ -1,0 +1,7 @@
+mod Convex
+mod UnitLaws
+mod Dearer
+mod SideLaws
+mod Making
+mod UnitCosts
+mod Calls

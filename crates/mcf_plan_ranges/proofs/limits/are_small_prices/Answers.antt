@@ -1,0 +1,19 @@
+use Rattle.std.proofs.Common.{rules, ◌≡◌, ◌∙◌, pos, subst, refl, to_z, of_z}
+use Rattle.std.specs.Int.{w128}
+use Rattle.std.specs.List.{All}
+use Rattle.std.proofs.lemmas.List.{take_all}
+use Rattle.std.proofs.lemmas.List.Elements.{All-more}
+use Rattle.mcf_engine.specs.SmallPrices.{price_limit}
+use Rattle.mcf_flows.specs.WellFormed.{IsUpTo}
+use Rattle.mcf_plan_ranges.proofs.limits.are_small_prices.Goals as goal
+
+pub loop-place-preserved : goal.loop-place-preserved
+loop-place-preserved c =
+    let read : to_z w128 (of_z w128 c.number_at-price.result) ≡ c.number_at-price.result = search rules in
+    All-more (IsUpTo price_limit) c.args.prices.now c.loop-place.place (pos 0) c.loop-place-test.true c.loop-place.invariant
+    (subst (IsUpTo price_limit) (read ∙ c.number_at-price.ensures) (c.is_small_price.ensures.0 c.if-not-is_small_price.false))
+
+pub returns : goal.returns
+returns c =
+    let all = subst (All (IsUpTo price_limit)) (take_all c.loop-place.place c.args.prices.now c.loop-place-test.false) c.loop-place.invariant in
+    ((λ t. all), (λ h. refl))

@@ -1,0 +1,62 @@
+//! Ranges of the costs of routes of least plans, found by hand from the ways round each route.
+use crate::figures::{FigureRow, ROWS};
+use crate::plans::model_of;
+use mcf_choice::Choice;
+use mcf_model::Planned;
+use mcf_plan_ranges::{CostRange, cost_range};
+use mcf_planner::plan_with;
+use mcf_text::NoMemory;
+use std::alloc::Global;
+use std::test::Fail;
+
+const NONE: Option<i128> = None;
+
+// How far the cost of each route may fall and rise.
+type Ranges = [(Option<i128>, Option<i128>); 3];
+
+// The rows of models are those of the figures.
+static RANGES: [Ranges; 4] = [
+    // the plan of the manual page: each way round costs 5 more
+    [(NONE, Some(5)), (Some(5), NONE), (Some(5), NONE)],
+    // the first route is at the end of its step; the third is used both ways at no cost
+    [(Some(1), Some(1)), (Some(1), Some(1)), (Some(0), Some(1))],
+    // what the second route brings back is all that it may bring
+    [(NONE, Some(7)), (Some(1), Some(7)), (Some(7), NONE)],
+    // the first route is full, and nothing is left for the others
+    [(NONE, Some(2)), (Some(2), NONE), (NONE, NONE)],
+];
+
+// Returns the range of the cost of a route of a row, by its number.
+fn range_of(alloc: Global, row: &FigureRow, number: usize) -> Result<Option<CostRange>, NoMemory> {
+    let Some(model) = model_of(alloc, &row.supplies, &row.routes)? else {
+        return Ok(None);
+    };
+    if number == 0 || model.route_count() < number {
+        return Ok(None);
+    }
+    let Planned::Plan(plan) = plan_with(alloc, Choice::default(), &model)? else {
+        return Ok(None);
+    };
+    cost_range(alloc, &model, &plan.carries, &plan.prices, number)
+}
+
+// Returns whether each route of a row has the expected range.
+fn has_ranges(alloc: Global, row: &FigureRow, ranges: &Ranges) -> Result<bool, NoMemory> {
+    for place in 0..3usize {
+        let (down, up) = ranges[place];
+        if range_of(alloc, row, place + 1)? != Some(CostRange { down, up }) {
+            return Ok(false);
+        }
+    }
+    Ok(true)
+}
+
+#[test]
+fn routes_have_their_ranges(rt: HostRuntime) -> Result<(), Fail> {
+    let rows = ROWS;
+    for place in 0..4usize {
+        let found = has_ranges(rt.alloc(), &rows[place], &RANGES[place])?;
+        assert!(rt; found);
+    }
+    Ok(())
+}
