@@ -160,6 +160,24 @@ def random_problem(rng, notation, kind=LOOSE):
     return Problem(places, routes, random_policy(rng, notation))
 
 
+def round_problem(rng, notation):
+    """A problem in which routes from the first place to itself may bring all amounts there are: a
+    unit that passes there costs less than 0, no limit is named, and no other route has room."""
+    count = rng.randint(1, 4)
+    places, routes = [], []
+    for name in rng.sample(NAMES, count):
+        cost = amount(rng, notation, -9, 0 if places else -1)
+        bounds = None if places and rng.random() < 0.5 else (Fraction(0), None, cost)
+        places.append(Place(name, Fraction(0), bounds))
+    for number in range(rng.randint(1, 5)):
+        is_round, both = number == 0 or rng.random() < 0.4, rng.random() < 0.3
+        ends = (0, 0) if is_round else (rng.randrange(count), rng.randrange(count))
+        room = amount(rng, notation, 1, 6) if is_round else Fraction(0)
+        step = room, amount(rng, notation, 0 if both else -2, 9)
+        routes.append(Route(*ends, Fraction(0), (step,), both))
+    return Problem(places, routes, Policy(False, False, None))
+
+
 def limit(rng, notation, most):
     return notation.number(most) if most is not None else rng.choice(["", "inf", "∞", "INF"])
 

@@ -10,12 +10,20 @@ import unittest
 
 from plain_faults import cell_faults, spoil
 from plain_pairs import are_competing, least_cost, random_roster, table_of, why_no_choice
-from plain_plans import Rows, is_bottleneck, told_figures, why_no_plan, why_wrong_figures
-from random_tables import TIGHT, Notation, random_problem, tables_of
+from plain_plans import (
+    Rows,
+    is_bottleneck,
+    passing,
+    told_figures,
+    ways_of,
+    why_no_plan,
+    why_wrong_figures,
+)
+from random_tables import TIGHT, Notation, random_problem, round_problem, tables_of
 from support import TOP, WithFolder
 
 PROGRAM = pathlib.Path(os.environ.get("MCF_BIN") or TOP / "bin") / "mcfplan"
-PLAN_CASES, FIGURE_CASES, PAIR_CASES = 600, 150, 600
+PLAN_CASES, FIGURE_CASES, ROUND_CASES, PAIR_CASES = 600, 150, 60, 600
 
 
 def repeated(rows, word):
@@ -132,6 +140,24 @@ class Plans(Answering):
         for word in ("route", "back", "place"):
             self.assertLess(1, min(seen[word, True, True], seen[word, True, False]))
             self.assertLess(FIGURE_CASES / 10, seen[word, True])
+
+    def test_figures_of_all_amounts(self):
+        """In some of these plans, all amounts pass through a place without a limit."""
+        rng, seen = random.Random(20261201), collections.Counter()
+        for case in range(ROUND_CASES):
+            notation = Notation(rng)
+            problem = round_problem(rng, notation)
+            texts, _ = self.tables(rng, notation, problem)
+            status, rows = self.answer(problem, notation, texts)
+            with self.subTest(case=case, texts=texts):
+                self.assertEqual(status, 0)
+                self.assertIsNone(why_no_plan(problem, rows))
+                self.assertIsNone(why_wrong_figures(problem, rows))
+                rooms = sum(steps[0][0] for *_, steps, _ in ways_of(problem, rows))
+                fills = passing(problem, rows)[0] == rooms
+                for told in told_figures(problem, rows):
+                    seen[fills, told.saves > 0, told.exact] += 1
+        self.assertLess(ROUND_CASES / 3, seen[True, True, True])
 
 
 @unittest.skipUnless(PROGRAM.exists(), "bin/mcfplan isn't built")

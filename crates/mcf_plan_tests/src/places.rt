@@ -64,7 +64,7 @@ const BACK_AND_FORTH: PlannerFault = PlannerFault::Routes(ModelFault {
     what: RouteFault::BothWays,
 });
 
-const ROWS: [FaultRow; 17] = [
+const ROWS: [FaultRow; 19] = [
     GOOD,
     FaultRow {
         supply: i64::MIN,
@@ -123,6 +123,25 @@ const ROWS: [FaultRow; 17] = [
         through: Some(Bounds { cost: -1, ..WIDE }),
         route: RouteRow {
             last_most: Some(i64::MAX),
+            ..ROUTE
+        },
+        faults: &[PlannerFault::NoLimit(2)],
+        ..GOOD
+    },
+    // all amounts together are 10^18 - 1, and one more is the greatest limit
+    FaultRow {
+        through: Some(Bounds { cost: -1, ..WIDE }),
+        route: RouteRow {
+            last_most: Some(999_999_999_999_999_991),
+            ..ROUTE
+        },
+        ..GOOD
+    },
+    // they are 10^18
+    FaultRow {
+        through: Some(Bounds { cost: -1, ..WIDE }),
+        route: RouteRow {
+            last_most: Some(999_999_999_999_999_992),
             ..ROUTE
         },
         faults: &[PlannerFault::NoLimit(2)],

@@ -201,6 +201,24 @@ fn figures_are_told(rt: HostRuntime) -> Result<(), Fail> {
     Ok(())
 }
 
+// A yard to which a route from itself brings all amounts, where each unit that passes earns 1.
+const YARD: &[u8] = b"name,supply,most,cost\nYard,0,,-1\n";
+
+const ROUND: &[u8] = b"from,to,most,cost\nYard,Yard,5,0.25\n";
+
+const ROUND_PLAN: &[u8] = b"\"answer\",\"plan\"\n\"cost\",\"-3.75\"\n\"missing\",\"0\"\n\
+\"supply\",\"0\"\n\"demand\",\"0\"\n\
+\"route\",\"2\",\"Yard\",\"Yard\",\"5\",\"1.25\",\"0\",\"0.75\",\"yes\",\"\"\n\
+\"place\",\"2\",\"Yard\",\"0\",\"0\",\"0\",\"1\",\"5\",\"-5\",\"\",\"0\",\"yes\",\"0\"\n\"mark\"";
+
+#[test]
+fn no_limit_counts_that_bounds_do_not_have(rt: HostRuntime) -> Result<(), Fail> {
+    let told = text_for(rt.alloc(), YARD, ROUND)?;
+    assert!(rt; told.kind == TextKind::Plan);
+    assert!(rt; told.text.starts_with(ROUND_PLAN));
+    Ok(())
+}
+
 #[test]
 fn a_bottleneck_is_told(rt: HostRuntime) -> Result<(), Fail> {
     let routes = b"from,to,most,cost\nMill,\"G \"\"raz\",12,1.5\n\"G \"\"raz\",Wien,,0.25\n";
