@@ -73,6 +73,18 @@ fn text_under(
     places: &[u8],
     routes: &[u8],
 ) -> Result<PlanText, NoMemory> {
+    text_with(alloc, mark, false, places, routes)
+}
+
+// The text of the answer to two texts under this mark, where demands may be missing if the test
+// says so.
+fn text_with(
+    alloc: Global,
+    mark: Option<Mark>,
+    short: bool,
+    places: &[u8],
+    routes: &[u8],
+) -> Result<PlanText, NoMemory> {
     let mut engine = Engine {
         choice: Choice::default(),
     };
@@ -80,7 +92,7 @@ fn text_under(
         mark,
         terms: Terms {
             unused: false,
-            short: false,
+            short,
             penalty: None,
         },
     };
@@ -298,6 +310,30 @@ fn heads_that_are_meant_are_told(rt: HostRuntime) -> Result<(), Fail> {
 \"fault\",\"routes\",\"1\",\"cost\",\"no such column\",\"\"\n\
 \"fault\",\"routes\",\"1\",\"4\",\"nearly cost\",\"Costs\"\n\
 \"fault\",\"routes\",\"1\",\"5\",\"not read without most 2\",\"most 3\"\n";
+    assert!(rt; told.kind == TextKind::Faults && has_faults(&told.text, want));
+    Ok(())
+}
+
+#[test]
+fn faults_of_penalties_are_told(rt: HostRuntime) -> Result<(), Fail> {
+    let places = b"name,supply,penalty\nMill,3,1\nGraz,-1,-2\nWien,-2,\n";
+    let routes = b"from,to,most,cost\nMill,Graz,,1\n";
+    let told = text_with(rt.alloc(), None, true, places, routes)?;
+    let want = b"\"answer\",\"faults\"\n\
+\"fault\",\"places\",\"3\",\"penalty\",\"below 0\",\"\"\n\
+\"fault\",\"places\",\"2\",\"penalty\",\"a penalty, but a supply above 0\",\"\"\n\
+\"fault\",\"places\",\"4\",\"penalty\",\"no penalty, but other places have one\",\"\"\n";
+    assert!(rt; told.kind == TextKind::Faults && has_faults(&told.text, want));
+    Ok(())
+}
+
+#[test]
+fn a_penalty_beyond_the_limits_is_told(rt: HostRuntime) -> Result<(), Fail> {
+    let places = b"name,supply,penalty\nMill,1,\nWien,-2,2000000000000000\n";
+    let routes = b"from,to,most,cost\nMill,Wien,,1\n";
+    let told = text_with(rt.alloc(), None, true, places, routes)?;
+    let want = b"\"answer\",\"faults\"\n\
+\"fault\",\"places\",\"3\",\"penalty\",\"beyond the limits\",\"\"\n";
     assert!(rt; told.kind == TextKind::Faults && has_faults(&told.text, want));
     Ok(())
 }
