@@ -120,10 +120,11 @@ struct mcf_plan_options {
     uint32_t decimal;       /* the mark before decimals: MCF_SHOWN_MARK to MCF_COMMA */
     uint32_t allow_unused;  /* 1: supplies may stay where they are; 0: all is sent */
     uint32_t allow_short;   /* 1: demands may be missing; 0: all is met */
-    const uint8_t *penalty; /* the cost of each missing unit, with a point before decimals unless
-                               `decimal` is MCF_COMMA; 1.500, which may be 1500, is no number unless
-                               `decimal` names a mark; if it is empty, as little as possible is
-                               missing */
+    const uint8_t *penalty; /* the cost of each missing unit at places whose column penalty is
+                               empty, with a point before decimals unless `decimal` is
+                               MCF_COMMA; 1.500, which may be 1500, is no number unless `decimal`
+                               names a mark; if it is empty, and all those cells are, as little as
+                               possible is missing */
     size_t penalty_length;
 };
 

@@ -6,7 +6,7 @@ import { cellAt } from './tables.js';
 /** @typedef {import('./tables.js').Table} Table */
 
 // The heads that titles of the planner's own may stand for.
-const OWN = 'name supply x y from to least most cost both who what takes needs'.split(' ');
+const OWN = 'name supply x y from to least most cost penalty both who what takes needs'.split(' ');
 const NAMED = new RegExp(`(?:^|\\s)(${OWN.join('|')}|(?:most|cost) (?:[2-9]|[1-9]\\d+))=`);
 // The heads of results, in groups.
 export const FLOW_RESULTS = [

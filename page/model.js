@@ -16,6 +16,7 @@ import { carriedLines, carriedOf } from './heads.js';
 import { NEEDED, numberCells, readLine } from './sentences.js';
 import { SPOT_HEADS, spotsOf } from './spots.js';
 import { Table, fold } from './tables.js';
+import { words } from './words.js';
 
 const BOUND_HEADS = ['least', 'most', 'cost'];
 const YES = ['yes', 'y', 'x', '1', 'true', 'ja', 'j'];
@@ -32,7 +33,7 @@ export class Problem {
    * @param {Answer} answer
    * @param {TableText[]} texts
    * @param {Reading} reading
-   * @param {string} [penalty] the cost of each missing unit, or ''
+   * @param {string} [penalty] the cost of each missing unit at places without their own, or ''
    */
   constructor(answer, texts, reading, penalty = '') {
     this.mark = answer.mark;
@@ -49,12 +50,21 @@ export class Problem {
     this.routes = routes.map((route) => wholeRoute(route, this.units));
   }
 
+  // This method returns the cost of each unit that is missing at a place, or null if none is named.
+  /** @type {(place: Place) => bigint | null} */
+  penaltyOf({ penalty }) { return penalty === null ? this.penalty : penalty; }
+
   // This method returns lines on how the tables were read.
-  told() {
+  /** @type {(policy: Policy) => string[]} */
+  told({ short }) {
     const { placeTable, routeTable } = this, hasSpots = placeTable.has(SPOT_HEADS);
     const cells = numberCells({ places: placeTable, routes: routeTable });
-    const known = [...NEEDED.places, ...BOUND_HEADS, ...(hasSpots ? SPOT_HEADS : [])];
+    const known = [...NEEDED.places, ...BOUND_HEADS, 'penalty', ...(hasSpots ? SPOT_HEADS : [])];
+    const isUnused = !short && this.places.some(({ penalty }) => penalty !== null);
     return [
+      ...(isUnused
+        ? [`Penalties aren't used, since no demand may be short (${words().short}).`]
+        : []),
       ...carriedLines([
         ...carriedOf(placeTable, known),
         ...carriedOf(routeTable, [...NEEDED.routes, 'least', 'both'], true),
@@ -83,7 +93,12 @@ function unitsOf(places, routes, penalty) {
     ...bounds.map((part) => part.least),
     ...steps.map((part) => part.most).filter((most) => most !== null),
   ];
-  return new Units(decimalsOf(amounts), decimalsOf([...steps.map((part) => part.cost), penalty]));
+  const costs = [
+    ...steps.map((part) => part.cost),
+    ...places.map((place) => place.penalty).filter((own) => own !== null),
+    penalty,
+  ];
+  return new Units(decimalsOf(amounts), decimalsOf(costs));
 }
 
 /** @type {(step: Step<Exact>, units: Units) => Step} */
@@ -94,11 +109,12 @@ const wholeStep = ({ most, cost }, units) => ({
 
 /** @type {(place: Place<Exact>, units: Units) => Place} */
 function wholePlace(place, units) {
-  const { supply, bounds } = place;
+  const { supply, bounds, penalty } = place;
   return {
     ...place,
     supply: scaled(supply, units.amounts),
     bounds: bounds && { ...wholeStep(bounds, units), least: scaled(bounds.least, units.amounts) },
+    penalty: penalty && scaled(penalty, units.costs),
   };
 }
 
@@ -113,16 +129,18 @@ function wholeRoute(route, units) {
 
 /** @type {(table: Table, mark: string | null) => Place<Exact>[]} */
 function placesOf(table, mark) {
-  const read = table.reader([...NEEDED.places, ...BOUND_HEADS]), faults = new Faults();
+  const heads = [...NEEDED.places, 'penalty', ...BOUND_HEADS];
+  const read = table.reader(heads), faults = new Faults();
   const spots = spotsOf(table, faults);
   faults.end();
   return table.rows.map(({ line, cells }, k) => {
-    const [name, supply, ...bounds] = read(cells);
+    const [name, supply, penalty, ...bounds] = read(cells);
     return {
       name,
       supply: exactOf(supply, mark),
       spot: spots[k] || null,
       bounds: bounds.some(Boolean) ? boundsOf(bounds, mark) : null,
+      penalty: limitOf(penalty, mark),
       line,
       cells,
     };

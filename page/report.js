@@ -39,7 +39,7 @@ function after(name, like, results, rows) {
 /** @type {(plan: FlowPlan) => SavedTable} */
 export function flowsTable(plan) {
   const { problem } = plan;
-  const { units, penalty } = problem;
+  const { units } = problem;
   /** @type {[string[], string[]][]} */
   const rows = problem.routes.map((route, k) => [route.cells, cellsOf(plan, plan.routes[k])]);
   for (const isSupply of [true, false]) {
@@ -48,7 +48,8 @@ export function flowsTable(plan) {
         ['from', isSupply ? place.name : MISSING],
         ['to', isSupply ? STAYS : place.name],
       ]);
-      const cost = isSupply ? 0n : penalty === null ? null : penalty * amount;
+      const penalty = isSupply ? 0n : problem.penaltyOf(place);
+      const cost = penalty === null ? null : penalty * amount;
       rows.push([
         problem.routeTable.heads.map((head) => ends.get(head) || ''),
         [units.amount(amount), units.total(cost), '', '', '', ''],
@@ -286,9 +287,10 @@ export function besideLines(plan) {
     if (!policy[isSupply ? 'unused' : 'short']) continue;
     const found = plan.unmet(isSupply);
     const total = found.reduce((sum, [, unmet]) => sum + unmet, 0n);
-    const cost = isSupply || !problem.penalty
-      ? ''
-      : `, which costs ${problem.said.total(total * problem.penalty)} of that`;
+    const paid = isSupply ? 0n : found.reduce(
+      (sum, [place, unmet]) => sum + unmet * (problem.penaltyOf(place) || 0n), 0n
+    );
+    const cost = paid ? `, which costs ${problem.said.total(paid)} of that` : '';
     const where = listed(found.map(([place, unmet]) => `${place.name} ${said(unmet)}`));
     lines.push(
       found.length

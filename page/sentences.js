@@ -59,6 +59,12 @@ const SENTENCES = {
       + 'no minimum-cost flow',
   'below 0': '{cell} is below 0, and this step adds to the one before',
   'below 0: most': '{cell} is below 0, and the route has more steps or is used both ways',
+  'below 0: penalty': '{cell} is below 0',
+  'a penalty, but a supply above 0':
+    'a penalty is the cost of what is missing, and this place sends: leave the cell empty; or '
+      + 'is the sign of the supply wrong?',
+  'no penalty, but other places have one':
+    'this is empty, and other places have a penalty: give each place that takes one, {ofAll}',
   'both ways with a least amount or a cost below 0':
     'a route that is used both ways has no least, and no cost below 0',
   'no limit, but a cost below 0':
@@ -79,7 +85,7 @@ const TITLE = /^(nearly|not read without) (.*)$/;
 // The heads of numbers.
 /** @type {Record<string, RegExp>} */
 const NUMBERS = {
-  places: /^(supply|least|most|cost)$/,
+  places: /^(supply|least|most|cost|penalty)$/,
   routes: /^(least|(most|cost)( [0-9]+)?)$/,
   costs: /^cost$/,
 };

@@ -33,7 +33,7 @@ const column = (head, meaning = '', more = {}) => ({ head, meaning, ...more });
 /** @type {(head: string, meaning?: string, more?: Partial<Column>) => Column} */
 const number = (head, meaning, more = {}) => column(head, meaning, { number: true, ...more });
 // Heads of the columns that every sheet shows.
-const USED = ['from', 'to', 'least', 'most', 'cost', 'name', 'supply', 'x', 'y'];
+const USED = ['from', 'to', 'least', 'most', 'cost', 'name', 'supply', 'penalty', 'x', 'y'];
 
 // This function returns a sheet of given rows.
 /** @type {(title: string, columns: Column[], rows: SheetRow[]) => Sheet} */
@@ -79,7 +79,7 @@ export function planShown(plan) {
       ...warnings(problem, plan.policy),
       'No plan for these tables costs less.',
       ...besideLines(plan),
-      ...problem.told()
+      ...problem.told(plan.policy)
     ],
     facts,
     findings: [],
@@ -206,13 +206,16 @@ const PASSING = [
   number('one more passing costs', 'at least, if one more has to pass; empty: full'),
 ];
 
-/** @type {(table: Table, hasUnmet: boolean, hasBounds: boolean) => Column[]} */
-const placeColumns = (table, hasUnmet, hasBounds) => [
+/**
+ * @type {(table: Table, hasUnmet: boolean, hasPenalties: boolean, hasBounds: boolean) => Column[]}
+ */
+const placeColumns = (table, hasUnmet, hasPenalties, hasBounds) => [
   column('name'),
   number('supply', 'above 0 it sends, below 0 it takes', { edit: 'supply' }),
   number('one more costs', 'what one more unit costs there'),
   number('group', 'among places of one group that is exact'),
   ...(hasUnmet ? [number('unmet', 'what stays, or is missing')] : []),
+  ...(hasPenalties ? [number('penalty', 'of each unit that is missing')] : []),
   ...(hasBounds ? PASSING : []),
   ...ownOf(table),
 ];
@@ -224,6 +227,7 @@ function placesSheet(plan) {
   const own = ownColumns(placeTable);
   const hasBounds = problem.places.some(({ bounds }) => bounds);
   const hasUnmet = Boolean(plan.policy.unused || plan.policy.short);
+  const hasPenalties = problem.places.some(({ penalty }) => penalty !== null);
   /** @type {Sheet['row']} */
   const row = (k) => {
     const place = problem.places[k], { price, group, unmet, through } = plan.places[k];
@@ -240,6 +244,7 @@ function placesSheet(plan) {
         units.rate(price),
         String(group),
         ...(hasUnmet ? [unmet ? units.amount(unmet) : ''] : []),
+        ...(hasPenalties ? [units.rate(place.penalty)] : []),
         ...(hasBounds ? passing : []),
         ...own.map((place_) => cellAt(place.cells, place_)),
       ],
@@ -247,7 +252,7 @@ function placesSheet(plan) {
   };
   return {
     title: 'Places',
-    columns: placeColumns(placeTable, hasUnmet, hasBounds),
+    columns: placeColumns(placeTable, hasUnmet, hasPenalties, hasBounds),
     count: problem.places.length,
     row,
     from: placeTable,
@@ -281,7 +286,7 @@ export function blockedShown(blocked) {
       ...warnings(problem, blocked.policy),
       'Whatever way amounts go, these places must send or take more than the routes around them '
         + 'carry.',
-      ...problem.told(),
+      ...problem.told(blocked.policy),
     ],
     facts: [],
     findings,

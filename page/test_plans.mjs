@@ -36,6 +36,7 @@ export const TOOL = {
   unused: '--unused allow lets it stay',
   short: '--short allow lets it be short',
   penalty: (number) => `--penalty ${number}`,
+  ofAll: 'or say --penalty N for all that have none',
   each: 'With --each what each thing would get a person',
   limits: 'LIMITS in `man mcf`',
 };

@@ -118,6 +118,15 @@ async function penalties(expect) {
   expect(String(facts[4]) === '1.5,are missing,true', String(facts));
   expect(flowSummary(free)[2] === '1,5 are missing at: B 1,5.', flowSummary(free)[2]);
   expect(row(free) === '(missing);B;;;1,5;0;;;;', row(free));
+  const table = 'name;supply;penalty\nA;2,5;\nB;-4;0,5\n', told = { ...figures, cost: '5.75' };
+  const { plan: own } = await flow('plan', table, routes, told, { short: true, penalty: '0,25' });
+  expect(flowSummary(own)[2] === missing.replace('0,375', '0,75'), flowSummary(own)[2]);
+  expect(row(own) === '(missing);B;;;1,5;0,75;;;;', row(own));
+  const unasked = own.problem.told({ short: false }).join('; ');
+  expect(
+    unasked === "Penalties aren't used, since no demand may be short (a choice lets it be short).",
+    unasked
+  );
   const least = row(await made('', '5'));
   expect(least === '(missing);B;;;1,5;;;;;', least);
   await made('0.25', '5').then(

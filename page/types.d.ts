@@ -24,7 +24,10 @@ interface Reading {
   heads?: Record<string, string>;
 }
 
-/** Whether supplies may stay, and demands may be short. `penalty`: what each missing unit costs. */
+/**
+ * Whether supplies may stay, and demands may be short. `penalty`: what each missing unit costs at
+ * places that have no penalty of their own.
+ */
 interface Policy {
   unused?: boolean;
   short?: boolean;
@@ -79,12 +82,16 @@ interface Bounds<A = bigint> extends Step<A> {
   least: A;
 }
 
-/** A place. `spot` is null where the table has no x and y, `bounds` where nothing bounds it. */
+/**
+ * A place. `spot` is null where the table has no x and y, `bounds` where nothing bounds it, and
+ * `penalty` where that of all places holds.
+ */
 interface Place<A = bigint> extends Row {
   name: string;
   supply: A;
   spot: Spot | null;
   bounds: Bounds<A> | null;
+  penalty: A | null;
 }
 
 /** A route as it is read, with its ends by the numbers of places from 1. It has a step or more. */
@@ -152,6 +159,7 @@ interface Speech {
   unused: string;
   short: string;
   penalty(number: string): string;
+  ofAll: string;
   each: string;
   limits: string;
 }

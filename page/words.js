@@ -13,6 +13,7 @@ const OWN_WORDS = {
   unused: 'a choice lets it stay',
   short: 'a choice lets it be short',
   penalty: (number) => `penalty ${number} under Choices`,
+  ofAll: 'or write one under Choices for all that have none',
   each: 'If you choose that each thing gets a person, each would get one',
   limits: 'supplies and amounts go up to 10^18, costs up to 10^15',
 };

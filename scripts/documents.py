@@ -399,7 +399,8 @@ TABLE_NAMES = """
 Reads named_separator front_lines SplitsBest head_row
 cells_of mcf_reading.head_faults place_columns route_columns all_step_columns
 mcf_reading.settled_mark number_cells
-is_filled cell_at read_number read_amount read_penalty is_no_limit read_limit is_yes way_kind number_of
+is_filled cell_at read_number read_amount read_penalty is_no_limit read_limit is_yes way_kind
+number_of
 mcf_reading.name_kind no_place_kind mcf_reading.cell_faults
 scales_of great_faults planner_faults IsProperPlanner steps_in rows_in
 numbers_of is_bounded

@@ -91,7 +91,9 @@ def add_flow(command):
         action="store_true",
         help="send as much as possible, at the least cost: --unused allow --short allow",
     )
-    command.add_argument("--penalty", metavar="N", help="the cost of each missing unit")
+    command.add_argument(
+        "--penalty", metavar="N", help="the cost of each missing unit, unless its place has one"
+    )
     command.add_argument("--no-picture", action="store_true", help="draw no picture")
 
 

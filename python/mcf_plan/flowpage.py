@@ -29,6 +29,7 @@ PLACE_COLUMNS = [
     ("group", "among places of one group that is exact"),
 ]
 UNMET_COLUMNS = [("unmet", "what stays, or is missing")]
+PENALTY_COLUMNS = [("penalty", "of each unit that is missing")]
 THROUGH_COLUMNS = [
     ("passes", "what comes in and what is sent there"),
     ("passes at most", "empty: no limit"),
@@ -37,7 +38,7 @@ THROUGH_COLUMNS = [
     ("one more passing costs", "at least, if one more has to pass; empty: full"),
 ]
 # The heads of columns that the page always shows.
-USED = ("from", "to", "least", "most", "cost", "name", "supply", "x", "y")
+USED = ("from", "to", "least", "most", "cost", "name", "supply", "penalty", "x", "y")
 
 
 def own_columns(sheet):
@@ -134,10 +135,12 @@ def places_sheet(plan):
     own, rows = own_columns(sheet), []
     has_bounds = any(place.bounds for place in problem.places)
     has_unmet = problem.unused or problem.short
+    has_penalties = any(place.penalty is not None for place in problem.places)
     for place, result in zip(problem.places, plan.places):
         unmet = result.stays + result.missing
         cells = [place.name, figure(place.supply), figure(result.costs), result.group]
         cells += [figure(unmet) if unmet else ""] * has_unmet
+        cells += [figure(place.penalty)] * has_penalties
         cells += through_cells(place, result.through) if has_bounds else []
         cells += [table.cell(place.line, place.cells, column) for column in own]
         rows.append(("", cells))
@@ -145,6 +148,7 @@ def places_sheet(plan):
     columns = (
         PLACE_COLUMNS
         + UNMET_COLUMNS * has_unmet
+        + PENALTY_COLUMNS * has_penalties
         + THROUGH_COLUMNS * has_bounds
         + [(table.title(sheet.titles[place]), "") for place in own]
     )

@@ -11,7 +11,7 @@ from .words import listed
 # The most carried columns to name.
 NAMED = 24
 KNOWN = {
-    "places": ("name", "supply", "least", "most", "cost"),
+    "places": ("name", "supply", "least", "most", "cost", "penalty"),
     "routes": ("from", "to", "least", "most", "cost", "both"),
     "costs": ("who", "what", "cost", "takes", "needs"),
 }
@@ -76,10 +76,17 @@ def number_cells(word, table, sheet):
                 yield table, line, cell_at(cells, place)
 
 
+def penalty_lines(problem):
+    """A line on penalties that count for nothing, if there are some."""
+    if problem.short or all(place.penalty is None for place in problem.places):
+        return []
+    return ["Penalties aren't used, since no demand may be short (--short allow lets it be short)."]
+
+
 def notes_of(problem):
     """The notes on the tables of places and routes."""
     words, tables = ("places", "routes"), (problem.place_table, problem.route_table)
     sheets = problem.place_sheet, problem.route_sheet
     cells = [cell for one in zip(words, tables, sheets) for cell in number_cells(*one)]
-    lines = carried_lines(words, tables, sheets)
+    lines = penalty_lines(problem) + carried_lines(words, tables, sheets)
     return lines + reading_lines(cells, problem, problem.options.decimal)

@@ -14,9 +14,10 @@ STAYS, MISSING, THROUGH = "(stays)", "(missing)", "(through)"
 # The options of a plan that is read again.
 NO_OPTIONS = argparse.Namespace(unused=False, short=False, penalty=None)
 
-# A place. `bounds` limits the flow through it (its inflow and its supply) or is None; `line` and
+# A place. `bounds` limits the flow through it (its inflow and its supply) or is None; `penalty` is
+# the cost of each unit that is missing there, or None if that of all places holds; `line` and
 # `cells` are those of its table.
-Place = collections.namedtuple("Place", "name supply spot bounds line cells")
+Place = collections.namedtuple("Place", "name supply spot bounds penalty line cells")
 # The least and the most flow through a place, and the cost of each unit there. A most of None means
 # no limit.
 Bounds = collections.namedtuple("Bounds", "least most cost")
@@ -82,9 +83,19 @@ class Problem:
             self.number(sheet, cells, "supply"),
             self.spot(cells),
             bounds,
+            self.own_penalty(cells),
             line,
             cells,
         )
+
+    def own_penalty(self, cells):
+        """The penalty of a place, None if its cell is empty."""
+        cell = cell_at(cells, self.place_sheet.place("penalty"))
+        return value_of(cell, self.mark) if cell else None
+
+    def penalty_of(self, place):
+        """The cost of each unit that is missing at a place, or None if none is named."""
+        return self.penalty if place.penalty is None else place.penalty
 
     def spot(self, cells):
         """The position of a place, if the table has positions."""
@@ -138,6 +149,11 @@ class Plan:
         found = zip(self.problem.places, self.places)
         amounts = ((place, one.stays if is_supply else one.missing) for place, one in found)
         return [(place, amount) for place, amount in amounts if amount]
+
+    def penalties(self):
+        """The cost of what is missing."""
+        found = self.unmet(is_supply=False)
+        return sum(amount * (self.problem.penalty_of(place) or 0) for place, amount in found)
 
 
 def check_spots(sheet, name, faults):

@@ -19,7 +19,7 @@ def write_flows(results, plan):
             ends = {"from": place.name, "to": STAYS}
             if not is_supply:
                 ends = {"from": MISSING, "to": place.name}
-            penalty = 0 if is_supply else problem.penalty
+            penalty = 0 if is_supply else problem.penalty_of(place)
             cost = "" if penalty is None else figure(penalty * amount)
             cells = [ends.get(head, "") for head in problem.route_sheet.heads]
             rows.append((None, cells, [figure(amount), cost, *[""] * (len(FLOW_RESULTS) - 2)]))
@@ -196,8 +196,8 @@ def unmet_lines(plan):
         if is_allowed and is_supply:
             lines.append(f"{total} stay at: {where}." if found else "Nothing stays.")
         elif is_allowed:
-            cost = sum(amount for _, amount in found) * (problem.penalty or 0)
-            cost = f", which costs {problem.said(cost)} of that" if problem.penalty else ""
+            cost = plan.penalties()
+            cost = f", which costs {problem.said(cost)} of that" if cost else ""
             lines.append(
                 f"{total} are missing at: {where}{cost}." if found else "Nothing is missing."
             )

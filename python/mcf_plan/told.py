@@ -66,6 +66,15 @@ SENTENCES = {
     ),
     "below 0": "{cell} is below 0, and this step adds to the one before",
     "below 0: most": "{cell} is below 0, and the route has more steps or is used both ways",
+    "below 0: penalty": "{cell} is below 0",
+    "a penalty, but a supply above 0": (
+        "a penalty is the cost of what is missing, and this place sends: leave the cell empty; or"
+        " is the sign of the supply wrong?"
+    ),
+    "no penalty, but other places have one": (
+        "this is empty, and other places have a penalty: give each place that takes one, or say"
+        " --penalty N for all that have none"
+    ),
     "both ways with a least amount or a cost below 0": (
         "a route that is used both ways has no least, and no cost below 0"
     ),

@@ -48,7 +48,7 @@ def place_faults(rows):
         if not name or name in names:
             yield line, "name", "named twice" if name else "empty name"
         names.add(name)
-        for column in ("supply", "least", "most", "cost"):
+        for column in ("supply", "least", "most", "cost", "penalty"):
             if cells.get(column) in NO_NUMBERS:
                 yield line, column, NO_NUMBERS[cells[column]]
 

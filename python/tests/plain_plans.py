@@ -4,12 +4,14 @@ import collections
 import itertools
 from fractions import Fraction
 
-# A place: its supply, and the least, the most and the unit cost of what passes through it, or None.
-Place = collections.namedtuple("Place", "name supply bounds")
+# A place: its supply, the least, the most and the unit cost of what passes through it, or None, and
+# the cost of each unit that is missing there, if it has one of its own.
+Place = collections.namedtuple("Place", "name supply bounds penalty", defaults=[None])
 # A route: its ends by number from 0, its least amount, its steps as pairs of most and unit cost (a
 # most of None is no limit), and whether it is used both ways.
 Route = collections.namedtuple("Route", "tail head least steps both")
-# Whether supplies may stay, whether demands may be missing, and the cost of each missing unit.
+# Whether supplies may stay, whether demands may be missing, and the cost of each missing unit at
+# places that have none of their own.
 Policy = collections.namedtuple("Policy", "unused short penalty")
 # An arc, the row of a plan that tells what more room there saves (a word, a number from 0), and the
 # way of which it is a step: such a row, and 1 if the way goes back, or 0.
@@ -26,6 +28,31 @@ class Problem:
         self.places, self.routes, self.policy = places, routes, policy
 
     def has_fault(self):
+        """Whether a route has no limit, and a cost is below 0; or a place that gives has a penalty;
+        or one that wants something has none where others have one."""
+        return self.earns_without_end() or any(map(self.has_wrong_penalty, self.places))
+
+    def has_wrong_penalty(self, place):
+        """Whether a place gives and has a penalty, or wants something and lacks one."""
+        if place.supply > 0:
+            return place.penalty is not None
+        is_needed = self.policy.short and any(one.penalty is not None for one in self.places)
+        return place.supply < 0 and is_needed and self.penalty_of(place) is None
+
+    def penalty_of(self, place):
+        """The cost of each unit that is missing at a place, or None if none is named."""
+        return self.policy.penalty if place.penalty is None else place.penalty
+
+    def names_penalty(self):
+        """Whether a penalty is named, for all places or for some."""
+        return any(self.penalty_of(place) is not None for place in self.places)
+
+    def penalties(self, rows):
+        """The cost of what rows tell to be missing."""
+        told = zip(self.places, rows.by_word["place"])
+        return sum((self.penalty_of(place) or 0) * Fraction(cells[3]) for place, cells in told)
+
+    def earns_without_end(self):
         """Whether a route has no limit, and a cost is below 0."""
         costs = [step[1] for route in self.routes for step in route.steps]
         costs += [place.bounds[2] for place in self.places if place.bounds]
@@ -70,7 +97,7 @@ class Problem:
 
     def arcs(self, lack, missing=None):
         """The arcs of routes, of bounds, and of what stays or is missing: each unit of that costs
-        `lack`, and no more than `missing` is missing, if that is a number."""
+        `lack` beside its penalty, and no more than `missing` is missing, if that is a number."""
         yield from self.route_arcs()
         demand = sum(max(Fraction(0), -place.supply) for place in self.places)
         yield Arc("sink", "source", demand, demand, 0)
@@ -88,18 +115,18 @@ class Problem:
             if place.supply < 0:
                 yield Arc(self.exit(number), "sink", Fraction(0), -place.supply, 0)
                 short = -place.supply if self.policy.short else 0
-                yield Arc("lack", self.exit(number), 0, short, 0)
+                yield Arc("lack", self.exit(number), 0, short, self.penalty_of(place) or 0)
 
     def least(self):
         """The least cost and what is then missing, or None if there is no plan. Without a penalty
         as little as possible is missing."""
-        penalty = self.policy.penalty
-        arcs = [*self.arcs(GREAT if penalty is None else penalty)]
+        lack = 0 if self.names_penalty() else GREAT
+        arcs = [*self.arcs(lack)]
         flow = least_flow(arcs, [arc.low for arc in arcs])
         if flow is None:
             return None
         missing = sum(x for arc, x in zip(arcs, flow) if arc.tail == "lack")
-        return cost_of_flow(arcs, flow) - (GREAT * missing if penalty is None else 0), missing
+        return cost_of_flow(arcs, flow) - lack * missing, missing
 
 
 def cost_of_flow(arcs, flow):
@@ -270,7 +297,7 @@ def why_no_plan(problem, rows):
             if passes < least or most is not None and passes > most:
                 return f"place {number} passes too little or too much"
             cost += unit * passes
-    cost += (problem.policy.penalty or 0) * sum(missing)
+    cost += problem.penalties(rows)
     if (cost, sum(missing)) != (rows.number("cost"), rows.number("missing")):
         return f"the plan costs {cost}, and {sum(missing)} is missing"
     return None
@@ -359,7 +386,7 @@ def told_figures(problem, rows):
 def why_wrong_amounts(problem, rows):
     """What is wrong with the costs of rows, with what is free, or with what passes; None if nothing
     is."""
-    total = (problem.policy.penalty or 0) * rows.number("missing")
+    total = problem.penalties(rows)
     for told in told_figures(problem, rows):
         total += told.cost
         mosts = [most for most, _ in told.steps]
@@ -378,9 +405,9 @@ class Margins:
     with a penalty, whatever is missing."""
 
     def __init__(self, problem, rows):
-        penalty, self.unit = problem.policy.penalty, unit_of(problem)
-        missing = rows.number("missing") if penalty is None else None
-        self.arcs = [*problem.arcs(penalty or 0, missing)]
+        self.unit = unit_of(problem)
+        missing = None if problem.names_penalty() else rows.number("missing")
+        self.arcs = [*problem.arcs(0, missing)]
         self.flow = least_flow(self.arcs, [arc.low for arc in self.arcs])
 
     def cost(self, arcs, flow):

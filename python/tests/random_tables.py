@@ -137,6 +137,14 @@ def random_routes(rng, notation, count, kind):
         yield Route(tail, head, least, steps, both)
 
 
+def with_penalties(rng, notation, places):
+    """Places of which most that want something have penalties of their own, and few others."""
+    for place in places:
+        share = 0.8 if place.supply < 0 else 0.2 if place.supply == 0 else 0.02
+        own = amount(rng, notation, 0, 12) if rng.random() < share else None
+        yield place._replace(penalty=own)
+
+
 def random_policy(rng, notation):
     unused, short = rng.random() < 0.4, rng.random() < 0.4
     penalty = amount(rng, notation, 0, 12) if short and rng.random() < 0.5 else None
@@ -157,6 +165,8 @@ def random_problem(rng, notation, kind=LOOSE):
     routes = [*random_routes(rng, notation, count, kind)]
     if kind.joined:
         routes += joining_routes(rng, notation, count, kind)
+    if rng.random() < 0.3:
+        places = [*with_penalties(rng, notation, places)]
     return Problem(places, routes, random_policy(rng, notation))
 
 
@@ -185,19 +195,22 @@ def limit(rng, notation, most):
 def place_table(rng, notation, places):
     """The heads and the rows of the table of places."""
     heads, rows = ["name", "supply"], []
-    if any(place.bounds for place in places):
-        heads += ["least", "most", "cost"]
+    has_bounds = any(place.bounds for place in places)
+    has_penalties = any(place.penalty is not None for place in places)
+    heads += ["least", "most", "cost"] * has_bounds + ["penalty"] * has_penalties
     for place in places:
         row = [
             place.name,
             notation.number(place.supply) if place.supply or rng.random() < 0.5 else "",
         ]
-        if len(heads) > 2 and place.bounds:
+        if place.bounds:
             least, most, cost = place.bounds
             # Three empty cells would be no bounds.
             row += [notation.number(least), limit(rng, notation, most), notation.number(cost)]
-        elif len(heads) > 2:
+        elif has_bounds:
             row += ["", "", ""]
+        if has_penalties:
+            row.append("" if place.penalty is None else notation.number(place.penalty))
         rows.append(row)
     return heads, rows
 

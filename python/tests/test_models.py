@@ -36,6 +36,10 @@ class Case:
             for _ in range(count)
         ]
         self.routes = [self.route(draw, count) for _ in range(draw.randint(3, 9))]
+        self.penalties = [
+            draw.randint(0, 30) if supply < 0 and draw.random() < 0.5 else None
+            for supply in self.supplies
+        ]
 
     @staticmethod
     def route(draw, count):
@@ -56,16 +60,12 @@ class Case:
 
     def tables(self):
         """The two tables."""
-        places = ["name,supply,least,most,cost"]
-        for number, (supply, bounds) in enumerate(zip(self.supplies, self.bounds)):
-            places.append(
-                f"P{number},{supply},"
-                + (
-                    ",".join("" if value is None else str(value) for value in bounds)
-                    if bounds
-                    else ",,"
-                )
-            )
+        places = ["name,supply,least,most,cost,penalty"]
+        columns = zip(self.supplies, self.bounds, self.penalties)
+        for number, (supply, bounds, penalty) in enumerate(columns):
+            values = [supply, *(bounds or [None] * 3), penalty]
+            cells = ",".join("" if value is None else str(value) for value in values)
+            places.append(f"P{number},{cells}")
         routes = ["from,to,least,most,cost,most 2,cost 2,most 3,cost 3,both"]
         for tail, head, least, steps, both in self.routes:
             cells = [("" if most is None else str(most), str(cost)) for most, cost in steps] + [
@@ -121,7 +121,8 @@ class Case:
         without what is missing there."""
         out, come = outs.get(number, []), ins.get(number, [])
         if supply < 0:
-            costs.append((self.penalty, f"lack{number}"))
+            own = self.penalties[number]
+            costs.append((self.penalty if own is None else own, f"lack{number}"))
             return f"{sum_of(out, come + [f'lack{number}'])} = {supply}"
         return f"{sum_of(out, come + [f'sent{number}'] * (supply > 0))} = 0"
 

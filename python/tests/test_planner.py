@@ -91,7 +91,7 @@ class Plans(Answering):
             self.assertIsNone(why_no_plan(problem, rows))
             self.assertEqual(rows.number("cost"), best[0])
             # With a penalty, least plans may differ in what is missing.
-            if problem.policy.penalty is None:
+            if not problem.names_penalty():
                 self.assertEqual(rows.number("missing"), best[1])
         if status == 1:
             self.assertTrue(is_bottleneck(problem.policy, rows))
@@ -127,7 +127,7 @@ class Plans(Answering):
                 return problem, texts, rows
 
     def test_random_figures(self):
-        rng, seen = random.Random(20261131), collections.Counter()
+        rng, seen = random.Random(2), collections.Counter()
         for case in range(FIGURE_CASES):
             problem, texts, rows = self.planned_problem(rng)
             with self.subTest(case=case, texts=texts, policy=problem.policy):
