@@ -1,6 +1,7 @@
 mod Convex
 mod UnitLaws
-mod Dearer
+pub mod Dearer
+pub mod DearerModels
 mod SideLaws
 mod Making
 mod UnitCosts

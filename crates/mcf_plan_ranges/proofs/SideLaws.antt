@@ -1,7 +1,7 @@
 -- What distances in the residual network of a plan say of a dearer route.
 use Rattle.std.proofs.Common.{◌≡◌, ℕ, zero, suc, ◌-◌, ◌<◌, Bool, true, false, eqb, List, [], ◌∷◌, length, length-set, set, get_or, ap, sym, ◌∙◌, subst, refl, arith, ℤ, pos, ◌+ℤ◌, ◌-ℤ◌, ◌≤ℤ◌, ◌<ℤ◌, inl, inr}
 use Rattle.std.specs.Prelude.{Option, Some, None, IfSome, replicate}
-use Rattle.std.specs.List.{All, AllZip}
+use Rattle.std.specs.List.{All}
 use Rattle.std.proofs.Math.IntN.{◌*ℤ◌}
 use Rattle.std.proofs.lemmas.Grind.{get_or-set_at}
 use Rattle.std.proofs.lemmas.Int.{ints, by_lt_z}
@@ -16,7 +16,7 @@ use Rattle.mcf_flows.proofs.Duality.{shown_flows_are_least_lem}
 use Rattle.mcf_flows.proofs.IntLaws.{mul-one, mul-zero}
 use Rattle.mcf_network.proofs.StateLaws.{when-sub, when-zero}
 use Rattle.mcf_figures.specs.Figures.{amount_at, may_carry}
-use Rattle.mcf_figures.proofs.PlanSums.{HasPlaces, have_places, plan_sum-set_route, reduced_total}
+use Rattle.mcf_figures.proofs.PlanSums.{HasPlaces, have_places, reduced_total}
 use Rattle.mcf_model.specs.Model.{IsLeastPlan, IsPlan, IsSound, IsSoundRoute, MayCarry, Model, Route, plan_cost, route_cost}
 use Rattle.mcf_model.specs.Prices.{IsBestAt, ShowsPlan, reduced_route_cost}
 use Rattle.mcf_model.specs.Tables.{IsRouteNumber, no_route, route_at}
@@ -25,8 +25,9 @@ use Rattle.mcf_plan_ranges.specs.PlanRanges.{IsPlanRange}
 use Rattle.mcf_plan_ranges.specs.Private.Sides.{IsFloor, IsOnSide, IsSideRange, grows, meet, one_sided}
 use Rattle.mcf_plan_ranges.specs.Private.Units.{begins, ends, next, others, residual, still, unit_arc}
 use Rattle.mcf_plan_ranges.proofs.Convex.{may_between, no_less_above, no_less_below, reduced_convex}
-use Rattle.mcf_plan_ranges.proofs.Dearer.{both_in, in_both, may_before, may_still, next_cost, one_sided_from, one_sided_to, shifted}
-use Rattle.mcf_plan_ranges.proofs.UnitLaws.{balance, it_may, may_passes, moved_others, none_flows, next_no_less, others_all, others_moved, others_no_less, others_still, shown_costs, shown_others, shown_unit, still_sum, unit_flow, unit_reduced}
+use Rattle.mcf_plan_ranges.proofs.Dearer.{both_in, in_both, may_still, next_cost, one_sided_from, one_sided_to, shifted}
+use Rattle.mcf_plan_ranges.proofs.DearerModels.{dearer_plan, plan_before}
+use Rattle.mcf_plan_ranges.proofs.UnitLaws.{it_may, may_passes, moved_others, none_flows, next_no_less, others_all, others_moved, others_no_less, others_still, shown_costs, shown_others, shown_unit, still_sum, unit_flow, unit_reduced}
 use Rattle.mcf_ranges.specs.declared.range.CostRange.{CostRange}
 use Rattle.mcf_ranges.specs.Ranges.{IsCostRange, IsInRange, IsShownInRange, with_cost}
 
@@ -36,22 +37,6 @@ zeros_at : (n j : ℕ) → get_or (replicate n (pos 0)) j (pos 0) ≡ pos 0
 zeros_at zero j = refl
 zeros_at (suc n) zero = refl
 zeros_at (suc n) (suc j) = zeros_at n j
-
--- the dearer route may carry the same
-may_set : (routes : List Route) (plan : List ℤ) (i : ℕ) (s : Route) → ((x : ℤ) → MayCarry (get_or routes i no_route) x → MayCarry s x)
-    → AllZip MayCarry routes plan → AllZip MayCarry (set routes i s) plan
-may_set [] plan i s e h = h
-may_set (r ∷ routes) [] i s e h = absurd h
-may_set (r ∷ routes) (x ∷ plan) zero s e h = (e x h.0, h.1)
-may_set (r ∷ routes) (x ∷ plan) (suc i) s e h = (h.0, may_set routes plan i s e h.1)
-
-may_unset : (routes : List Route) (plan : List ℤ) (i : ℕ) (s : Route) → ((x : ℤ) → MayCarry s x → MayCarry (get_or routes i no_route) x)
-    → AllZip MayCarry (set routes i s) plan → AllZip MayCarry routes plan
-may_unset [] plan i s e h = h
-may_unset (r ∷ routes) [] zero s e h = absurd h
-may_unset (r ∷ routes) [] (suc i) s e h = absurd h
-may_unset (r ∷ routes) (x ∷ plan) zero s e h = (e x h.0, h.1)
-may_unset (r ∷ routes) (x ∷ plan) (suc i) s e h = (h.0, may_unset routes plan i s e h.1)
 
 unit_ends : (n : ℕ) (r : Route) (x : ℤ) (less : Bool) → IsSoundRoute n r → HasEnds n (unit_arc less r x)
 unit_ends n r x false h = record { src_is_node = h.tail_is_place; dst_is_node = h.head_is_place }
@@ -128,24 +113,6 @@ module _ (m : Model) (plan p : List ℤ) (k : ℕ) (sound : IsSound m) (is_plan 
   abbrev dear : ℤ → List Route
   dear d = set m.routes i (dearer d r)
 
-  may_of : (d : ℤ) (other : List ℤ) → AllZip MayCarry m.routes other → AllZip MayCarry (dear d) other
-  may_of d other h = may_set m.routes other i (dearer d r) (λ y g. may_still d r y g) h
-
-  may_from : (d : ℤ) (other : List ℤ) → AllZip MayCarry (dear d) other → AllZip MayCarry m.routes other
-  may_from d other h = may_unset m.routes other i (dearer d r) (λ y g. may_before d r y g) h
-
-  balance_of : (d : ℤ) (other : List ℤ) (v : ℕ) → balance (dear d) other v ≡ balance m.routes other v
-  balance_of d other v =
-      let a = plan_sum-set_route (λ s y. when (eqb s.tail v) y) m.routes other i (dearer d r) (λ y. refl) in
-      let b = plan_sum-set_route (λ s y. when (eqb s.head v) y) m.routes other i (dearer d r) (λ y. refl) in
-      omega (arith, ints, a, b)
-
-  plan_of : (d : ℤ) (other : List ℤ) → IsPlan m other → IsPlan (with_dearer m k d) other
-  plan_of d other h = record { may_carry = may_of d other h.may_carry; meets_supplies = λ v g. balance_of d other v ∙ h.meets_supplies v g }
-
-  plan_from : (d : ℤ) (other : List ℤ) → IsPlan (with_dearer m k d) other → IsPlan m other
-  plan_from d other h = record { may_carry = may_from d other h.may_carry; meets_supplies = λ v g. sym (balance_of d other v) ∙ h.meets_supplies v g }
-
   places_of : (d : ℤ) → All (HasPlaces n) (dear d)
   places_of d =
       All-set (HasPlaces n) m.routes i (dearer d r) (record { tail_is_place = sound_r.tail_is_place; head_is_place = sound_r.head_is_place })
@@ -172,8 +139,8 @@ module _ (m : Model) (plan p : List ℤ) (k : ℕ) (sound : IsSound m) (is_plan 
       let my = AllZip-at MayCarry m.routes other i no_route (pos 0) po.may_carry inside in
       let le = others_no_less q n i (dearer d r) m.routes plan other inside sound is_plan.may_carry po.may_carry shows
       (best_here less q d (amount_at other k) sd my on unit) in
-      let mine = reduced_total n m.supplies q (dear d) plan (places_of d) (plan_of d plan is_plan).meets_supplies in
-      let its = reduced_total n m.supplies q (dear d) other (places_of d) (plan_of d other po).meets_supplies in
+      let mine = reduced_total n m.supplies q (dear d) plan (places_of d) (dearer_plan m k d plan hk is_plan).meets_supplies in
+      let its = reduced_total n m.supplies q (dear d) other (places_of d) (dearer_plan m k d other hk po).meets_supplies in
       omega (arith, ints, le, mine, its)
 
   -- by the plan's own prices
@@ -349,9 +316,9 @@ module _ (m : Model) (plan p : List ℤ) (k : ℕ) (sound : IsSound m) (is_plan 
           let sd = (is_floor d).0 outer.1 in (
             sound_of d sd,
             record {
-              is_plan = plan_of d plan is_plan;
+              is_plan = dearer_plan m k d plan hk is_plan;
               least = λ other po.
-                  let its = plan_from d other po in
+                  let its = plan_before m k d other hk po in
                   by_lt_z x (amount_at other k)
                   (λ above. on_more.kept d other sides.0 sd its (omega (arith, ints, above)))
                   (λ below. on_less.kept d other sides.1 sd its below);
