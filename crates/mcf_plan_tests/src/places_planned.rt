@@ -123,8 +123,8 @@ fn routes_of(alloc: Global, limit: i64) -> Result<Vec<RouteRow>, NoMemory> {
     Ok(vec![in alloc; to_depot, to_first, to_second, past]?)
 }
 
-// Returns the problem, if nothing is wrong with it.
-fn problem_of(
+/// Returns the problem, if nothing is wrong with it.
+pub(crate) fn problem_of(
     alloc: Global,
     wants: &[i64; 2],
     own: &[Option<i64>; 2],

@@ -1,10 +1,13 @@
 //! Ranges of the costs of routes of least plans, found by hand from the ways round each route.
 use crate::figures::{FigureRow, ROWS};
+use crate::places_planned::problem_of;
 use crate::plans::model_of;
 use mcf_choice::Choice;
 use mcf_model::Planned;
+use mcf_places::{PlannerAnswer, Policy, least};
 use mcf_plan_ranges::{CostRange, cost_range};
-use mcf_planner::plan_with;
+use mcf_planner::{Planner as Engine, plan_with};
+use mcf_planner_ranges::planner_cost_range;
 use mcf_text::NoMemory;
 use std::alloc::Global;
 use std::test::Fail;
@@ -56,6 +59,74 @@ fn routes_have_their_ranges(rt: HostRuntime) -> Result<(), Fail> {
     let rows = ROWS;
     for place in 0..4usize {
         let found = has_ranges(rt.alloc(), &rows[place], &RANGES[place])?;
+        assert!(rt; found);
+    }
+    Ok(())
+}
+
+// What two towns want of a factory, over a depot that lets 6 pass or over 3 on a dearer route past
+// it; and how far the cost of each of the four routes may fall and rise.
+#[derive(Clone, Copy)]
+struct PlannerRow {
+    wants: [i64; 2],
+    short: bool,
+    ranges: [(Option<i128>, Option<i128>); 4],
+}
+
+const PLANNER_ROWS: [PlannerRow; 2] = [
+    // the depot is full: one unit less over it to the second town goes past it, for 2 more
+    PlannerRow {
+        wants: [5, 3],
+        short: false,
+        ranges: [
+            (NONE, Some(2)),
+            (NONE, NONE),
+            (NONE, Some(2)),
+            (Some(2), NONE),
+        ],
+    },
+    // four are missing at the second town: one of them at the first instead costs 3 more
+    PlannerRow {
+        wants: [5, 8],
+        short: true,
+        ranges: [(NONE, NONE), (NONE, Some(3)), (Some(3), NONE), (NONE, NONE)],
+    },
+];
+
+// Returns whether each route of a problem has the expected range.
+fn has_planner_ranges(alloc: Global, row: &PlannerRow) -> Result<bool, NoMemory> {
+    let policy = Policy {
+        unused: true,
+        short: row.short,
+        penalty: None,
+    };
+    let Some(planner) = problem_of(alloc, &row.wants, &[None, None], 3, policy)? else {
+        return Ok(false);
+    };
+    let mut engine = Engine {
+        choice: Choice::default(),
+    };
+    let PlannerAnswer::Least(found) = least(alloc, &mut engine, &planner)? else {
+        return Ok(false);
+    };
+    for place in 0..4usize {
+        if planner.route_count() <= place {
+            return Ok(false);
+        }
+        let (down, up) = row.ranges[place];
+        let range = planner_cost_range(alloc, &planner, &found, place + 1)?;
+        if range != Some(CostRange { down, up }) {
+            return Ok(false);
+        }
+    }
+    Ok(true)
+}
+
+#[test]
+fn routes_of_problems_have_their_ranges(rt: HostRuntime) -> Result<(), Fail> {
+    let rows = PLANNER_ROWS;
+    for row in &rows {
+        let found = has_planner_ranges(rt.alloc(), row)?;
         assert!(rt; found);
     }
     Ok(())

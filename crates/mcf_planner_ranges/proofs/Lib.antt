@@ -1,0 +1,2 @@
+mod DearerPlanners
+mod RangeLaws
