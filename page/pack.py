@@ -18,6 +18,8 @@ IMPORT = re.compile(r"^import \{[^}]*\} from '\./(\w+)\.js';\n", re.M)
 DECLARED = re.compile(r"^(?:export )?(?:async )?(?:function|class) (\w+)", re.M)
 STORED = re.compile(r"^(?:export )?(?:const|let) (.*)", re.M)
 BRACKETS = re.compile(r"\([^()]*\)|\[[^][]*\]")
+# A comment on lines of its own.
+COMMENT = re.compile(r"^ *(?://.*|/\*\*(?:[^*]|\*(?!/))*\*/ *)\n", re.M)
 NAMED = re.compile(r"(?:^|, )(\w+)(?= =|;|,)")
 
 
@@ -30,7 +32,8 @@ def names(text):
 
 
 def script(begin):
-    """This function returns a source and all that it imports, without the words import and export.
+    """This function returns a source and all that it imports, without comments and without the
+    words import and export.
 
     Each source appears once, after the sources that it imports.
     """
@@ -47,7 +50,8 @@ def script(begin):
             assert (
                 declared.setdefault(word, name) == name
             ), f"{word} is declared in {declared[word]}.js and in {name}.js"
-        parts.append(re.sub(r"^export ", "", IMPORT.sub("", text), flags=re.M))
+        text = COMMENT.sub("", IMPORT.sub("", text))
+        parts.append(re.sub(r"^export ", "", text, flags=re.M))
 
     add(begin)
     return "\n".join(parts)
