@@ -106,6 +106,24 @@ async function planner(page, { set, act, go, kind, example, ended }) {
   );
   await filter('');
   expect(String(await foot()) === String(whole), 'and of all again');
+  const summed = async () => plain(await page.run(`(() => {
+    const section = document.querySelector('section select').closest('section');
+    const [field, table] = [section.querySelector('select'), section.querySelector('table')];
+    return [field.value, table.getAttribute('aria-label'), table.tFoot.innerText].join('|');
+  })()`)).trim();
+  const byName = await summed();
+  await page.run(`(() => {
+    const field = document.querySelector('section select');
+    field.value = 'routes by to';
+    field.dispatchEvent(new Event('change'));
+  })()`);
+  const byEnd = await summed();
+  expect(
+    byName.startsWith('places by name|Sums of places by name|')
+      && byEnd.startsWith('routes by to|Sums of routes by to|')
+      && byEnd.endsWith(whole[0]),
+    `sums by another column, whose total is that of the routes: ${byEnd}`
+  );
   await example('transport');
   const sort = (title, head) =>
     page.run(`[...document.querySelectorAll('table[aria-label="${title}"] th')]

@@ -26,6 +26,8 @@ const MOST_ROWS = 500000;
 // The sorting, filter and scroll position of each sheet, by title. They survive a new plan.
 /** @type {Map<string, GridState>} */
 const kept = new Map();
+// The label of the sheet that was chosen where there are several. It survives a new plan, too.
+let viewed = '';
 
 export class Grid {
   /**
@@ -33,9 +35,24 @@ export class Grid {
    * @param {{ mark: string, change: Changing }} settings
    */
   constructor(sheet, { mark, change }) {
-    this.sheet = sheet;
     this.mark = mark;
     this.change = change;
+    this.element = el('section');
+    if (sheet.views) this.choose(sheet.views, sheet.views.labels.indexOf(viewed));
+    else this.put(sheet);
+  }
+
+  // This method shows one of several sheets, by default the first.
+  /** @type {(views: Views, k: number) => void} */
+  choose(views, k) {
+    views.chosen = Math.max(0, k);
+    this.put({ ...views.sheet(views.chosen), views });
+  }
+
+  // This method shows a sheet.
+  /** @type {(sheet: Sheet) => void} */
+  put(sheet) {
+    this.sheet = sheet;
     this.state = kept.get(sheet.title)
       || { by: null, down: false, filter: '', used: false, top: 0 };
     kept.set(sheet.title, this.state);
@@ -61,16 +78,29 @@ export class Grid {
       this.table
     );
     this.count = el('span', { class: 'soft count', role: 'status' });
-    this.element = el(
-      'section',
-      {},
-      el('h2', {}, sheet.title),
+    this.element.replaceChildren(
+      el('h2', {}, sheet.views ? 'Sums' : sheet.title),
       sheet.note ? el('p', { class: 'soft' }, sheet.note) : '',
+      sheet.views ? this.viewsOf(sheet.views) : '',
       this.tools(),
       this.box
     );
     this.order = null;
     this.arrange();
+  }
+
+  // This method returns the field that chooses one of several sheets.
+  /** @type {(views: Views) => HTMLElement} */
+  viewsOf(views) {
+    const field = el('select', {
+      onchange: () => {
+        viewed = views.labels[field.selectedIndex];
+        this.choose(views, field.selectedIndex);
+        this.settle();
+        this.element.querySelector('select').focus();
+      },
+    }, views.labels.map((label, k) => el('option', { selected: k === views.chosen }, label)));
+    return el('p', {}, el('label', {}, 'of ', field));
   }
 
   /** @type {(column: Column, k: number) => HTMLElement} */

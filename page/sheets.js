@@ -2,6 +2,7 @@
 // This file turns an answer into what the page shows: a headline, lead sentences, facts, findings,
 // a scene, and tables to look at and to save.
 import { balanceOf } from './blocked.js';
+import { column, number, ownColumns, sheetOf } from './columns.js';
 import { pairsSummary, pairsTable, rivalsLines, rivalsSentence, rivalsTable } from './pairs.js';
 import {
   besideLines,
@@ -16,6 +17,7 @@ import { listed } from './faults.js';
 import { size } from './model.js';
 import { cellAt } from './tables.js';
 import { blockedScene, planScene, whyBlocked } from './scene.js';
+import { flowSumsTable, flowViews, pairSumsTable, pairViews } from './sums.js';
 import { grouped } from './view.js';
 
 /**
@@ -28,28 +30,6 @@ import { grouped } from './view.js';
  * @typedef {{ all: string, byPlace: string }} Delivered
  */
 
-/** @type {(head: string, meaning?: string, more?: Partial<Column>) => Column} */
-const column = (head, meaning = '', more = {}) => ({ head, meaning, ...more });
-/** @type {(head: string, meaning?: string, more?: Partial<Column>) => Column} */
-const number = (head, meaning, more = {}) => column(head, meaning, { number: true, ...more });
-// Heads of the columns that every sheet shows.
-const USED = ['from', 'to', 'least', 'most', 'cost', 'name', 'supply', 'penalty', 'x', 'y'];
-
-// This function returns a sheet of given rows.
-/** @type {(title: string, columns: Column[], rows: SheetRow[]) => Sheet} */
-const sheetOf = (title, columns, rows, more = {}) => ({
-  title,
-  columns,
-  count: rows.length,
-  row: (k) => rows[k],
-  hasIdle: rows.some(({ kind }) => kind === 'idle'),
-  ...more,
-});
-
-// This function returns the planner's own columns of a table.
-/** @type {(table: Table) => number[]} */
-const ownColumns = (table) =>
-  table.heads.map((_, place) => place).filter((place) => !USED.includes(table.heads[place]));
 /** @type {(table: Table) => Column[]} */
 const ownOf = (table) => ownColumns(table).map((place) => column(table.titles[place]));
 
@@ -59,6 +39,7 @@ export function planShown(plan) {
   const { units, said } = problem;
   const carrying = plan.routes.filter((result) => result.carries).length;
   const full = plan.routes.filter((_, k) => plan.isFull(k)).length;
+  const views = flowViews(plan);
   /** @type {Shown['facts']} */
   const facts = [
     [problem.places.length, 'places'],
@@ -84,8 +65,12 @@ export function planShown(plan) {
     facts,
     findings: [],
     scene: (caption) => planScene(plan, caption),
-    sheets: [...savingsSheet(plan), routesSheet(plan), placesSheet(plan)],
-    tables: () => [flowsTable(plan), pricesTable(plan)],
+    sheets: [
+      ...savingsSheet(plan), routesSheet(plan), placesSheet(plan), { ...views.sheet(0), views },
+    ],
+    tables: () => [
+      flowsTable(plan), pricesTable(plan), flowSumsTable(plan, [views.columns[views.chosen]]),
+    ],
   };
 }
 
@@ -402,7 +387,7 @@ function inputSheets(problem) {
 
 /** @type {(roster: Roster) => Shown} */
 export function pairsShown(roster) {
-  const { units, said, maximise, pairs } = roster;
+  const { units, said, maximise, pairs } = roster, views = pairViews(roster);
   /** @type {SheetRow[]} */
   const rows = pairs.map(({ who, what, cost }) => (
     { kind: '', cells: [who, what, units.rate(cost)] }
@@ -422,9 +407,15 @@ export function pairsShown(roster) {
     findings: [],
     scene: null,
     sheets: [
-      sheetOf('Pairs', [column('who'), column('what'), number(maximise ? 'value' : 'cost')], rows),
+      sheetOf(
+        'Pairs',
+        [column('who'), column('what'), number(maximise ? 'value' : 'cost')],
+        rows,
+        { totals: ['', '', units.total(roster.cost)] }
+      ),
+      { ...views.sheet(0), views },
     ],
-    tables: () => [pairsTable(roster)],
+    tables: () => [pairsTable(roster), pairSumsTable(roster, [views.columns[views.chosen]])],
   };
 }
 

@@ -18,6 +18,7 @@ import {
 } from './report.js';
 import { flowOf, pairsOf } from './running.js';
 import { planShown } from './sheets.js';
+import { flowSumsTable, pairSumsTable } from './sums.js';
 import { loaded } from './test_module.mjs';
 import { speakAs } from './words.js';
 
@@ -63,11 +64,13 @@ export function asked(words) {
     policy: {},
     each: null,
     maximise: false,
+    by: [],
     caption: { title: '', source: '', unit: '', currency: '' },
   };
   for (let k = 0; k < words.length; k++) {
     const word = words[k];
     if (word === '--maximise') found.maximise = true;
+    else if (word === '--by') found.by.push(words[++k]);
     else if (word === '--map') {
       const [head, own] = words[++k].split('=');
       found.reading.heads[head] = own;
@@ -82,6 +85,16 @@ export function asked(words) {
   return found;
 }
 
+// This function returns the places of the columns of a table with these titles.
+const placesOf = (table, titles) =>
+  titles.map((title) => table.titles.indexOf(title)).filter((place) => place >= 0);
+
+// This function returns the columns of a flow with these titles, in the order of the titles.
+const columnsOf = ({ placeTable, routeTable }, titles) => titles.flatMap((title) => [
+  ...placesOf(placeTable, [title]).map((place) => ['places', place]),
+  ...placesOf(routeTable, [title]).map((place) => ['routes', place]),
+]);
+
 // This function returns what the page says about a flow, and its tables.
 async function flow(solver, sources, choices) {
   const { problem, plan, blocked } = await flowOf(solver, sources, choices);
@@ -89,11 +102,13 @@ async function flow(solver, sources, choices) {
     said: [
       ...slips(problem, choices.policy).map((line) => `mcf_plan: warning: ${line}`),
       ...(plan ? flowSummary(plan) : blockedSummary(blocked)),
-      ...problem.told(),
+      ...problem.told(choices.policy),
     ],
     status: plan ? 0 : 1,
     mark: problem.mark,
-    tables: plan ? [flowsTable(plan), pricesTable(plan)] : [bottleneckTable(blocked)],
+    tables: plan
+      ? [flowsTable(plan), pricesTable(plan), flowSumsTable(plan, columnsOf(problem, choices.by))]
+      : [bottleneckTable(blocked)],
   };
 }
 
@@ -105,7 +120,9 @@ async function pairs(solver, source, choices) {
     said: [...(rivals ? rivalsLines(roster, rivals) : pairsSummary(roster)), ...roster.told()],
     status: rivals ? 1 : 0,
     mark: roster.mark,
-    tables: [rivals ? rivalsTable(roster, rivals) : pairsTable(roster)],
+    tables: rivals
+      ? [rivalsTable(roster, rivals)]
+      : [pairsTable(roster), pairSumsTable(roster, placesOf(roster.table, choices.by))],
   };
 }
 
@@ -182,10 +199,27 @@ async function mapped(expect, solver) {
   );
 }
 
+// Sums of pairs: by things, by persons with several, by costs with the mark of the table, and by a
+// column of one's own, of which values without a pair count, too.
+async function summed(expect, solver) {
+  const text = 'who;Ding;cost;takes;day\nA;X;1,5;2..2;Mo\nA;Y;10;;Di\nB;Z;9;1..3;Mi\nB;W;2;;Mo\n'
+    + 'B;Y;3,25;;Do\nC;W;1;0..0;Fr\n';
+  const choices = asked(['--map', 'what=Ding', '--by', 'day', '--each', 'what']);
+  const { tables, mark } = await told('pairs', solver, [{ name: 'costs', text }], choices);
+  expect(
+    csvOf(tables[1], mark) === 'by;value;pairs;total\nDing;X;1;1,5\nDing;Y;1;10\nDing;Z;1;9\n'
+      + 'Ding;W;1;2\nwho;A;2;11,5\nwho;B;2;11\nwho;C;0;0\n'
+      + 'cost;1,5;1;1,5\ncost;2;1;2\ncost;9;1;9\ncost;10;1;10\n'
+      + 'day;Mo;2;3,5\nday;Di;1;10\nday;Mi;1;9\nday;Do;0;0\nday;Fr;0;0\n',
+    `sums of pairs: ${csvOf(tables[1], mark)}`
+  );
+}
+
 export default async function test(expect) {
   const solver = solverOf(loaded());
   await written(expect, solver);
   await mapped(expect, solver);
+  await summed(expect, solver);
   for (const name of fs.readdirSync(plans)
     .filter((one) => fs.existsSync(path.join(plans, one, 'expected')))) {
     const folder = path.join(plans, name);

@@ -94,6 +94,51 @@ async function totals(expect) {
   expect(totalsOf({ count: 3 }, [1], '').length === 0, 'a sheet without totals');
 }
 
+// The rows of the sums that are shown, with the line below them.
+const rowsOf = ({ count, row, totals }) =>
+  [...Array.from({ length: count }, (_, k) => row(k).cells), totals].map(String).join('; ');
+
+// The page sums by names first, and by any other column that is chosen. The table to save has both.
+async function sums(expect) {
+  const places = 'name;supply;Region\nA;-2,5;Süd\nB;7,25;Nord\nC;-6;Süd\n';
+  const routes = 'from;to;most;cost;both;Art;carries;total;free;one_more_saves;exact;'
+    + 'one_more_carried_costs\nA;B;9;1,5;yes;Bahn;;;;;;\nB;C;5;2;;;;;;;;\nA;C;4;0,75;;Bahn;;;;;;\n';
+  const carries = [['-2.5', '3.75'], ['4.75', '9.5'], ['0', '0']];
+  const unmet = [[], [], ['0', '1.25']], figures = { mark: ',', cost: '13.25', carries, unmet };
+  const { plan } = await flow('plan', places, routes, figures, { short: true });
+  const shown = planShown(plan), { views } = shown.sheets.find((sheet) => sheet.views);
+  expect(
+    views.labels.join()
+      === 'places by name,places by Region,routes by from,routes by to,routes by both,routes by Art',
+    views.labels.join()
+  );
+  const heads = (k) => views.sheet(k).columns.map(({ head }) => head).join();
+  expect(heads(0) === 'name,comes in,goes out,sends,takes,missing,total', heads(0));
+  expect(heads(1) === 'Region,lines,comes in,goes out,sends,takes,missing,total', heads(1));
+  for (const [k, rows] of [
+    [0, 'A,2.5,0,0,2.5,0,0; B,0,7.25,7.25,0,0,13.25; C,4.75,0,0,4.75,1.25,0; '
+      + ',7.25,7.25,7.25,7.25,1.25,13.25'],
+    [1, 'Süd,2,7.25,0,0,7.25,1.25,0; Nord,1,0,7.25,7.25,0,0,13.25; '
+      + ',3,7.25,7.25,7.25,7.25,1.25,13.25'],
+    [2, 'B,2,7.25,13.25; A,1,0,0; ,3,7.25,13.25'],
+    [3, 'A,1,2.5,3.75; C,2,4.75,9.5; ,3,7.25,13.25'],
+    [5, 'Bahn,2,2.5,3.75; ,1,4.75,9.5; ,3,7.25,13.25'],
+  ]) {
+    expect(rowsOf(views.sheet(k)) === rows, `${views.labels[k]}: ${rowsOf(views.sheet(k))}`);
+  }
+  expect(views.sheet(2).row(1).kind === 'idle' && views.sheet(2).hasIdle, 'routes that are idle');
+  const text = () => csvOf(shown.tables()[2], ',');
+  expect(!text().includes('Region;') && !text().includes(';carries;'), text());
+  views.chosen = 5;
+  expect(
+    text().startsWith(
+      'table;by;value;lines;comes_in;goes_out;sends;takes;stays;missing;carries;total\n'
+        + 'places;name;A;1;2,5;0;0;2,5;0;0;;0\n'
+    ) && text().endsWith('routes;Art;Bahn;2;;;;;;;2,5;3,75\nroutes;Art;;1;;;;;;;4,75;9,5\n'),
+    text()
+  );
+}
+
 // A penalty is a part of the cost, and has decimals of its own. Units are told once each: of what is
 // missing, and of the cost.
 async function penalties(expect) {
@@ -175,5 +220,5 @@ function titled(expect) {
 
 export default async function test(expect) {
   titled(expect);
-  for (const part of [leads, totals, steps, delivered, penalties]) await part(expect);
+  for (const part of [leads, totals, sums, steps, delivered, penalties]) await part(expect);
 }

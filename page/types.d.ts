@@ -333,6 +333,27 @@ interface Sheet {
   from?: import('./tables.js').Table;
   field?: 'places' | 'routes';
   note?: string;
+  views?: Views;
+}
+
+/** Sheets of which one is chosen, with their labels and what they are about. */
+interface Views<Of = unknown> {
+  columns: Of[];
+  labels: string[];
+  chosen: number;
+  sheet(k: number): Sheet;
+}
+
+/**
+ * Sums by a column: what is summed, the title of the column, whether its values are numbers, and for
+ * each of them the number of lines, amounts, and a cost, which is null if a cost is beyond what
+ * figures take.
+ */
+interface Sums {
+  table: 'places' | 'routes' | 'pairs';
+  by: string;
+  isNumber?: boolean;
+  rows: [value: string, numbers: bigint[]][];
 }
 
 /** What is written as CSV; `figures` are the columns that have numbers. */

@@ -9,7 +9,8 @@ Texts              tables, workbook
 The program        programs, answer; told has the sentences about faults
 Content            problem (places and routes), roster (persons and things), figures (numbers)
 No plan            bottlenecks, competitions
-Writing            folder, results, report, pairs, notes, caption, page with flowpage and pairspage
+Writing            folder, results, report, pairs, sums, notes, caption, page with flowpage,
+                   pairspage and sumspage
 Pictures           scene (the content), layout, room, picture with rows and dots, all with drawing
 Two plans          diff
 Afterwards         asked (what the plan of a folder was asked of), verify

@@ -165,6 +165,13 @@ def add_common(command, act):
     )
     add_programs(command)
     add_reading(command)
+    command.add_argument(
+        "--by",
+        action="append",
+        default=[],
+        metavar="COLUMN",
+        help="also write sums by the values of this column of a table",
+    )
     command.set_defaults(act=act)
 
 

@@ -1,7 +1,7 @@
 """The commands `flow` and `pairs`. They read tables and write a folder of results."""
 import re
 
-from . import asked, flowpage, life, notes, pairs, pairspage, picture, report, scene
+from . import asked, flowpage, life, notes, pairs, pairspage, picture, report, scene, sums
 from .answer import answer_to
 from .bottlenecks import Blocked
 from .caption import caption_of
@@ -102,23 +102,27 @@ def flow_command(options, reading):
         found = asking.write(folder)
         problem = Problem(found, asking.tables, options)
         life.warn(report.slips(problem))
+        columns = sums.columns_named(options.by, sums.tables_of(problem))
         results = Results(folder, options, problem.mark, asking.tables)
         if found.kind == "plan":
-            lines = plan_results(Plan(problem), results, options)
+            lines = plan_results(Plan(problem), results, options, columns)
         else:
             lines = blocked_results(Blocked(problem, answer), results, options)
     return lines + notes.notes_of(problem), 0 if found.kind == "plan" else 1
 
 
-def plan_results(plan, results, options):
-    """Writes the results of a plan, and returns the summary."""
+def plan_results(plan, results, options, columns):
+    """Writes the results of a plan, with sums by these columns, and returns the summary."""
     problem, folder = plan.problem, results.folder
     caption = caption_of(options, problem.place_table, problem.route_table)
     report.write_flows(results, plan)
     report.write_prices(results, plan)
+    found = sums.flow_sums(plan, columns)
+    results.table("sums", problem.place_table, problem.place_sheet, *sums.flow_table(found))
     results.finish()
     drawn = drawn_in(folder, scene.plan_scene(plan, caption), options)
-    write_page(folder, flowpage.plan_page(plan, options, drawn), problem.mark, caption)
+    page = flowpage.plan_page(plan, options, drawn, found)
+    write_page(folder, page, problem.mark, caption)
     return report.flow_summary(plan)
 
 
@@ -156,10 +160,14 @@ def pairs_command(options, reading):
     with results_in(options.folder) as folder:
         found = asking.write(folder)
         roster = Roster(found, asking.tables[0], options)
+        columns = sums.pair_columns(options.by, roster)
         results = Results(folder, options, roster.mark, asking.tables)
         if found.kind == "plan":
             pairs.write_pairs(results, roster)
-            lines, page = pairs.summary(roster), pairspage.plan_page(roster, options)
+            found_sums = sums.pair_sums(roster, columns)
+            heads, rows = sums.pair_table(found_sums)
+            results.table("sums", roster.table, roster.sheet, heads, rows)
+            lines, page = pairs.summary(roster), pairspage.plan_page(roster, options, found_sums)
         else:
             pairs.write_bottlenecks(results, roster)
             lines, page = pairs.blocked_lines(roster), pairspage.blocked_page(roster, options)

@@ -1,5 +1,5 @@
 """The page of a flow."""
-from . import report
+from . import report, sumspage
 from .caption import shown_number
 from .figures import Figure, figure
 from .notes import notes_of
@@ -46,8 +46,8 @@ def own_columns(sheet):
     return [place for place in kept(sheet) if sheet.heads[place] not in USED]
 
 
-def plan_page(plan, options, picture):
-    """The page of a plan."""
+def plan_page(plan, options, picture, sums):
+    """The page of a plan and its sums."""
     problem = plan.problem
     carrying = sum(1 for result in plan.routes if result.carries)
     full = sum(1 for number in range(len(plan.routes)) if plan.is_full(number))
@@ -71,7 +71,9 @@ def plan_page(plan, options, picture):
         facts,
         [],
         picture,
-        savings(plan) + [routes_sheet(plan), places_sheet(plan)],
+        savings(plan)
+        + [routes_sheet(plan), places_sheet(plan)]
+        + [sumspage.flow_sheet(plan, one) for one in sums],
     )
 
 

@@ -15,6 +15,7 @@ RESULTS = (
     "flows.csv",
     "prices.csv",
     "pairs.csv",
+    "sums.csv",
     "bottleneck.csv",
     "plan.xlsx",
     "plan.svg",

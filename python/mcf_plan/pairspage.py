@@ -1,13 +1,13 @@
 """The page of pairs."""
-from . import pairs
+from . import pairs, sumspage
 from .caption import shown_number
 from .competitions import competitions_of
 from .figures import Figure
 from .page import Page, Sheet, finding, listed_rows
 
 
-def plan_page(roster, options):
-    """The page of chosen pairs."""
+def plan_page(roster, options, sums):
+    """The page of chosen pairs and their sums."""
     facts = [
         (Figure(len(roster.persons)), "persons"),
         (Figure(len(roster.things)), "things"),
@@ -27,7 +27,8 @@ def plan_page(roster, options):
         facts,
         [],
         None,
-        [Sheet("Pairs", [("who", ""), ("what", ""), ("cost", "")], rows, total, note)],
+        [Sheet("Pairs", [("who", ""), ("what", ""), ("cost", "")], rows, total, note)]
+        + [sumspage.pair_sheet(one) for one in sums],
     )
 
 

@@ -15,7 +15,7 @@ from mcf_plan.programs import program
 TOP = pathlib.Path(__file__).resolve().parents[2]
 PLANS = TOP / "examples" / "plans"
 # The results that tests compare: the tables. The picture depends on whether Graphviz is installed.
-COMPARED = ("flows.csv", "prices.csv", "pairs.csv", "bottleneck.csv")
+COMPARED = ("flows.csv", "prices.csv", "pairs.csv", "sums.csv", "bottleneck.csv")
 PLACES = "name,supply\nMill,30\nWien,-18\nGraz,-12\n"
 ROUTES = "from,to,least,most,cost\nMill,Wien,0,15,4\nMill,Graz,0,20,7\nGraz,Wien,0,10,2\n"
 

@@ -321,7 +321,7 @@ class Workbooks(WithFolder):
         self.assertEqual((status, told), (0, ""), told)
         self.assertIn("cost 4139.035.", said)
         made = openpyxl.load_workbook(self.out / "plan.xlsx")
-        self.assertEqual(made.sheetnames, ["flows", "prices"])
+        self.assertEqual(made.sheetnames, ["flows", "prices", "sums"])
         rows = list(made["flows"].iter_rows(values_only=True))
         self.assertEqual(
             rows[1], ("A", "B", None, 8.07, "=1+1 GmbH", 500.5, 4039.035, None, 0, "yes", 0)
