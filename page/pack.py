@@ -78,6 +78,7 @@ def examples():
                 "texts": texts,
                 "heads": heads,
                 "unused": "--unused" in words,
+                "short": "--short" in words,
             }
         )
     return found

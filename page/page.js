@@ -149,13 +149,13 @@ async function take(list) {
 
 /** @type {(number: number) => void} */
 function example(number) {
-  const { kind, texts, heads, unused } = examples()[number];
+  const { kind, texts, heads, unused, short } = examples()[number];
   chooseKind(kind);
   (kind === 'flow' ? ['places', 'routes'] : ['costs']).forEach((id, k) => put(id, texts[k]));
   $('heads').value = heads;
   $('unused').checked = unused;
-  $('short').checked = false;
-  $('penalty').disabled = true;
+  $('short').checked = short;
+  $('penalty').disabled = !short;
   for (const id of ['title', 'unit', 'currency', 'penalty', 'decimal', 'encoding', 'each']) {
     $(id).value = '';
   }

@@ -50,6 +50,7 @@ interface Example {
   texts: string[];
   heads: string;
   unused: boolean;
+  short: boolean;
 }
 
 /** A line of a table, with its number. */
