@@ -33,6 +33,7 @@ _mcf_options()
         mcf_plan:flow) echo -h --help "$plan" --unused --short --most-flow --penalty --no-picture ;;
         mcf_plan:pairs) echo -h --help "$plan" --each --maximise --maximize ;;
         mcf_plan:diff) echo -h --help --all ;;
+        mcf_plan:compare) echo -h --help -o --output ;;
         mcf_plan:verify) echo -h --help --programs ;;
         mcf_plan:*) echo -h --help ;;
         mcf_explain:*) echo -h --help --programs ;;
@@ -45,7 +46,7 @@ _mcf_subcommands()
     case $1 in
         mcf) echo solve help ;;
         mcfplan) echo flow pairs help ;;
-        mcf_plan) echo flow pairs diff verify ;;
+        mcf_plan) echo flow pairs diff compare verify ;;
     esac
 }
 

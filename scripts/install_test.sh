@@ -38,6 +38,7 @@ tools() {
     step 0 "plan, proved: cost" mcf_plan flow plans/transport/places.csv plans/transport/routes.csv -o flow --no-picture
     step 0 "pairs, proved: cost" mcf_plan pairs plans/roster/costs.csv -o pairs
     step 0 "0 of 15 differ." mcf_plan diff flow flow
+    step 0 "0 of 15 amounts differ." mcf_plan compare flow flow
     step 0 "The tables give this answer, proved: plan, cost" mcf_plan verify flow
 }
 

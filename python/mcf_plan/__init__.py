@@ -12,6 +12,6 @@ No plan            bottlenecks, competitions
 Writing            folder, results, report, pairs, sums, notes, caption, page with flowpage,
                    pairspage and sumspage
 Pictures           scene (the content), layout, room, picture with rows and dots, all with drawing
-Two plans          diff
+Several plans      diff (of two), compare with comparepage (side by side)
 Afterwards         asked (what the plan of a folder was asked of), verify
 """

@@ -6,6 +6,7 @@ import signal
 import sys
 
 from .commands import flow_command, pairs_command
+from .compare import compare_command
 from .diff import diff_command
 from .faults import Stop, trouble
 from .results import Results
@@ -52,18 +53,21 @@ def options_of(words):
         description="Plans from tables: mcfplan makes them, by a proof.",
         epilog=STATUSES,
     )
-    commands = parser.add_subparsers(dest="command", metavar="flow|pairs|diff|verify")
+    commands = parser.add_subparsers(dest="command", metavar="flow|pairs|diff|compare|verify")
     add_flow(commands.add_parser("flow", help="a least-cost flow over routes between places"))
     add_pairs(commands.add_parser("pairs", help="least-cost pairs of persons and things"))
     add_diff(commands.add_parser("diff", help="compare two plans"))
+    add_compare(commands.add_parser("compare", help="put plans side by side"))
     add_verify(
         commands.add_parser("verify", help="whether the tables of a plan give the answer it has")
     )
     options = parser.parse_args(words)
     if not options.command:
-        parser.error("say what is planned: flow or pairs; or say diff or verify")
+        parser.error("say what is planned: flow or pairs; or say diff, compare or verify")
     if options.command == "flow" and len(options.tables) > 2:
         parser.error("flow takes two tables, or a workbook")
+    if options.command == "compare" and len(options.plans) < 2:
+        parser.error("compare takes two folders of plans or more")
     if options.xlsx:
         Results.check("--xlsx")
     return options
@@ -128,6 +132,15 @@ def add_diff(command):
     command.add_argument("new", metavar="NEW", help="the folder of the second")
     command.add_argument("--all", action="store_true", help="list all differences")
     command.set_defaults(act=diff_command, map=[], decimal=None, encoding=None, xlsx=False)
+
+
+def add_compare(command):
+    """Adds the words and options of `compare`."""
+    command.add_argument("plans", metavar="PLAN", nargs="+", help="the folders of the plans")
+    command.add_argument(
+        "-o", "--output", dest="folder", metavar="FOLDER", help="the folder for tables and a page"
+    )
+    command.set_defaults(act=compare_command, map=[], decimal=None, encoding=None, xlsx=False)
 
 
 def add_verify(command):

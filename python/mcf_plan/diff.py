@@ -4,6 +4,7 @@ import csv
 import pathlib
 
 from .answer import Answer
+from .asked import sha256_of
 from .bottlenecks import bottlenecks_of
 from .competitions import competitions_of
 from .faults import bad_table
@@ -36,12 +37,13 @@ def name_text(key):
 class Folder:
     """The plan of a folder, from its answer: its cost, or why there is none; what each route
     carries, or each chosen pair; what stays and what is missing at places, and what it costs that
-    something is missing."""
+    something is missing; how many there are of what; and the SHA-256 of the answer."""
 
     def __init__(self, name):
         try:
             answer = Answer((pathlib.Path(name) / "answer.csv").read_bytes())
             self.mark, self.stays, self.missing, self.delivered = answer.shown_mark, {}, {}, {}
+            self.counts, self.sha256 = {}, sha256_of(answer.data)
             self.is_flow, self.cost, self.parts, self.penalties = (
                 not answer.rows["persons"],
                 None,
@@ -81,6 +83,13 @@ class Folder:
         passing = [place.through for place in plan.places if place.through]
         costs = [result.cost for result in plan.routes + passing]
         self.penalties = 0 if None in costs else plan.cost - sum(costs)
+        carrying = sum(1 for result in plan.routes if result.carries)
+        full = sum(map(plan.is_full, range(len(plan.routes))))
+        self.counts = {
+            "routes": len(plan.routes),
+            "routes that carry something": carrying,
+            "full routes": full,
+        }
         self.delivered = {
             place.name: -place.supply - self.missing.get(place.name, 0)
             for place in problem.places
@@ -97,6 +106,12 @@ class Folder:
         self.cost = roster.cost()
         self.parts = sorted((pair.who, pair.what, 1) for pair in roster.pairs)
         self.delivered = collections.Counter(what for _, what, _ in self.parts)
+        taking = {who for who, _, _ in self.parts}
+        self.counts = {
+            "pairs": len(self.parts),
+            "persons without a thing": len(roster.persons) - len(taking),
+            "things left over": len(roster.things) - len(self.delivered),
+        }
 
 
 def why_not(problem):

@@ -25,16 +25,22 @@ RESULTS = (
     "instance.asn",
     "answer.ans",
 )
+# The files of a comparison.
+COMPARISON = ("compare.csv", "compare.html")
 # How the files begin of which one shows that a folder is the tool's own.
-BEGINS = {"answer.csv": '"answer","', "plan.json": '{\n"format": '}
+BEGINS = {
+    "answer.csv": '"answer","',
+    "plan.json": '{\n"format": ',
+    "compare.csv": "figure",
+}
 
 
 @contextlib.contextmanager
-def results_in(name):
+def results_in(name, files=RESULTS):
     """A new folder beside the named one, which it replaces at the end. If the run fails, the new
-    folder is removed."""
+    folder is removed. Results have these names."""
     target = pathlib.Path(os.path.realpath(name))
-    check_target(name, target)
+    check_target(name, target, files)
     part = target.with_name(f".{target.name}.part-{os.getpid()}")
     try:
         target.parent.mkdir(parents=True, exist_ok=True)
@@ -48,12 +54,12 @@ def results_in(name):
         shutil.rmtree(part, ignore_errors=True)
 
 
-def check_target(name, target):
-    """Ends the run if the folder has a file that isn't a result of this tool and might be lost."""
+def check_target(name, target, files):
+    """Ends the run if the folder has a file that isn't such a result and might be lost."""
     if target.exists() and not target.is_dir():
         raise trouble(f"the folder {name} can't be made: there is a file of this name")
     names = sorted(path.name for path in target.iterdir()) if target.exists() else []
-    foreign = [name for name in names if name not in RESULTS]
+    foreign = [name for name in names if name not in files]
     if foreign:
         raise Stop(
             (
@@ -65,7 +71,7 @@ def check_target(name, target):
     if names and not any(begins(target / name, text) for name, text in BEGINS.items()):
         raise Stop(
             (
-                f"the folder {name} has {names[0]}, and no answer.csv of this tool, by which it"
+                f"the folder {name} has {names[0]}, and no {files[0]} of this tool, by which it"
                 " would be an earlier result: name a folder of its own with -o"
             ),
             2,
@@ -93,9 +99,9 @@ def swap(part, target):
 
 
 def begins(path, text):
-    """Whether a file begins with a text."""
+    """Whether a file begins with a text, perhaps after a byte-order mark."""
     try:
-        with open(path, "rb") as file:
-            return file.read(len(text)) == text.encode()
+        with open(path, encoding="utf-8-sig", errors="replace") as file:
+            return file.read(len(text)) == text
     except OSError:
         return False

@@ -93,6 +93,12 @@ class WithFolder(unittest.TestCase):
             *more,
         )
 
+    def made(self, name, places, routes, *words):
+        """Makes a plan in a folder of this name."""
+        self.out = self.folder / name
+        self.flow(places, routes, *words)
+        return self.out
+
     def pairs(self, costs, *more):
         """Runs `pairs` on a table."""
         return run("pairs", self.put("costs.csv", costs), "-o", self.out, *more)

@@ -21,6 +21,7 @@ LINES = (
     ("mcf_plan", "flow"),
     ("mcf_plan", "pairs"),
     ("mcf_plan", "diff"),
+    ("mcf_plan", "compare"),
     ("mcf_plan", "verify"),
     ("mcf_explain",),
 )
@@ -102,7 +103,7 @@ class Bash(unittest.TestCase):
         self.assertEqual(bash("mcf", "solve", "--engine", "s"), ["simplex", "scaling", "sap"])
         self.assertEqual(bash("mcf", "solve", "--pricing", "=", "b"), ["best", "block"])
         self.assertEqual(bash("mcf", "solve", "--form", "="), ["full", "sparse", "1", "2"])
-        self.assertEqual(bash("mcf_plan", ""), ["flow", "pairs", "diff", "verify"])
+        self.assertEqual(bash("mcf_plan", ""), ["flow", "pairs", "diff", "compare", "verify"])
         for words in (
             ("mcfcheck", ""),
             ("mcfcheck", "-"),

@@ -16,12 +16,6 @@ DECIMAL_ROUTES = (
 class Diff(WithFolder):
     """`mcf_plan diff`."""
 
-    def made(self, name, places, routes, *words):
-        """Makes a plan in a folder of this name."""
-        self.out = self.folder / name
-        self.flow(places, routes, *words)
-        return self.out
-
     def test_two_plans(self):
         old, new = self.made("old", PLACES, ROUTES), self.made(
             "new", PLACES, ROUTES.replace("15,4", "18.5,4") + "Mill,Wien,0,1,1\n"

@@ -1,0 +1,71 @@
+"""The page of plans side by side."""
+from . import page
+from .caption import Caption, date_of_run
+from .figures import Figure, figure
+from .page import Page, Sheet, listed_rows, text
+
+FROM = (
+    "All figures are those of the answers of these plans, which have these SHA-256."
+    " <code>mcf_plan verify FOLDER</code> has mcfplan answer the tables of a plan again, and"
+    " compares."
+)
+
+
+class Writer(page.Writer):
+    """Assembles the page of a comparison, which has answers in place of one."""
+
+    def __init__(self, comparison):
+        source = f"{date_of_run()}: {', '.join(comparison.labels)}"
+        self.comparison, self.mark = comparison, comparison.mark
+        self.caption = Caption("", source, "", "")
+
+    def seal(self):
+        """The line below the headline: which answers these are."""
+        return (
+            '<p class="soft">From the answers of these plans (<a href="#answers">which these'
+            " are</a>)</p>"
+        )
+
+    def proof(self):
+        """The section with the checksums of the answers."""
+        found = self.comparison
+        sums = "".join(
+            f"<dt>{text(label)}</dt><dd><code>{plan.sha256}</code></dd>"
+            for label, plan in zip(found.labels, found.plans)
+        )
+        return f'<section id="answers"><h2>Answers</h2><p>{FROM}</p><dl>{sums}</dl></section>'
+
+
+def page_of(comparison):
+    """The page of a comparison."""
+    word, found = "amounts" if comparison.is_flow else "pairs", comparison.differing()
+    plans = len(comparison.plans)
+    facts = [
+        (Figure(plans), "plans"),
+        (Figure(len(comparison.parts)), word),
+        (Figure(len(found)), "differ"),
+    ]
+    title = f"{plans} plans side by side"
+    sheets = [figures_sheet(comparison), parts_sheet(comparison, found)]
+    return Page(title, title, True, comparison.notes(), facts, [], None, sheets)
+
+
+def figures_sheet(comparison):
+    """The table of the figures."""
+    columns = [("figure", ""), *((label, "") for label in comparison.labels)]
+    rows = [("", [name, *map(figure, values)]) for name, values in comparison.figures]
+    return Sheet("Figures", columns, rows)
+
+
+def parts_sheet(comparison, differing):
+    """The table of the routes or pairs: those that differ, most of all first, then the others."""
+    ends = ["from", "to"] if comparison.is_flow else ["who", "what"]
+    others = [row for row in comparison.parts if not comparison.difference(row[1])]
+    rows = []
+    for key, values in differing + others:
+        kind = "" if any(values) else "idle"
+        rows.append((kind, [*key[:2], *map(figure, values), figure(comparison.difference(values))]))
+    columns = [(head, "") for head in [*ends, *comparison.labels]]
+    columns.append(("differ by", "the greatest less the least; not there: 0"))
+    rows, note = listed_rows(rows)
+    return Sheet("Amounts" if comparison.is_flow else "Pairs", columns, rows, (), note)
