@@ -2,7 +2,7 @@
 import collections
 import unicodedata
 
-from .faults import Stop
+from .faults import Stop, shown
 from .figures import Figure, figure, number_in
 from .results import kept
 from .roster import PAIR_HEADS
@@ -41,7 +41,7 @@ def columns_named(names, tables):
         here = [(word, place) for word, place in places.items() if place is not None]
         if not here:
             titles = [
-                f"'{table.title(sheet.titles[place])}'"
+                shown(table.title(sheet.titles[place]))
                 for _, table, sheet in tables
                 for place in kept(sheet)
             ]
