@@ -12,7 +12,7 @@ _mcf_values()
         *:--unused | *:--short) echo allow refuse ;;
         mcfplan:--each) echo auto who what both ;;
         *:--each) echo who what both ;;
-        mcfplan:--maximise) echo no yes ;;
+        mcfplan:--maximise | mcfplan:--ranges) echo no yes ;;
         mcfplan:--decimal) echo auto . , ;;
         *:--decimal) echo , . ;;
     esac
@@ -26,7 +26,7 @@ _mcf_options()
     case $1:$2 in
         mcf:solve) echo -h --help "$solve" ;;
         mcf:*) echo -h --help -V --version ;;
-        mcfplan:flow) echo -h --help --decimal --unused --short --penalty ;;
+        mcfplan:flow) echo -h --help --decimal --unused --short --penalty --ranges ;;
         mcfplan:pairs) echo -h --help --decimal --each --maximise ;;
         mcfplan:*) echo -h --help -V --version ;;
         mcf_one:*) echo "$solve" ;;

@@ -40,13 +40,13 @@ each_words = (codes "auto", None) ∷ (codes "who", Some Who) ∷ (codes "what",
 abbrev pub each_names : List Text
 each_names = map (λ (row : Text × Option AskedEach). row.0) each_words
 
--- the words for whether costs are values, and what each asks for
-abbrev pub maximise_words : List (Text × Bool)
-maximise_words = (codes "no", false) ∷ (codes "yes", true) ∷ []
+-- the words for no and yes, and what each asks for
+abbrev pub answer_words : List (Text × Bool)
+answer_words = (codes "no", false) ∷ (codes "yes", true) ∷ []
 
 -- the words alone
-abbrev pub maximise_names : List Text
-maximise_names = map (λ (row : Text × Bool). row.0) maximise_words
+abbrev pub answer_names : List Text
+answer_names = map (λ (row : Text × Bool). row.0) answer_words
 
 -- `--decimal MARK`, one of these words, and `auto` where it is left out
 abbrev pub mark_rule : Bor (List (Bor Text)) → Rule
@@ -60,9 +60,9 @@ leave_rule name names = word_rule name names (codes "refuse")
 abbrev pub each_rule : Bor (List (Bor Text)) → Rule
 each_rule names = word_rule (codes "each") names (codes "auto")
 
--- `--maximise WORD`, one of these words, and `no` where it is left out
-abbrev pub maximise_rule : Bor (List (Bor Text)) → Rule
-maximise_rule names = word_rule (codes "maximise") names (codes "no")
+-- an option of this name, one of these words, and `no` where it is left out
+abbrev pub answer_rule : Text → Bor (List (Bor Text)) → Rule
+answer_rule name names = word_rule name names (codes "no")
 
 -- `--penalty N`, which may be left out
 abbrev pub penalty_rule : Rule
@@ -72,22 +72,23 @@ penalty_rule = record (new_rule (codes "penalty")) { long = Some (codes "penalty
 abbrev pub table_rule : Text → Rule
 table_rule name = record (new_rule name) { value_names = 1 }
 
--- the arguments of `flow`, with these words for marks, for what may stay and for what may be
--- missing
-abbrev pub flow_rules : Bor (List (Bor Text)) → Bor (List (Bor Text)) → Bor (List (Bor Text)) → List Rule
-flow_rules marks unused short =
-    mark_rule marks ∷ leave_rule (codes "unused") unused ∷ leave_rule (codes "short") short ∷ penalty_rule
+-- the arguments of `flow`, with these words for marks, for what may stay, for what may be missing
+-- and for whether ranges are told
+abbrev pub flow_rules : Bor (List (Bor Text)) → Bor (List (Bor Text)) → Bor (List (Bor Text)) → Bor (List (Bor Text)) → List Rule
+flow_rules marks unused short ranges =
+    mark_rule marks ∷ leave_rule (codes "unused") unused ∷ leave_rule (codes "short") short ∷ penalty_rule ∷ answer_rule (codes "ranges") ranges
     ∷ table_rule (codes "places") ∷ table_rule (codes "routes") ∷ []
 
--- `flow [--decimal MARK] [--unused WORD] [--short WORD] [--penalty N] [PLACES] [ROUTES]`
-abbrev pub flow_shape : Bor (List (Bor Text)) → Bor (List (Bor Text)) → Bor (List (Bor Text)) → Shape
-flow_shape marks unused short = record (new_app (codes "flow")).top { rules = flow_rules marks unused short }
+-- `flow [--decimal MARK] [--unused WORD] [--short WORD] [--penalty N] [--ranges WORD] [PLACES]
+-- [ROUTES]`
+abbrev pub flow_shape : Bor (List (Bor Text)) → Bor (List (Bor Text)) → Bor (List (Bor Text)) → Bor (List (Bor Text)) → Shape
+flow_shape marks unused short ranges = record (new_app (codes "flow")).top { rules = flow_rules marks unused short ranges }
 
 -- the arguments of `pairs`, with these words for marks, for who gets just one and for whether costs
 -- are values
 abbrev pub pairs_rules : Bor (List (Bor Text)) → Bor (List (Bor Text)) → Bor (List (Bor Text)) → List Rule
 pairs_rules marks each maximise =
-    mark_rule marks ∷ each_rule each ∷ maximise_rule maximise ∷ table_rule (codes "costs") ∷ []
+    mark_rule marks ∷ each_rule each ∷ answer_rule (codes "maximise") maximise ∷ table_rule (codes "costs") ∷ []
 
 -- `pairs [--decimal MARK] [--each WORD] [--maximise WORD] [COSTS]`
 abbrev pub pairs_shape : Bor (List (Bor Text)) → Bor (List (Bor Text)) → Bor (List (Bor Text)) → Shape
@@ -106,10 +107,12 @@ pub record IsFlow (shape : Shape) : Type 0 where
   pub marks : Bor (List (Bor Text))
   pub unused : Bor (List (Bor Text))
   pub short : Bor (List (Bor Text))
+  pub ranges : Bor (List (Bor Text))
   pub marks_spelled : texts marks.now ≡ mark_names
   pub unused_spelled : texts unused.now ≡ leave_names
   pub short_spelled : texts short.now ≡ leave_names
-  pub reads : shape ≡ flow_shape marks unused short
+  pub ranges_spelled : texts ranges.now ≡ answer_names
+  pub reads : shape ≡ flow_shape marks unused short ranges
 
 -- what a parse reads of the subcommand `pairs`
 pub record IsPairs (shape : Shape) : Type 0 where
@@ -118,7 +121,7 @@ pub record IsPairs (shape : Shape) : Type 0 where
   pub maximise : Bor (List (Bor Text))
   pub marks_spelled : texts marks.now ≡ mark_names
   pub each_spelled : texts each.now ≡ each_names
-  pub maximise_spelled : texts maximise.now ≡ maximise_names
+  pub maximise_spelled : texts maximise.now ≡ answer_names
   pub reads : shape ≡ pairs_shape marks each maximise
 
 -- what a parse reads of the command `mcfplan`
@@ -141,9 +144,9 @@ leave_by name = choice_by leave_words false name
 abbrev pub each_by : Option Text → Option AskedEach
 each_by name = choice_by each_words None name
 
--- whether a word asks that costs are values
-abbrev pub maximise_by : Option Text → Bool
-maximise_by name = choice_by maximise_words false name
+-- whether a word says yes
+abbrev pub answer_by : Option Text → Bool
+answer_by name = choice_by answer_words false name
 
 -- the texts of words
 abbrev pub word_text : Option (Bor Text) → Option Text
@@ -155,6 +158,7 @@ pub record IsAskedFlow (rows : List Row) (asked : AskedFlow) : Type 0 where
   pub unused : asked.unused ≡ leave_by (first_of (codes "unused") rows)
   pub short : asked.short ≡ leave_by (first_of (codes "short") rows)
   pub penalty : word_text asked.penalty ≡ first_of (codes "penalty") rows
+  pub ranges : asked.ranges ≡ answer_by (first_of (codes "ranges") rows)
   pub places : word_text asked.places ≡ first_of (codes "places") rows
   pub routes : word_text asked.routes ≡ first_of (codes "routes") rows
 
@@ -162,7 +166,7 @@ pub record IsAskedFlow (rows : List Row) (asked : AskedFlow) : Type 0 where
 pub record IsAskedPairs (rows : List Row) (asked : AskedPairs) : Type 0 where
   pub mark : asked.mark ≡ mark_by (first_of (codes "decimal") rows)
   pub each : asked.each ≡ each_by (first_of (codes "each") rows)
-  pub maximise : asked.maximise ≡ maximise_by (first_of (codes "maximise") rows)
+  pub maximise : asked.maximise ≡ answer_by (first_of (codes "maximise") rows)
   pub costs : word_text asked.costs ≡ first_of (codes "costs") rows
 
 -- what is asked is what the matches of the subcommand with this name hold

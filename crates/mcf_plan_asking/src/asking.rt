@@ -3,7 +3,7 @@ ghost use Rattle.std.specs.Prelude.{◌≡◌, IfOk, codes, false, map, option_m
 ghost use Rattle.clap.specs.Words.{app_of, found_of, rows_of, rule_of, shape_of};
 ghost use Rattle.clap.specs.declared.builder.command.Command.TheViews.{out-Command};
 ghost use Rattle.mcf_asking.specs.Asking.{Offers, word_rule};
-ghost use Rattle.mcf_plan_asking.specs.PlanAsking.{IsAskedBy, IsAskedFlow, IsAskedPairs, IsFlow, IsMcfplan, IsPairs, IsPlanReading, each_by, each_names, each_rule, leave_by, leave_names, leave_rule, mark_by, mark_names, mark_rule, maximise_by, maximise_names, maximise_rule, penalty_rule, table_rule};
+ghost use Rattle.mcf_plan_asking.specs.PlanAsking.{IsAskedBy, IsAskedFlow, IsAskedPairs, IsFlow, IsMcfplan, IsPairs, IsPlanReading, answer_by, answer_names, answer_rule, each_by, each_names, each_rule, leave_by, leave_names, leave_rule, mark_by, mark_names, mark_rule, penalty_rule, table_rule};
 
 use clap::{Arg, ArgMatches, Command, Error};
 use mcf_asking::word_option;
@@ -22,6 +22,8 @@ pub struct AskedFlow<'a> {
     pub short: bool,
     /// The cost of each missing unit, if it is named.
     pub penalty: Option<&'a str>,
+    /// Whether the ranges of the costs of routes are asked.
+    pub ranges: bool,
     /// The file of the table of places, if it is named.
     pub places: Option<&'a str>,
     /// The file of the table of routes, if it is named.
@@ -70,14 +72,14 @@ static LEAVES: [&str; 2] = ["refuse", "allow"];
 // The words for who gets just one.
 static EACHES: [&str; 4] = ["auto", "who", "what", "both"];
 
-// The words for whether costs are values.
+// The words for no and yes.
 static ANSWERS: [&str; 2] = ["no", "yes"];
 
 /// Parses the words of a command line: `mcfplan flow [--decimal auto|.|,] [--unused refuse|allow]
-/// [--short refuse|allow] [--penalty N] PLACES ROUTES`, or `mcfplan pairs [--decimal auto|.|,]
-/// [--each auto|who|what|both] [--maximise no|yes] COSTS`. The defaults are `auto`, `refuse` and
-/// `no`. PLACES, ROUTES and COSTS may be left out here; it is for the caller to want them, and to
-/// read N.
+/// [--short refuse|allow] [--penalty N] [--ranges no|yes] PLACES ROUTES`, or `mcfplan pairs
+/// [--decimal auto|.|,] [--each auto|who|what|both] [--maximise no|yes] COSTS`. The defaults are
+/// `auto`, `refuse` and `no`. PLACES, ROUTES and COSTS may be left out here; it is for the caller
+/// to want them, and to read N.
 ///
 /// The words begin with the name of the program, which isn't read.
 ///
@@ -113,6 +115,7 @@ fn flow_in<'a>(found: &ArgMatches<'a>) -> AskedFlow<'a>
         unused: leave_of(found.get_str("unused")),
         short: leave_of(found.get_str("short")),
         penalty: found.get_str("penalty"),
+        ranges: answer_of(found.get_str("ranges")),
         places: found.get_str("places"),
         routes: found.get_str("routes"),
     }
@@ -125,7 +128,7 @@ fn pairs_in<'a>(found: &ArgMatches<'a>) -> AskedPairs<'a>
     AskedPairs {
         mark: mark_of(found.get_str("decimal")),
         each: each_of(found.get_str("each")),
-        maximise: maximise_of(found.get_str("maximise")),
+        maximise: answer_of(found.get_str("maximise")),
         costs: found.get_str("costs"),
     }
 }
@@ -158,6 +161,11 @@ fn flow<'a>(alloc: Global) -> Result<Command<'a>, AllocError>
         .arg(leave_option(alloc, "unused", "Whether supplies may stay"))?
         .arg(leave_option(alloc, "short", "Whether demands may be missing"))?
         .arg(penalty_option(alloc))?
+        .arg(answer_option(
+            alloc,
+            "ranges",
+            "Whether to tell from what to what the cost of each route may change; two searches each",
+        ))?
         .arg(table_argument(alloc, "places", "PLACES"))?
         .arg(table_argument(alloc, "routes", "ROUTES"))
 }
@@ -173,7 +181,11 @@ fn pairs<'a>(alloc: Global) -> Result<Command<'a>, AllocError>
         )
         .arg(mark_option(alloc))?
         .arg(each_option(alloc))?
-        .arg(maximise_option(alloc))?
+        .arg(answer_option(
+            alloc,
+            "maximise",
+            "Whether costs are values, of which the pairs have as much as possible",
+        ))?
         .arg(table_argument(alloc, "costs", "COSTS"))
 }
 
@@ -205,14 +217,12 @@ fn each_option<'a>(alloc: Global) -> Arg<'a>
     )
 }
 
-// The option `--maximise`.
-fn maximise_option<'a>(alloc: Global) -> Arg<'a>
-    ensures rule { Offers maximise_rule maximise_names (rule_of result) }
+// An option that says no or yes.
+fn answer_option<'a>(alloc: Global, name: &'a str, help: &'a str) -> Arg<'a>
+    ensures rule { Offers (answer_rule name.entry.now) answer_names (rule_of result) }
     ensures local { result.global ≡ false }
 {
-    word_option(alloc, "maximise", "WORD", ANSWERS.as_slice(), "no").help(
-        "Whether costs are values, of which the pairs have as much as possible",
-    )
+    word_option(alloc, name, "WORD", ANSWERS.as_slice(), "no").help(help)
 }
 
 // The option `--penalty`.
@@ -267,9 +277,9 @@ fn each_of(name: Option<&str>) -> Option<AskedEach>
     }
 }
 
-// Whether costs are values, by a word.
-fn maximise_of(name: Option<&str>) -> bool
-    ensures { result ≡ maximise_by (option_map (λ n. n.now) name.entry) }
+// Whether a word says yes.
+fn answer_of(name: Option<&str>) -> bool
+    ensures { result ≡ answer_by (option_map (λ n. n.now) name.entry) }
 {
     match name {
         Some("yes") => true,

@@ -3,12 +3,15 @@ use crate::figures::{FigureRow, ROWS};
 use crate::places_planned::problem_of;
 use crate::plans::model_of;
 use mcf_choice::Choice;
+use mcf_flow_tables::{Options, Texts};
 use mcf_model::Planned;
 use mcf_places::{PlannerAnswer, Policy, least};
 use mcf_plan_ranges::{CostRange, cost_range};
 use mcf_planner::{Planner as Engine, plan_with};
 use mcf_planner_ranges::planner_cost_range;
+use mcf_range_text::ranged_text;
 use mcf_text::NoMemory;
+use mcf_units::Terms;
 use std::alloc::Global;
 use std::test::Fail;
 
@@ -129,5 +132,35 @@ fn routes_of_problems_have_their_ranges(rt: HostRuntime) -> Result<(), Fail> {
         let found = has_planner_ranges(rt.alloc(), row)?;
         assert!(rt; found);
     }
+    Ok(())
+}
+
+const PLACES: &[u8] = b"name,supply\nMill,3\nGraz,-3\n";
+
+// The first route is full, and the rest goes over the second.
+const ROUTES: &[u8] = b"from,to,most,cost\nMill,Graz,2,1.5\nMill,Graz,,4\n";
+
+const RANGE_ROWS: &[u8] =
+    b"\n\"range\",\"2\",\"Mill\",\"Graz\",\"\",\"2.5\"\n\"range\",\"3\",\"Mill\",\"Graz\",\"2.5\",\"\"\n";
+
+#[test]
+fn texts_end_with_ranges(rt: HostRuntime) -> Result<(), Fail> {
+    let mut engine = Engine {
+        choice: Choice::default(),
+    };
+    let texts = Texts {
+        places: PLACES,
+        routes: ROUTES,
+    };
+    let options = Options {
+        mark: None,
+        terms: Terms {
+            unused: false,
+            short: false,
+            penalty: None,
+        },
+    };
+    let told = ranged_text(rt.alloc(), &mut engine, texts, options)?;
+    assert!(rt; told.text.ends_with(RANGE_ROWS));
     Ok(())
 }

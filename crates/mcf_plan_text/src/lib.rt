@@ -15,4 +15,4 @@ mod telling;
 mod words;
 
 pub use mcf_answer_rows::{PlanText, TextKind};
-pub use telling::plan_text;
+pub use telling::{answer_text, plan_text};

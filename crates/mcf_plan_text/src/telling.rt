@@ -169,8 +169,12 @@ fn put_said(
     put_closing(alloc, out, two, table_mark(answer))
 }
 
-// The text of an answer.
-fn text_of(alloc: Global, answer: &FlowAnswer) -> Result<PlanText, NoMemory>
+/// Returns the text of an answer, as `plan_text` does.
+///
+/// # Errors
+///
+/// `NoMemory` if an allocation is refused.
+pub fn answer_text(alloc: Global, answer: &FlowAnswer) -> Result<PlanText, NoMemory>
     ensures text { IfOk result (λ told. told.text.items ≡ rows_text (answer_rows answer.now)) }
     ensures kind { IfOk result (λ told. told.kind ≡ answer_kind answer.now) }
 {
@@ -226,5 +230,5 @@ pub fn plan_text<S: Solves>(
     ensures { IfOk result (IsPlanText texts.entry.places.now texts.entry.routes.now options) }
 {
     let answer = plan_tables(alloc, solver, texts, options)?;
-    text_of(alloc, &answer)
+    answer_text(alloc, &answer)
 }

@@ -9,7 +9,7 @@ pub returns-clause-shape : goal.returns-clause-shape
 returns-clause-shape c =
     let mark = c.mark_option.ensures in
     let each = c.each_option.ensures in
-    let maximise = c.maximise_option.ensures in
+    let maximise = c.answer_option.ensures in
     let new_is : app_of c.about.result ≡ new_app (codes "pairs") = ap app_of_fields c.about.ensures ∙ c.new.ensures.app in
     let one = c.in_ok-arg.ensures.shape mark.local ∙ ap₂ with_rule new_is mark.rule.2 in
     let two = c.in_ok-arg-2.ensures.shape each.local ∙ ap₂ with_rule one each.rule.2 in
@@ -29,5 +29,5 @@ returns-clause-local c =
     let new_local : (out-Command c.about.result).has_globals ≡ false = search rules in
     let one = c.in_ok-arg.ensures.globals ∙ ap₂ (λ x y. x || y) new_local c.mark_option.ensures.local in
     let two = c.in_ok-arg-2.ensures.globals ∙ ap₂ (λ x y. x || y) one c.each_option.ensures.local in
-    let three = c.in_ok-arg-3.ensures.globals ∙ ap₂ (λ x y. x || y) two c.maximise_option.ensures.local in
+    let three = c.in_ok-arg-3.ensures.globals ∙ ap₂ (λ x y. x || y) two c.answer_option.ensures.local in
     IfOk-weaker c.arg-4.result _ _ (λ r h. h.globals ∙ ap₂ (λ x y. x || y) three c.table_argument.ensures.local) c.arg-4.ensures

@@ -3,5 +3,5 @@ use Rattle.mcf_plan_text.proofs.telling.plan_text.Goals as goal
 
 pub returns : goal.returns
 returns g c =
-    is_plan_text c.text_of.result c.args.texts.places.now c.args.texts.routes.now c.args.options c.in_ok-answer.answer c.in_ok-answer.ensures
-    c.text_of.ensures.text c.text_of.ensures.kind
+    is_plan_text c.answer_text.result c.args.texts.places.now c.args.texts.routes.now c.args.options c.in_ok-answer.answer c.in_ok-answer.ensures
+    c.answer_text.ensures.text c.answer_text.ensures.kind

@@ -1,0 +1,163 @@
+-- Ranges of answers, and their rows.
+use Rattle.std.proofs.Common.{◌≡◌, ◌≢◌, ℕ, zero, suc, ◌+◌, ◌<◌, ◌≤◌, true, List, [], ◌∷◌, ◌++◌, length, drop, drop-cons, get_or, refl, sym, ap, ◌∙◌, subst, arith, append_assoc, append-nil, Result, Ok, Err, Option, Some, None, inl, inr}
+use Rattle.std.specs.Prelude.{IfOk, IfNone, IfSome, ◌⊎◌}
+use Rattle.std.proofs.lemmas.Bool.{cases_eq}
+use Rattle.std.proofs.lemmas.List.{drop_all, length-append}
+use Rattle.mcf_answer_rows.proofs.RowTexts.{rows_are_table, rows_text_append}
+use Rattle.mcf_answer_rows.specs.Lines.{rows_text}
+use Rattle.mcf_answer_rows.specs.declared.texts.PlanText.{PlanText}
+use Rattle.mcf_flow_tables.specs.TableAnswers.{IsFlowAnswer, IsProblemAnswer, IsTableAnswer}
+use Rattle.mcf_flow_tables.specs.declared.answering.ProblemAnswer.{ProblemAnswer}
+use Rattle.mcf_flow_tables.specs.declared.answering.ProblemAnswer.TheVariants.{TooGreat, Improper, Solved}
+use Rattle.mcf_flow_tables.specs.declared.answering.TableAnswer.{TableAnswer}
+use Rattle.mcf_flow_tables.specs.declared.answering.TableAnswer.TheVariants.{Faults, Problem}
+use Rattle.mcf_flow_tables.specs.declared.flow_answer.FlowAnswer.{FlowAnswer}
+use Rattle.mcf_flow_tables.specs.declared.flow_answer.FlowAnswer.TheVariants.{NoTables, Tables}
+use Rattle.mcf_flow_tables.specs.declared.options.Options.{Options}
+use Rattle.mcf_places.specs.declared.answering.LeastPlannerPlan.{LeastPlannerPlan}
+use Rattle.mcf_places.specs.Planners.{Planner, row_count}
+use Rattle.mcf_places.specs.Planning.{plan_in}
+use Rattle.mcf_plan_ranges.specs.PlanRanges.{AreWithinLimits}
+use Rattle.mcf_plan_text.specs.PlanTexts.{answer_kind, answer_rows}
+use Rattle.mcf_planner_ranges.specs.PlannerRanges.{IsPlannerRange}
+use Rattle.mcf_range_text.specs.Private.Solved.{IsSolvedAnswer, IsSolvedProblem, IsSolvedTable, IsToldWithRanges}
+use Rattle.mcf_range_text.specs.RangeTexts.{AreRanges, AreRowRanges, IsRangedText, IsRowRange, has_way_back, range_rows, told_rows}
+use Rattle.mcf_ranges.specs.declared.range.CostRange.{CostRange}
+use Rattle.mcf_reading.specs.Reading.{Entries}
+use Rattle.mcf_table.specs.Texts.{Record}
+use Rattle.mcf_units.specs.declared.scales.Scales.{Scales}
+use Rattle.mcf_units.specs.declared.terms.Terms.{Terms}
+
+-- ---- answers
+
+solved_problem : (said : Entries) (terms : Terms) (answer : ProblemAnswer) → IsProblemAnswer said terms answer → IsSolvedProblem answer
+solved_problem said terms (TooGreat faults) h = tt
+solved_problem said terms (Improper faults) h = tt
+solved_problem said terms (Solved s) h = h.5
+
+solved_table : (places routes : List Record) (options : Options) (answer : TableAnswer) → IsTableAnswer places routes options answer → IsSolvedTable answer
+solved_table places routes options (Faults faults) h = tt
+solved_table places routes options (Problem answer) h = solved_problem h.0 options.terms answer h.2
+
+pub solved_answer : (places routes : List ℕ) (options : Options) (answer : FlowAnswer) → IsFlowAnswer places routes options answer → IsSolvedAnswer answer
+solved_answer places routes options (NoTables broken) h = tt
+solved_answer places routes options (Tables said) h = solved_table said.places said.routes options said.answer h.2
+
+-- ---- what is told of a row
+
+module _ (P : Planner) (p : LeastPlannerPlan) where
+  pub returning : (row : ℕ) → has_way_back P row ≡ true → IsRowRange P p row None
+  returning row h = record { exact = tt; none = inl h }
+
+  pub row_told : {E : Type 0} (result : Result (Option CostRange) E) (row : ℕ) → IfOk result (λ told. IfSome told (IsPlannerRange P (plan_in p.plan) row))
+      → IfOk result (λ told. IfNone told (¬ AreWithinLimits p.shown.model p.shown.prices.items p.shown.carries.items)) → IfOk result (IsRowRange P p row)
+  row_told (Ok (Some range)) row exact none = record { exact = exact; none = tt }
+  row_told (Ok None) row exact none = record { exact = tt; none = inr none }
+  row_told (Err e) row exact none = tt
+
+  -- the ranges of the first rows
+  pub record AreFirst (count : ℕ) (ranges : List (Option CostRange)) : Type 0 where
+    pub long : length ranges ≡ count
+    pub each : (place : ℕ) → place < count → IsRowRange P p (suc place) (get_or ranges place None)
+
+  pub none_told : AreFirst 0 []
+  none_told = record { long = refl; each = λ place h. absurd (omega (arith, h)) }
+
+  last_of : (xs : List (Option CostRange)) (x : Option CostRange) (i : ℕ) → length xs ≡ i → get_or (xs ++ x ∷ []) i None ≡ x
+  last_of [] x zero e = refl
+  last_of [] x (suc i) e = absurd (omega (arith, e))
+  last_of (y ∷ xs) x zero e = absurd (omega (arith, e))
+  last_of (y ∷ xs) x (suc i) e = last_of xs x i (omega arith)
+
+  before_last : (xs : List (Option CostRange)) (x : Option CostRange) (i : ℕ) → i < length xs → get_or (xs ++ x ∷ []) i None ≡ get_or xs i None
+  before_last [] x i h = absurd (omega arith)
+  before_last (y ∷ xs) x zero h = refl
+  before_last (y ∷ xs) x (suc i) h = before_last xs x i (omega arith)
+
+  pub one_told : (count : ℕ) (ranges after : List (Option CostRange)) (told : Option CostRange) → AreFirst count ranges → after ≡ ranges ++ told ∷ []
+      → IsRowRange P p (count + 1) told → AreFirst (count + 1) after
+  one_told count ranges after told first e is =
+      let long = first.long in
+      subst (AreFirst (count + 1)) (sym e) (record {
+        long = omega (arith, length-append ranges (told ∷ []), long);
+        each = λ place h. go place h (cases_eq place count);
+      })
+    where
+      go : (place : ℕ) → place < count + 1 → (place ≡ count) ⊎ (place ≢ count) → IsRowRange P p (suc place) (get_or (ranges ++ told ∷ []) place None)
+      go place h (inr other) =
+          let l : place < count = omega (arith, h, other) in
+          subst (IsRowRange P p (suc place)) (sym (before_last ranges told place (omega (arith, l, first.long)))) (first.each place l)
+      go place h (inl e) =
+          let row : suc place ≡ count + 1 = omega (arith, e) in
+          subst (λ r. IsRowRange P p r (get_or (ranges ++ told ∷ []) place None)) (sym row)
+          (subst (IsRowRange P p (count + 1)) (sym (last_of ranges told place (first.long ∙ sym e))) is)
+
+  pub all_told : (count : ℕ) (ranges : List (Option CostRange)) (place : ℕ) → AreFirst place ranges → count ≡ row_count P → place ≡ count → AreRowRanges P p ranges
+  all_told count ranges place first e f =
+      let g : place ≡ row_count P = f ∙ e in
+      let all = subst (λ n. AreFirst n ranges) g first in
+      record { by_row = all.long; each = all.each }
+
+-- ---- rows
+
+module _ (scales : Scales) (routes : List Record) where
+  one_row : (row : ℕ) (told : Option CostRange) (ranges : List (Option CostRange))
+      → told_rows scales routes row (told ∷ []) ++ told_rows scales routes (suc row) ranges ≡ told_rows scales routes row (told ∷ ranges)
+  one_row row (Some range) ranges = refl
+  one_row row None ranges = refl
+
+  -- the row of one more range is put
+  pub row_put : (ranges : List (Option CostRange)) (place : ℕ) (told : Option CostRange) (old new whole : List ℕ) → place < length ranges
+      → told ≡ get_or ranges place None → old ++ rows_text (told_rows scales routes (place + 1) (drop place ranges)) ≡ whole
+      → new ≡ old ++ rows_text (told_rows scales routes (place + 1) (told ∷ []))
+      → new ++ rows_text (told_rows scales routes (place + 1 + 1) (drop (place + 1) ranges)) ≡ whole
+  row_put ranges place told old new whole h e before put =
+      let row = place + 1 in
+      let one = told_rows scales routes row (told ∷ []) in
+      let rest = told_rows scales routes (suc row) (drop (suc place) ranges) in
+      let same : told_rows scales routes row (drop place ranges) ≡ one ++ rest =
+      ap (told_rows scales routes row) (drop-cons ranges place None h)
+      ∙ ap (λ (t : Option CostRange). told_rows scales routes row (t ∷ drop (suc place) ranges)) (sym e)
+      ∙ sym (one_row row told (drop (suc place) ranges)) in
+      let n : place + 1 ≡ suc place = omega arith in
+      let m : place + 1 + 1 ≡ suc row = omega arith in
+      ap (λ k. new ++ rows_text (told_rows scales routes k (drop (place + 1) ranges))) m
+      ∙ ap (λ k. new ++ rows_text (told_rows scales routes (suc row) (drop k ranges))) n
+      ∙ ap (λ (xs : List ℕ). xs ++ rows_text rest) put
+      ∙ append_assoc old (rows_text one) (rows_text rest)
+      ∙ ap (λ (xs : List ℕ). old ++ xs) (sym (rows_text_append one rest))
+      ∙ ap (λ rows. old ++ rows_text rows) (sym same) ∙ before
+
+  -- no more
+  pub rows_put : (ranges : List (Option CostRange)) (place : ℕ) (out whole : List ℕ) → length ranges ≤ place
+      → out ++ rows_text (told_rows scales routes (place + 1) (drop place ranges)) ≡ whole → out ≡ whole
+  rows_put ranges place out whole h before =
+      let none = ap (λ (rs : List (Option CostRange)). out ++ rows_text (told_rows scales routes (place + 1) rs)) (drop_all place ranges h) in
+      sym (append-nil out) ∙ sym none ∙ before
+
+-- ---- the text
+
+pub is_told : (answer : FlowAnswer) (ranges : List (Option CostRange)) (text : List ℕ) (told : PlanText) → AreRanges answer ranges
+    → text ≡ rows_text (answer_rows answer) → told.text.items ≡ text ++ rows_text (range_rows answer ranges) → told.kind ≡ answer_kind answer
+    → IsToldWithRanges answer told
+is_told answer ranges text told are first second kind =
+    record {
+      ranges = ranges;
+      are_ranges = are;
+      text_is = second ∙ ap (λ (xs : List ℕ). xs ++ rows_text (range_rows answer ranges)) first
+          ∙ sym (rows_text_append (answer_rows answer) (range_rows answer ranges));
+      kind_is = kind;
+    }
+
+pub is_ranged_text : {E : Type 0} (r : Result PlanText E) (places routes : List ℕ) (options : Options) (answer : FlowAnswer)
+    → IsFlowAnswer places routes options answer → IfOk r (IsToldWithRanges answer) → IfOk r (IsRangedText places routes options)
+is_ranged_text (Err fault) places routes options answer answers told = tt
+is_ranged_text (Ok text) places routes options answer answers told =
+    record {
+      answer = answer;
+      answers = answers;
+      ranges = told.ranges;
+      are_ranges = told.are_ranges;
+      text_is = told.text_is ∙ rows_are_table (answer_rows answer ++ range_rows answer told.ranges);
+      kind_is = told.kind_is;
+    }

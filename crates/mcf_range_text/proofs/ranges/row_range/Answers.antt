@@ -1,0 +1,10 @@
+use Rattle.std.proofs.Common.{ap, sym, ◌∙◌}
+use Rattle.std.specs.Prelude.{◌==◌}
+use Rattle.std.specs.List.{list_any}
+use Rattle.mcf_range_text.proofs.Told.{returning}
+use Rattle.mcf_range_text.proofs.ranges.row_range.Goals as goal
+
+pub returns-then-returns : goal.returns-then-returns
+returns-then-returns c =
+    let test = ap (list_any (λ k. k == c.args.row)) (sym c.returning.ensures.value) ∙ sym c.has-returns.ensures ∙ c.if-returns.true in
+    returning c.args.planner.now c.args.least.now c.args.row test
