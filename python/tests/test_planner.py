@@ -19,11 +19,13 @@ from plain_plans import (
     why_no_plan,
     why_wrong_figures,
 )
+from plain_ranges import why_wrong_ranges
 from random_tables import TIGHT, Notation, random_problem, round_problem, tables_of
 from support import TOP, WithFolder
 
 PROGRAM = pathlib.Path(os.environ.get("MCF_BIN") or TOP / "bin") / "mcfplan"
 PLAN_CASES, FIGURE_CASES, ROUND_CASES, PAIR_CASES = 600, 150, 60, 600
+RANGE_CASES = 60
 
 
 def repeated(rows, word):
@@ -65,7 +67,7 @@ class Answering(WithFolder):
 class Plans(Answering):
     """Random problems, whose tables are written in random ways."""
 
-    def answer(self, problem, notation, texts):
+    def answer(self, problem, notation, texts, *more):
         """The status of the program, and its rows."""
         policy = problem.policy
         says_mark = notation.says_mark or (policy.penalty or 0) % 1 != 0
@@ -73,7 +75,7 @@ class Plans(Answering):
         words += ["--unused", "allow"] * policy.unused + ["--short", "allow"] * policy.short
         if policy.penalty is not None:
             words.append(f"--penalty={notation.plain(policy.penalty)}")
-        return self.answered(["flow", *words], texts)
+        return self.answered(["flow", *words, *more], texts)
 
     def tables(self, rng, notation, problem, spoiled=0.0):
         """The texts of both tables, and their rows by line. Some of the tables are spoiled."""
@@ -116,13 +118,13 @@ class Plans(Answering):
                     self.assertEqual(repeated(rows, word), table)
         self.assertLess(PLAN_CASES / 12, min(statuses[status] for status in (0, 1, 2, "cells")))
 
-    def planned_problem(self, rng):
+    def planned_problem(self, rng, *more):
         """A random problem that has a plan, its texts, and the rows of its answer."""
         while True:
             notation = Notation(rng)
             problem = random_problem(rng, notation, TIGHT)
             texts, _ = self.tables(rng, notation, problem)
-            status, rows = self.answer(problem, notation, texts)
+            status, rows = self.answer(problem, notation, texts, *more)
             if status == 0:
                 return problem, texts, rows
 
@@ -140,6 +142,13 @@ class Plans(Answering):
         for word in ("route", "back", "place"):
             self.assertLess(1, min(seen[word, True, True], seen[word, True, False]))
             self.assertLess(FIGURE_CASES / 10, seen[word, True])
+
+    def test_random_ranges(self):
+        rng = random.Random(20261202)
+        for case in range(RANGE_CASES):
+            problem, texts, rows = self.planned_problem(rng, "--ranges", "yes")
+            with self.subTest(case=case, texts=texts, policy=problem.policy):
+                self.assertIsNone(why_wrong_ranges(problem, rows))
 
     def test_figures_of_all_amounts(self):
         """In some of these plans, all amounts pass through a place without a limit."""

@@ -1,0 +1,62 @@
+"""Ranges of the costs of routes in plain Python with fractions, by what the manual page of mcfplan
+says: at both ends of a range the plan stays least, and one unit of cost beyond them it doesn't."""
+from fractions import Fraction
+
+from plain_plans import Problem
+
+
+def unit_of_costs(problem):
+    """The greatest power of ten of which all costs are multiples, and no more than 1."""
+    costs = [cost for route in problem.routes for _, cost in route.steps]
+    costs += [place.bounds[2] for place in problem.places if place.bounds]
+    costs += [place.penalty for place in problem.places] + [problem.policy.penalty]
+    unit = Fraction(1)
+    while any(cost % unit for cost in costs if cost is not None):
+        unit /= 10
+    return unit
+
+
+def with_dearer(problem, number, change):
+    """The problem in which each unit on a route costs so much more."""
+    routes = list(problem.routes)
+    steps = tuple((most, cost + change) for most, cost in routes[number].steps)
+    routes[number] = routes[number]._replace(steps=steps)
+    return Problem(problem.places, routes, problem.policy)
+
+
+def stays_least(problem, rows, number, change):
+    """Whether the plan is a least one if each unit on a route costs so much more."""
+    changed = with_dearer(problem, number, change)
+    if problem.routes[number].both and min(cost for _, cost in changed.routes[number].steps) < 0:
+        return False
+    amount = abs(Fraction(rows.by_word["route"][number][3]))
+    return changed.least()[0] == rows.number("cost") + change * amount
+
+
+def told_ranges(rows):
+    """The routes whose ranges are told, by their numbers from 0, and by how much their costs may
+    change: down and up, None without a limit."""
+    lines = [cells[0] for cells in rows.by_word["route"]]
+    for line, _, _, *ends in rows.by_word["range"]:
+        yield lines.index(line), [Fraction(end) if end else None for end in ends]
+
+
+def why_wrong_ranges(problem, rows, wide=Fraction(50)):
+    """What is wrong with the ranges of a plan; None if nothing is. Where a range has no limit, a
+    wide change is tried. Changes that earn without end aren't tried."""
+    unit = unit_of_costs(problem)
+    expected = [
+        k for k, one in enumerate(problem.routes) if not one.both or not problem.is_bounded(one)
+    ]
+    if [number for number, _ in told_ranges(rows)] != expected:
+        return "ranges of other routes are told"
+    for number, ends in told_ranges(rows):
+        for sign, end in zip((-1, 1), ends):
+            inside = sign * (wide if end is None else end)
+            tries = [(inside, True)] + [(inside + sign * unit, False)] * (end is not None)
+            for change, is_in in tries:
+                if with_dearer(problem, number, change).earns_without_end():
+                    continue
+                if stays_least(problem, rows, number, change) != is_in:
+                    return f"route {number}: {ends} are told, and {change} is in it: {not is_in}"
+    return None
