@@ -6,3 +6,4 @@ mod SideLaws
 mod Making
 mod UnitCosts
 mod Calls
+mod SmallAmounts

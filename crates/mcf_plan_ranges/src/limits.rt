@@ -9,14 +9,12 @@ ghost use Rattle.mcf_model.specs.Tables.{no_route, route_with};
 ghost use Rattle.mcf_plan_ranges.specs.PlanRanges.{AreWithinLimits, HasSmallCosts};
 
 use crate::residual::number_at;
+use mcf_figures::are_small;
 use mcf_flows::{ARC_LIMIT, COST_LIMIT, NODE_LIMIT};
 use mcf_model::{PlanModel, RouteRow, Step};
 
 // The greatest absolute value of a price.
 const PRICE_LIMIT: i128 = 1_000_000_000_000_000_000_000;
-
-// The greatest absolute value of an amount.
-const AMOUNT_LIMIT: i128 = 1_000_000_000_000_000_000_000_000_000_000_000_000;
 
 // Returns whether a cost may be that of an arc.
 fn is_small_cost(cost: i64) -> bool
@@ -88,24 +86,11 @@ fn are_small_prices(prices: &[i128]) -> bool
     true
 }
 
-// Returns whether an amount is within the limit.
-fn is_small_amount(amount: i128) -> bool
-    ensures { IsTrue result ↔ IsUpTo figure_limit amount }
-{
-    -AMOUNT_LIMIT <= amount && amount <= AMOUNT_LIMIT
-}
-
 // Returns whether no amount is beyond the limit.
 fn are_small_amounts(carries: &[i128]) -> bool
     ensures { IsTrue result ↔ All (IsUpTo figure_limit) carries.now }
 {
-    for place in 0..carries.len() {
-        let amount = number_at(carries, place);
-        if !is_small_amount(amount) {
-            return false;
-        }
-    }
-    true
+    are_small(carries)
 }
 
 // Returns whether there are no more places and routes than a network takes, and one price for each
