@@ -57,8 +57,8 @@ function added(lines) {
 const wayOf = ({ tail, head }, { carries }) =>
   carries < 0n ? [head - 1, tail - 1] : [tail - 1, head - 1];
 
-// This function returns for each place: the number 1, what comes in over routes and what goes out,
-// what it sends and takes, what stays and is missing, and the cost of what goes out.
+// This function returns for each place: the number 1, its inflow and outflow over routes, what it
+// sends and takes, its surplus and shortage, and the cost of its outflow.
 /** @type {(plan: FlowPlan) => bigint[][]} */
 function placeNumbers({ problem, routes, places }) {
   const found = problem.places.map(({ supply }, k) => {

@@ -78,8 +78,8 @@ def ends_of(route, result):
 
 
 def place_numbers(plan):
-    """For each place: the number 1, what comes in over routes and what goes out, what it sends and
-    takes, what stays and is missing, and the cost of what goes out."""
+    """For each place: the number 1, its inflow and outflow over routes, what it sends and takes,
+    its surplus and shortage, and the cost of its outflow."""
     places = plan.problem.places
     ins, outs, costs = ([0] * (len(places) + 1) for _ in range(3))
     for route, result in zip(plan.problem.routes, plan.routes):
