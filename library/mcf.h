@@ -114,12 +114,14 @@ uint32_t mcf_solve(const uint8_t *input, size_t input_length, const struct mcf_c
 uint32_t mcf_check(const uint8_t *input, size_t input_length, const uint8_t *answer,
                    size_t answer_length, struct mcf_verdict *verdict);
 
-/* How tables are read, and what plans may leave. All zeros, with an empty penalty, are the
-   defaults. */
+/* How tables are read, what plans may leave, and whether ranges are told. All zeros, with an empty
+   penalty, are the defaults. */
 struct mcf_plan_options {
     uint32_t decimal;       /* the mark before decimals: MCF_SHOWN_MARK to MCF_COMMA */
     uint32_t allow_unused;  /* 1: supplies may stay where they are; 0: all is sent */
     uint32_t allow_short;   /* 1: demands may be missing; 0: all is met */
+    uint32_t ranges;        /* 1: from what to what the cost of each route may change while a plan
+                               stays least, by two searches a route; 0: not */
     const uint8_t *penalty; /* the cost of each missing unit at places whose column penalty is
                                empty, with a point before decimals unless `decimal` is
                                MCF_COMMA; 1.500, which may be 1500, is no number unless `decimal`

@@ -344,7 +344,8 @@ static int check_tables(void) {
     static const uint8_t routes[] = "from,to,most,cost\nMill,Town,5,1.5\n";
     static const uint8_t narrow[] = "from,to,most,cost\nMill,Town,2,1.5\n";
     static const char plan[] = "\"answer\",\"plan\"\n\"cost\",\"4.5\"\n";
-    struct mcf_plan_options options = {MCF_SHOWN_MARK, 0, 0, (const uint8_t *)"", 0};
+    static const char range[] = "\"range\",\"2\",\"Mill\",\"Town\",\"\",\"\"\n";
+    struct mcf_plan_options options = {MCF_SHOWN_MARK, 0, 0, 0, (const uint8_t *)"", 0};
     uint8_t room[1024];
     size_t used = 77, length = sizeof places - 1;
     CHECK(51, mcf_plan_flow(places, length, routes, sizeof routes - 1, &options, room, sizeof room,
@@ -354,6 +355,14 @@ static int check_tables(void) {
                             &used) == MCF_BUFFER_TOO_SMALL);
     CHECK(54, mcf_plan_flow(places, length, narrow, sizeof narrow - 1, &options, room, sizeof room,
                             &used) == MCF_BLOCKED);
+    options.ranges = 1;
+    CHECK(68, mcf_plan_flow(places, length, routes, sizeof routes - 1, &options, room, sizeof room,
+                            &used) == MCF_FLOW &&
+                  memcmp(room + used - (sizeof range - 1), range, sizeof range - 1) == 0);
+    options.ranges = 2;
+    CHECK(69, mcf_plan_flow(places, length, routes, sizeof routes - 1, &options, room, sizeof room,
+                            &used) == MCF_INVALID_CHOICE);
+    options.ranges = 0;
     options.allow_unused = options.allow_short = 1;
     options.penalty = (const uint8_t *)"0.5";
     options.penalty_length = 3;

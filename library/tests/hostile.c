@@ -1402,6 +1402,7 @@ static void make_flow_tables(void) {
     asked.flow.decimal = mark_option();
     asked.flow.allow_unused = option(2);
     asked.flow.allow_short = option(2);
+    asked.flow.ranges = option(2);
     make_penalty();
     put_places(count);
     asked.tables[0] = table_at(input_end, &asked.lengths[0]);
@@ -1531,7 +1532,7 @@ static void try_tables(void) {
 
 /* Plans tables of thirty thousand bytes: a beginning with noise after it. */
 static void try_long(const char *begin, const char *alphabet) {
-    static const struct mcf_plan_options flow = {0, 0, 0, NULL, 0};
+    static const struct mcf_plan_options flow = {0, 0, 0, 0, NULL, 0};
     static const struct mcf_pair_options pairs = {0, 0, 0};
     written = 0;
     put(begin);

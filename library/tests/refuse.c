@@ -63,7 +63,7 @@ static struct mcf_verdict verdict, before;
 /* Tables to plan, and the status of the answer: plans, none, and faults. */
 struct flow_case {
     const char *places, *routes;
-    uint32_t status, decimal, allow_unused, allow_short;
+    uint32_t status, decimal, allow_unused, allow_short, ranges;
     const char *penalty;
 };
 
@@ -72,27 +72,28 @@ static const struct flow_case flow_cases[] = {
     {"name,supply,least,most,cost\nMill,3,,,\nPort,,1,9,0.5\nTown,-3,,,\n",
      "from,to,most,cost,both,most 2,cost 2,least\n"
      "Mill,Port,1,1.5,,3,2,\nTown,Port,5,1,yes,,,\nMill,Town,1,9,,,,1\n",
-     MCF_FLOW, MCF_SHOWN_MARK, 0, 0, ""},
+     MCF_FLOW, MCF_SHOWN_MARK, 0, 0, 1, ""},
     {"name,supply,most\nMill,3,\nPort,,9\nTown,-3,\n",
-     "from,to,most,cost\nMill,Port,5,1.5\nPort,Town,2,1\n", MCF_FLOW, MCF_SHOWN_MARK, 1, 1, ""},
+     "from,to,most,cost\nMill,Port,5,1.5\nPort,Town,2,1\n", MCF_FLOW, MCF_SHOWN_MARK, 1, 1, 1, ""},
     {"name;supply\nMill;3\nTown;-5\n", "from;to;most;cost\n\"Mill\";Town;;1,5\n", MCF_FLOW,
-     MCF_COMMA, 0, 1, "2,5"},
-    {"name,supply\n", "from,to,most,cost\n", MCF_FLOW, MCF_POINT, 0, 0, ""},
+     MCF_COMMA, 0, 1, 1, "2,5"},
+    {"name,supply\n", "from,to,most,cost\n", MCF_FLOW, MCF_POINT, 0, 0, 0, ""},
     {"name,supply,most\nMill,3,\nPort,,1\nTown,-3,\n",
      "from,to,most,cost,both\nMill,Port,5,1.5,\nPort,Town,5,1,yes\n", MCF_BLOCKED, MCF_SHOWN_MARK,
-     0, 0, ""},
+     0, 0, 0, ""},
     {"name,supply\nMill,3\nTown,-4\n", "from,to,most,cost\nMill,Town,9,1\n", MCF_BLOCKED,
-     MCF_SHOWN_MARK, 1, 0, ""},
+     MCF_SHOWN_MARK, 1, 0, 0, ""},
     {"name,supply,extra\nMill,x,\nMill,1.000,,1\n,1,\n",
-     "from,to,most,cost,most2\nMill,Town,-1,1e3,\n", MCF_INVALID_INPUT, MCF_SHOWN_MARK, 0, 0, ""},
+     "from,to,most,cost,most2\nMill,Town,-1,1e3,\n", MCF_INVALID_INPUT, MCF_SHOWN_MARK, 0, 0, 0,
+     ""},
     {"name,supply,least,most,cost\nMill,3,2,1,-1\n",
      "from,to,most,cost,least,both\nMill,Mill,,-1,1,yes\n", MCF_INVALID_INPUT, MCF_SHOWN_MARK, 0, 1,
-     "-1"},
+     0, "-1"},
     {"name,supply\nMill,1000000000000000001\n",
      "from,to,most,cost\nMill,Mill,0.00000000000000000000000000000000000001,1\n", MCF_INVALID_INPUT,
-     MCF_SHOWN_MARK, 0, 0, ""},
-    {"name,supply\n\"Mill,3\n", "\"from\"x", MCF_INVALID_INPUT, MCF_SHOWN_MARK, 0, 0, ""},
-    {"", "", MCF_INVALID_INPUT, MCF_SHOWN_MARK, 0, 0, ""}};
+     MCF_SHOWN_MARK, 0, 0, 0, ""},
+    {"name,supply\n\"Mill,3\n", "\"from\"x", MCF_INVALID_INPUT, MCF_SHOWN_MARK, 0, 0, 0, ""},
+    {"", "", MCF_INVALID_INPUT, MCF_SHOWN_MARK, 0, 0, 0, ""}};
 
 struct pair_case {
     const char *costs;
@@ -128,6 +129,7 @@ static uint32_t plan_flow(void) {
     options.decimal = flow_case->decimal;
     options.allow_unused = flow_case->allow_unused;
     options.allow_short = flow_case->allow_short;
+    options.ranges = flow_case->ranges;
     options.penalty = bytes_of(flow_case->penalty);
     options.penalty_length = strlen(flow_case->penalty);
     return mcf_plan_flow(bytes_of(flow_case->places), strlen(flow_case->places),

@@ -139,12 +139,13 @@ class TransportProblem(ctypes.Structure):
 
 
 class PlanOptions(ctypes.Structure):
-    """How tables are read, and what plans may leave."""
+    """How tables are read, what plans may leave, and whether ranges are told."""
 
     _fields_ = [
         ("decimal", ctypes.c_uint32),
         ("allow_unused", ctypes.c_uint32),
         ("allow_short", ctypes.c_uint32),
+        ("ranges", ctypes.c_uint32),
         ("penalty", ctypes.c_char_p),
         ("penalty_length", ctypes.c_size_t),
     ]

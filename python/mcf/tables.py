@@ -37,6 +37,7 @@ def plan_flow(
     unused: bool = False,
     short: bool = False,
     penalty: Optional[Union[int, str]] = None,
+    ranges: bool = False,
 ) -> PlanAnswer:
     """Plans the flow between places at the least cost, from the texts of two tables.
 
@@ -58,6 +59,9 @@ def plan_flow(
         The cost of each missing unit, with a point before decimals unless `decimal` is ','.
         '1.500', which may be 1500, is no number unless `decimal` names a mark. Without a penalty,
         as little as possible is missing.
+    ranges : bool
+        Whether to tell from what to what the cost of each route may change while the plan stays
+        least, which takes two searches for each route.
 
     Returns
     -------
@@ -83,7 +87,8 @@ def plan_flow(
     named = b"" if penalty is None else str(penalty).encode()
     if penalty is not None and not named:
         raise ValueError("the penalty is empty")
-    options = _library.PlanOptions(MARKS.index(decimal), unused, short, named, len(named))
+    mark = MARKS.index(decimal)
+    options = _library.PlanOptions(mark, unused, short, ranges, named, len(named))
     status, text = _library.plan_flow(_text_of(places), _text_of(routes), options)
     if status == _library.INVALID_CHOICE:
         raise ValueError("the penalty is no number: %r" % penalty)

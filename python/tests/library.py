@@ -197,6 +197,11 @@ class Tables(unittest.TestCase):
         answer = mcf.plan_flow(self.PLACES, self.ROUTES, unused=True, short=True)
         self.assertEqual(answer.rows()[1:3], [["cost", "3"], ["missing", "1"]])
 
+    def test_ranges(self):
+        options = {"unused": True, "short": True, "penalty": "0,5", "decimal": ","}
+        answer = mcf.plan_flow(self.PLACES, self.ROUTES, ranges=True, **options)
+        self.assertEqual(answer.rows()[-1], ["range", "2", "Mühle", "Stadt", "1", ""])
+
     def test_faults(self):
         answer = mcf.plan_flow(self.PLACES, self.ROUTES.replace("Stadt", "Dorf"))
         self.assertEqual(answer.kind, "faults")

@@ -15,6 +15,7 @@ pub use Rattle.mcf_matrix_doubles.specs.DoublePrices
 pub use Rattle.mcf_matrix_doubles.specs.DoubleTables
 pub use Rattle.mcf_matrix_doubles.specs.Rounding
 pub use Rattle.mcf_matrix_doubles.specs.Spans
+pub use Rattle.mcf_range_text.specs.RangeTexts
 pub use Rattle.mcf_ranges.specs.Ranges
 pub use Rattle.mcf_solver.specs.Answering
 pub use Rattle.mcf_solver.specs.Making

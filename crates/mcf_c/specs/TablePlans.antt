@@ -4,6 +4,7 @@ use Rattle.std.specs.Prelude.{◌≡◌, ℕ, ◌==◌, Bool, true, false, if◌
 use Rattle.mcf_answer_rows.specs.declared.texts.PlanText.{PlanText}
 use Rattle.mcf_answer_rows.specs.declared.texts.TextKind.{TextKind}
 use Rattle.mcf_answer_rows.specs.declared.texts.TextKind.TheVariants.{Plan, NoPlan, Faults}
+use Rattle.mcf_c.specs.declared.table_plans.AskedTables.{AskedTables}
 use Rattle.mcf_c.specs.declared.table_plans.McfPairOptions.{McfPairOptions}
 use Rattle.mcf_c.specs.declared.table_plans.McfPlanOptions.{McfPlanOptions}
 use Rattle.mcf_decimal.specs.Numbers.{read_number}
@@ -16,7 +17,7 @@ use Rattle.mcf_pair_tables.specs.declared.options.Each.{Each}
 use Rattle.mcf_pair_tables.specs.declared.options.Each.TheVariants.{Who, What, Both}
 use Rattle.mcf_pair_tables.specs.declared.options.Options.{Options as PairOptions}
 use Rattle.mcf_pair_text.specs.PairTexts.{IsPairText}
-use Rattle.mcf_plan_text.specs.PlanTexts.{IsPlanText}
+use Rattle.mcf_range_text.specs.RangeTexts.{IsFlowText}
 use Rattle.mcf_units.specs.declared.terms.Terms.{Terms}
 
 -- the status of an answer of a kind
@@ -25,12 +26,12 @@ plan_status Plan = 0
 plan_status NoPlan = 1
 plan_status Faults = 2
 
--- a text of this status is an answer to two tables
-pub record HandsPlanText (places routes : List ℕ) (options : Options) (status : ℕ) (text : List ℕ) : Type 0 where
+-- a text of this status is an answer to two tables, with the ranges of routes if they are asked
+pub record HandsPlanText (places routes : List ℕ) (asked : AskedTables) (status : ℕ) (text : List ℕ) : Type 0 where
   pub told : PlanText
   pub is_status : status ≡ plan_status told.kind
   pub is_text : text ≡ told.text.items
-  pub answers : IsPlanText places routes options told
+  pub answers : IsFlowText asked.ranges places routes asked.options told
 
 -- a text of this status is an answer to a table of persons and things
 pub record HandsPairText (costs : List ℕ) (options : PairOptions) (status : ℕ) (text : List ℕ) : Type 0 where
@@ -71,9 +72,19 @@ abbrev pub options_under : McfPlanOptions → Option Mark → Option Options
 options_under o mark =
     option_map (λ terms. record { mark = mark; terms = terms }) (terms_from (asked_yes o.allow_unused) (asked_yes o.allow_short) (asked_penalty mark o.penalty.now))
 
--- what the numbers ask, if they have a meaning
+-- how tables are read, and what plans may leave, if the numbers have a meaning
 abbrev pub plan_options : McfPlanOptions → Option Options
 plan_options o = option_and_then (options_under o) (asked_mark o.decimal)
+
+-- what is asked of two tables, if each part is there
+abbrev pub asked_from : Option Options → Option Bool → Option AskedTables
+asked_from (Some options) (Some ranges) = Some (record { options = options; ranges = ranges })
+asked_from None ranges = None
+asked_from (Some options) None = None
+
+-- what the numbers ask of two tables, if they have a meaning
+abbrev pub asked_tables : McfPlanOptions → Option AskedTables
+asked_tables o = asked_from (plan_options o) (asked_yes o.ranges)
 
 -- ---- what the numbers ask of persons and things
 

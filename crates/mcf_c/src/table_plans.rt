@@ -1,7 +1,7 @@
 //! Tables planned.
 ghost use Rattle.std.specs.Prelude.{◌≡◌, ◌↔◌, ◌≤◌, ◌⊎◌, IfOk, IfSome, None};
 ghost use Rattle.mcf_c.specs.Calls.{HandsInto, LacksRoomFor};
-ghost use Rattle.mcf_c.specs.TablePlans.{HandsPairText, HandsPlanText, asked_each, asked_mark, asked_penalty, asked_yes, options_under, pair_options, plan_options, plan_status};
+ghost use Rattle.mcf_c.specs.TablePlans.{HandsPairText, HandsPlanText, asked_each, asked_mark, asked_penalty, asked_tables, asked_yes, options_under, pair_options, plan_options, plan_status};
 
 use crate::statuses::{BLOCKED, BUFFER_TOO_SMALL, FLOW, INVALID_CHOICE, INVALID_INPUT, NO_MEMORY};
 use mcf_answer_rows::TextKind;
@@ -10,21 +10,29 @@ use mcf_decimal::{Decimal, Mark, number};
 use mcf_flow_tables::{Options, Texts};
 use mcf_pair_tables::{Each, Options as PairOptions};
 use mcf_pair_text::pair_text;
-use mcf_plan_text::plan_text;
 use mcf_planner::Planner;
+use mcf_range_text::told_text;
 use mcf_text::NoMemory;
 use mcf_units::Terms;
 use std::alloc::Global;
 
-/// How tables are read, and what plans may leave. All zeros, with an empty penalty, are the
-/// defaults.
+/// How tables are read, what plans may leave, and whether ranges are told. All zeros, with an empty
+/// penalty, are the defaults.
 #[repr(C)]
 #[derive(Clone, Copy)]
 pub struct McfPlanOptions<'a> {
     pub decimal: u32,
     pub allow_unused: u32,
     pub allow_short: u32,
+    pub ranges: u32,
     pub penalty: &'a [u8],
+}
+
+/// What the numbers ask: how tables are read, what plans may leave, and whether ranges are told.
+#[derive(Clone, Copy)]
+pub struct AskedTables {
+    pub options: Options,
+    pub ranges: bool,
 }
 
 /// How a table of persons and things is read, and which choice is the best. All zeros are the
@@ -102,12 +110,21 @@ fn options_under(numbers: &McfPlanOptions<'_>, mark: Option<Mark>) -> Option<Opt
     })
 }
 
-// What numbers ask, if they have a meaning.
+// How tables are read, and what plans may leave, if the numbers have a meaning.
 fn plan_options(numbers: &McfPlanOptions<'_>) -> Option<Options>
     ensures { result ≡ plan_options numbers.now }
 {
     let mark = asked_mark(numbers.decimal)?;
     options_under(numbers, mark)
+}
+
+// What numbers ask of two tables, if they have a meaning.
+fn asked_tables(numbers: &McfPlanOptions<'_>) -> Option<AskedTables>
+    ensures { result ≡ asked_tables numbers.now }
+{
+    let options = plan_options(numbers)?;
+    let ranges = asked_yes(numbers.ranges)?;
+    Some(AskedTables { options, ranges })
 }
 
 // Who gets just one, by a number.
@@ -148,17 +165,21 @@ fn fast_engine() -> Planner {
 }
 
 // The answer to two tables, with its status.
-fn answer_to(alloc: Global, texts: Texts<'_>, options: Options) -> Result<(u32, Vec<u8>), NoMemory>
-    ensures text { IfOk result (λ r. HandsPlanText texts.entry.places.now texts.entry.routes.now options r.0 r.1.items) }
+fn answer_to(
+    alloc: Global,
+    texts: Texts<'_>,
+    asked: AskedTables,
+) -> Result<(u32, Vec<u8>), NoMemory>
+    ensures text { IfOk result (λ r. HandsPlanText texts.entry.places.now texts.entry.routes.now asked r.0 r.1.items) }
     ensures few { IfOk result (λ r. r.0 ≤ 2) }
 {
     let mut engine = fast_engine();
-    let told = plan_text(alloc, &mut engine, texts, options)?;
+    let told = told_text(alloc, &mut engine, texts, asked.options, asked.ranges)?;
     Ok((plan_status(told.kind), told.text))
 }
 
 /// Plans the flow of two tables in UTF-8, and writes the answer, as the text of a table, to the
-/// beginning of a buffer of the caller's, as `plan_text` writes it.
+/// beginning of a buffer of the caller's, as `told_text` writes it.
 ///
 /// The status is 0 for a least plan, 1 if there is none, 2 for faults, 3 if memory runs out, also
 /// for the answer before it is copied to the buffer, 4 if the buffer is too short, and 5 if the
@@ -174,18 +195,18 @@ pub extern "C" fn mcf_plan_flow(
     used: &mut usize,
 ) -> u32
     ensures statuses { result ≤ 5 }
-    ensures answer { result ≤ 2 → IfSome (plan_options options.now) (λ o. HandsInto (HandsPlanText places.now routes.now o) result room.old room.new used.new) }
-    ensures room { result ≡ 4 → IfSome (plan_options options.now) (λ o. LacksRoomFor (HandsPlanText places.now routes.now o) room.old used.new) }
-    ensures options { (result ≡ 5) ↔ (plan_options options.now ≡ None) }
+    ensures answer { result ≤ 2 → IfSome (asked_tables options.now) (λ o. HandsInto (HandsPlanText places.now routes.now o) result room.old room.new used.new) }
+    ensures room { result ≡ 4 → IfSome (asked_tables options.now) (λ o. LacksRoomFor (HandsPlanText places.now routes.now o) room.old used.new) }
+    ensures options { (result ≡ 5) ↔ (asked_tables options.now ≡ None) }
     ensures untouched { 3 ≤ result → room.new ≡ room.old }
     ensures unused { (result ≡ 3) ⊎ (result ≡ 5) → used.new ≡ 0 }
 {
     *used = 0;
-    let Some(options) = plan_options(options) else {
+    let Some(asked) = asked_tables(options) else {
         return INVALID_CHOICE;
     };
     let texts = Texts { places, routes };
-    let Ok((status, answer)) = answer_to(alloc, texts, options) else {
+    let Ok((status, answer)) = answer_to(alloc, texts, asked) else {
         return NO_MEMORY;
     };
     *used = answer.len();

@@ -23,8 +23,7 @@ use Rattle.mcf_plan_asking.specs.declared.asking.AskedFlow.{AskedFlow}
 use Rattle.mcf_plan_asking.specs.declared.asking.AskedPairs.{AskedPairs}
 use Rattle.mcf_plan_asking.specs.declared.asking.AskedPlan.{AskedPlan}
 use Rattle.mcf_plan_asking.specs.declared.asking.AskedPlan.TheVariants.{Flow, Pairs}
-use Rattle.mcf_plan_text.specs.PlanTexts.{IsPlanText}
-use Rattle.mcf_range_text.specs.RangeTexts.{IsRangedText}
+use Rattle.mcf_range_text.specs.RangeTexts.{IsFlowText}
 use Rattle.mcf_answer_rows.specs.declared.texts.PlanText.{PlanText}
 use Rattle.mcf_answer_rows.specs.declared.texts.TextKind.{TextKind}
 use Rattle.mcf_answer_rows.specs.declared.texts.TextKind.TheVariants.{Plan, NoPlan, Faults}
@@ -56,11 +55,6 @@ pub record ReadsTables {F V E : Type 0} (calls : Mut F (Bor (List ℕ) × Unit {
   pub names_routes : word_text asked.routes ≡ Some route_file
   pub places_read : CalledAt calls read place_file (Ok places) between
   pub routes_read : CalledAt calls between route_file (Ok routes) after
-
--- the text is an answer to two texts, with the ranges of routes if they are asked
-abbrev pub IsFlowText : Bool → List ℕ → List ℕ → Options → PlanText → Type 0
-IsFlowText true places routes options text = IsRangedText places routes options text
-IsFlowText false places routes options text = IsPlanText places routes options text
 
 -- the text is an answer to the two tables that are named, under the options that are asked
 pub record TellsFlow {F V E : Type 0} (calls : Mut F (Bor (List ℕ) × Unit {0}) (Result V E)) (bytes : V → List ℕ) (read after : F) (asked : AskedFlow)

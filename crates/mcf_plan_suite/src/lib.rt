@@ -3,7 +3,7 @@
 //! The whole planner's program: it does what the words of a command line ask, over a reader of
 //! files and two sinks, and reports by its exit status.
 //!
-//! It builds on `mcf_plan_text`, which plans two tables, on `mcf_pair_text`, which pairs persons
+//! It builds on `mcf_range_text`, which plans two tables, on `mcf_pair_text`, which pairs persons
 //! and things by a table, and on `mcf_plan_asking`, which reads a command line; it uses any solver
 //! that `mcf_model` takes. The definitions in `specs/`: `PlanServing` says what the program does.
 

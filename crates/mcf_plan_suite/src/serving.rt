@@ -2,7 +2,7 @@
 ghost use Rattle.std.specs.Prelude.{◌≡◌, ◌≢◌, ◌≤◌, ◌⊎◌, IfOk, Ok, OnOk, map, option_map};
 ghost use Rattle.std.specs.Fn.{CalledAt};
 ghost use Rattle.clap.specs.Words.{kind_of};
-ghost use Rattle.mcf_plan_suite.specs.PlanServing.{IsFlowText, IsShownPlan, ServesPlan, Tells, TellsFlow, TellsPairs, each_in, penalty_in, status_of};
+ghost use Rattle.mcf_plan_suite.specs.PlanServing.{IsShownPlan, ServesPlan, Tells, TellsFlow, TellsPairs, each_in, penalty_in, status_of};
 
 use crate::version::VERSION;
 use clap::Error;
@@ -14,8 +14,8 @@ use mcf_model::Solves;
 use mcf_pair_tables::{Each, Options as PairOptions};
 use mcf_pair_text::pair_text;
 use mcf_plan_asking::{AskedEach, AskedFlow, AskedPairs, AskedPlan, plan_command};
-use mcf_plan_text::{PlanText, TextKind, plan_text};
-use mcf_range_text::ranged_text;
+use mcf_plan_text::{PlanText, TextKind};
+use mcf_range_text::told_text;
 use mcf_solver::{RunFault, Sink, send};
 use mcf_text::NoMemory;
 use mcf_units::Terms;
@@ -118,23 +118,6 @@ fn read_file<R: FnMut(&str) -> Result<Vec<u8>, FileFault>>(
         Ok(bytes) => Ok(bytes),
         Err(FileFault::NoMemory) => Err(Failure::NoMemory),
         Err(FileFault::Unreadable) => Err(unreadable),
-    }
-}
-
-// The answer to two texts, with the ranges of routes if they are asked.
-fn told_text<S: Solves>(
-    alloc: Global,
-    solver: &mut S,
-    texts: Texts<'_>,
-    options: Options,
-    ranges: bool,
-) -> Result<PlanText, NoMemory>
-    ensures { IfOk result (IsFlowText ranges texts.entry.places.now texts.entry.routes.now options) }
-{
-    if ranges {
-        ranged_text(alloc, solver, texts, options)
-    } else {
-        plan_text(alloc, solver, texts, options)
     }
 }
 
@@ -283,10 +266,10 @@ fn answer<W: AsStr, S: Solves, R: FnMut(&str) -> Result<Vec<u8>, FileFault>, O: 
 /// [--short WORD] [--penalty N] [--ranges WORD] PLACES ROUTES`, or `mcfplan pairs [--decimal MARK]
 /// [--each WORD] [--maximise WORD] COSTS`, as `plan_command` reads them, or `mcfplan --version`.
 /// `read` returns the bytes of a file; it is called for PLACES first. The answer goes to `out`, as
-/// the text of a table, which `plan_text`, `ranged_text` and `pair_text` describe. Status 0 means a
-/// least plan or choice, or the requested help or version on `out`; 1 that there is none; 2 faults.
-/// Status 3, with a line or the text of the usage fault on `err`, means that the words aren't a
-/// command of `mcfplan`, a file can't be read, writing fails, or memory runs out.
+/// the text of a table, which `told_text` and `pair_text` describe. Status 0 means a least plan or
+/// choice, or the requested help or version on `out`; 1 that there is none; 2 faults. Status 3,
+/// with a line or the text of the usage fault on `err`, means that the words aren't a command of
+/// `mcfplan`, a file can't be read, writing fails, or memory runs out.
 pub fn serve_plan<
     W: AsStr,
     S: Solves,

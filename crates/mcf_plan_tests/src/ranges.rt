@@ -9,7 +9,7 @@ use mcf_places::{PlannerAnswer, Policy, least};
 use mcf_plan_ranges::{CostRange, cost_range};
 use mcf_planner::{Planner as Engine, plan_with};
 use mcf_planner_ranges::planner_cost_range;
-use mcf_range_text::ranged_text;
+use mcf_range_text::told_text;
 use mcf_text::NoMemory;
 use mcf_units::Terms;
 use std::alloc::Global;
@@ -160,7 +160,7 @@ fn texts_end_with_ranges(rt: HostRuntime) -> Result<(), Fail> {
             penalty: None,
         },
     };
-    let told = ranged_text(rt.alloc(), &mut engine, texts, options)?;
+    let told = told_text(rt.alloc(), &mut engine, texts, options, true)?;
     assert!(rt; told.text.ends_with(RANGE_ROWS));
     Ok(())
 }

@@ -1,6 +1,6 @@
 -- The answer to two tables with the ranges of the costs of routes, as the text of a table.
 -- Source: own
-use Rattle.std.specs.Prelude.{◌≡◌, ℕ, suc, ◌<◌, ◌==◌, Bool, true, List, [], ◌∷◌, ◌++◌, codes, decimal, length, Option, Some, None, IfNone, IfSome, slice_index_or, ◌⊎◌}
+use Rattle.std.specs.Prelude.{◌≡◌, ℕ, suc, ◌<◌, ◌==◌, Bool, true, false, List, [], ◌∷◌, ◌++◌, codes, decimal, length, Option, Some, None, IfNone, IfSome, slice_index_or, ◌⊎◌}
 use Rattle.std.specs.List.{list_any}
 use Rattle.mcf_answer_rows.specs.AnswerRows.{cell_under, line_at}
 use Rattle.mcf_answer_rows.specs.Lines.{comma}
@@ -20,7 +20,7 @@ use Rattle.mcf_places.specs.Planners.{Planner, row_count}
 use Rattle.mcf_places.specs.Planning.{plan_in}
 use Rattle.mcf_plan_ranges.specs.PlanRanges.{AreWithinLimits}
 use Rattle.mcf_plan_text.specs.Cells.{rate_text, text_if}
-use Rattle.mcf_plan_text.specs.PlanTexts.{answer_kind, answer_rows}
+use Rattle.mcf_plan_text.specs.PlanTexts.{IsPlanText, answer_kind, answer_rows}
 use Rattle.mcf_planner_ranges.specs.PlannerRanges.{IsPlannerRange}
 use Rattle.mcf_ranges.specs.declared.range.CostRange.{CostRange}
 use Rattle.mcf_table.specs.Texts.{Record}
@@ -108,3 +108,8 @@ pub record IsRangedText (places routes : List ℕ) (options : Options) (text : P
   pub are_ranges : AreRanges answer ranges
   pub text_is : text.text.items ≡ table_text comma (answer_rows answer ++ range_rows answer ranges)
   pub kind_is : text.kind ≡ answer_kind answer
+
+-- the text is an answer to two texts, with the ranges of routes if they are asked
+abbrev pub IsFlowText : Bool → List ℕ → List ℕ → Options → PlanText → Type 0
+IsFlowText true places routes options text = IsRangedText places routes options text
+IsFlowText false places routes options text = IsPlanText places routes options text

@@ -9,4 +9,4 @@ mod ranges;
 mod rows;
 mod telling;
 
-pub use telling::ranged_text;
+pub use telling::told_text;

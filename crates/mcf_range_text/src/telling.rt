@@ -1,13 +1,13 @@
 //! The answer to two tables, with ranges, as text.
 ghost use Rattle.std.specs.Prelude.{IfOk};
 ghost use Rattle.mcf_range_text.specs.Private.Solved.{IsSolvedAnswer, IsToldWithRanges};
-ghost use Rattle.mcf_range_text.specs.RangeTexts.{IsRangedText};
+ghost use Rattle.mcf_range_text.specs.RangeTexts.{IsFlowText, IsRangedText};
 
 use crate::ranges::ranges_of;
 use crate::rows::put_ranges;
 use mcf_flow_tables::{FlowAnswer, Options, Texts, plan_tables};
 use mcf_model::Solves;
-use mcf_plan_text::{PlanText, answer_text};
+use mcf_plan_text::{PlanText, answer_text, plan_text};
 use mcf_text::NoMemory;
 use std::alloc::Global;
 
@@ -26,20 +26,8 @@ fn told_with_ranges(alloc: Global, answer: &FlowAnswer) -> Result<PlanText, NoMe
     })
 }
 
-/// Plans the flow of two tables, as `plan_tables` does, and returns the answer as `plan_text` does,
-/// with one row more at the end for each route of a plan whose range is told: `range`, its line,
-/// its ends, and by how much the cost of each unit on it may fall and may rise while the plan stays
-/// least, if all other costs stay as they are; a cell is empty without a limit. All steps of a
-/// route change by the same, and so do both directions of a route both ways, of which no cost may
-/// fall below 0. There is no row for a route both ways that has bounds at one of its ends, nor for
-/// any route if a number is beyond the limits of `planner_cost_range`.
-///
-/// It searches the network twice for each route.
-///
-/// # Errors
-///
-/// `NoMemory` if an allocation is refused.
-pub fn ranged_text<S: Solves>(
+// Plans the flow of two tables, and returns the answer as text, with its ranges.
+fn ranged_text<S: Solves>(
     alloc: Global,
     solver: &mut S,
     texts: Texts<'_>,
@@ -49,4 +37,33 @@ pub fn ranged_text<S: Solves>(
 {
     let answer = plan_tables(alloc, solver, texts, options)?;
     told_with_ranges(alloc, &answer)
+}
+
+/// Plans the flow of two tables, as `plan_tables` does, and returns the answer as `plan_text` does.
+///
+/// If ranges are asked, the answer has one row more at the end for each route of a plan whose range
+/// is told: `range`, its line, its ends, and by how much the cost of each unit on it may fall and
+/// may rise while the plan stays least, if all other costs stay as they are; a cell is empty
+/// without a limit. All steps of a route change by the same, and so do both directions of a route
+/// both ways, of which no cost may fall below 0. There is no row for a route both ways that has
+/// bounds at one of its ends, nor for any route if a number is beyond the limits of
+/// `planner_cost_range`. It then searches the network twice for each route.
+///
+/// # Errors
+///
+/// `NoMemory` if an allocation is refused.
+pub fn told_text<S: Solves>(
+    alloc: Global,
+    solver: &mut S,
+    texts: Texts<'_>,
+    options: Options,
+    ranges: bool,
+) -> Result<PlanText, NoMemory>
+    ensures { IfOk result (IsFlowText ranges texts.entry.places.now texts.entry.routes.now options) }
+{
+    if ranges {
+        ranged_text(alloc, solver, texts, options)
+    } else {
+        plan_text(alloc, solver, texts, options)
+    }
 }

@@ -27,7 +27,7 @@ pub enum Decimal {
     Comma = 2,
 }
 
-/// How tables are read, and what plans may leave.
+/// How tables are read, what plans may leave, and whether ranges are told.
 #[derive(Clone, Copy, Debug, Default)]
 pub struct PlanOptions<'a> {
     pub decimal: Decimal,
@@ -35,6 +35,9 @@ pub struct PlanOptions<'a> {
     pub unused: bool,
     /// Demands may be missing.
     pub short: bool,
+    /// From what to what the cost of each route may change while a plan stays least, by two searches
+    /// a route.
+    pub ranges: bool,
     /// The cost of each missing unit, with a point before decimals unless `decimal` is a comma. If
     /// it is empty, as little as possible is missing.
     pub penalty: &'a str,
@@ -46,6 +49,7 @@ pub struct PlanNumbers {
     decimal: u32,
     allow_unused: u32,
     allow_short: u32,
+    ranges: u32,
     penalty: *const u8,
     penalty_length: usize,
 }
@@ -279,6 +283,7 @@ pub fn plan_flow(places: &[u8], routes: &[u8], options: &PlanOptions, room: &mut
         decimal: options.decimal as u32,
         allow_unused: options.unused.into(),
         allow_short: options.short.into(),
+        ranges: options.ranges.into(),
         penalty: options.penalty.as_ptr(),
         penalty_length: options.penalty.len(),
     };

@@ -35,6 +35,8 @@ fn tables() {
     let (kind, answer) = plan_flow(places, routes, options).unwrap();
     assert_eq!(kind, Kind::Flow);
     assert!(answer.starts_with(b"\"answer\",\"plan\"\n\"cost\",\"1.5\"\n"));
+    let ranged = plan_flow(places, routes, PlanOptions { ranges: true, ..options }).unwrap().1;
+    assert!(ranged.starts_with(&answer) && ranged.ends_with(b"\"range\",\"2\",\"Mill\",\"Town\",\"1\",\"\"\n"));
     assert_eq!(plan_flow(places, places, options).unwrap().0, Kind::Refused);
     let comma = PlanOptions { decimal: Decimal::Comma, ..options };
     assert_eq!(plan_flow(places, routes, comma), Err(Error::InvalidChoice));
