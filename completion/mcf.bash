@@ -30,7 +30,7 @@ _mcf_options()
         mcfplan:pairs) echo -h --help --decimal --each --maximise ;;
         mcfplan:*) echo -h --help -V --version ;;
         mcf_one:*) echo "$solve" ;;
-        mcf_plan:flow) echo -h --help "$plan" --unused --short --most-flow --penalty --no-picture ;;
+        mcf_plan:flow) echo -h --help "$plan" --unused --short --most-flow --penalty --ranges --no-picture ;;
         mcf_plan:pairs) echo -h --help "$plan" --each --maximise --maximize ;;
         mcf_plan:diff) echo -h --help --all ;;
         mcf_plan:compare) echo -h --help -o --output ;;

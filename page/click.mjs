@@ -124,6 +124,13 @@ async function planner(page, { set, act, go, kind, example, ended }) {
       && byEnd.endsWith(whole[0]),
     `sums by another column, whose total is that of the routes: ${byEnd}`
   );
+  await page.run("document.getElementById('ranges').click()");
+  const ranged = await example('degenerate');
+  expect(
+    ranged.status === 'flow' && /cost may rise to/i.test(ranged.text),
+    'ranges of costs, if they are chosen'
+  );
+  await page.run("document.getElementById('ranges').click()");
   await example('transport');
   const sort = (title, head) =>
     page.run(`[...document.querySelectorAll('table[aria-label="${title}"] th')]

@@ -12,6 +12,7 @@ const NAMED = new RegExp(`(?:^|\\s)(${OWN.join('|')}|(?:most|cost) (?:[2-9]|[1-9
 export const FLOW_RESULTS = [
   'carries', 'total', 'free', 'one_more_saves', 'exact', 'one_more_carried_costs',
 ];
+export const RANGE_RESULTS = ['cost_may_fall_to', 'cost_may_rise_to'];
 export const PLACE_RESULTS = ['one_more_costs', 'group'];
 export const THROUGH_RESULTS = [
   'passes', 'passing_costs', 'free', 'one_more_saves', 'exact', 'one_more_passing_costs',
@@ -28,7 +29,7 @@ export function carriedOf(table, known, hasSteps = false) {
     known.includes(head) || (hasSteps && /^(most|cost) [0-9]+$/.test(head));
   const isThere = (/** @type {number} */ place) =>
     table.titles[place] || table.rows.some(({ cells }) => cellAt(cells, place));
-  return table.kept(FLOW_RESULTS, PLACE_RESULTS, THROUGH_RESULTS)
+  return table.kept(FLOW_RESULTS, RANGE_RESULTS, PLACE_RESULTS, THROUGH_RESULTS)
     .filter((place) => !isUsed(table.heads[place]) && isThere(place))
     .map((place) => plainHead(table.titles[place]) || `column ${place + 1}`);
 }

@@ -78,9 +78,11 @@ export class Instance {
    * @param {PlanOptions} options
    * @returns {{ status: Status } & Lent}
    */
-  plan(places, routes, { decimal = '', unused = false, short = false, penalty = '' } = {}) {
+  plan(places, routes, options = {}) {
+    const { decimal = '', unused = false, short = false, ranges = false, penalty = '' } = options;
     const named = this.lend(new TextEncoder().encode(penalty));
-    const asked = this.numbers([MARKS.indexOf(decimal), Number(unused), Number(short), 0], 32);
+    const choices = [unused, short, ranges].map(Number);
+    const asked = this.numbers([MARKS.indexOf(decimal), ...choices], 32);
     this.view().setBigUint64(Number(asked) + 16, named.at, true);
     this.view().setBigUint64(Number(asked) + 24, BigInt(named.size), true);
     return this.written(0, 4096 + 12 * (places.size + routes.size), (at, room) =>

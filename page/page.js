@@ -87,6 +87,7 @@ function choices() {
     policy: {
       unused: $('unused').checked,
       short: $('short').checked,
+      ranges: $('ranges').checked,
       penalty: $('short').checked ? $('penalty').value.trim() : '',
     },
     each: /** @type {Choices['each']} */ ($('each').value || null),

@@ -35,6 +35,9 @@ export class FlowPlan {
       const there = this.result(cells.slice(3)), back = backs.get(cells[0]);
       return back ? bothWays(there, back) : there;
     });
+    this.hasRanges = Boolean(policy.ranges);
+    const changes = new Map(answer.rows('range').map(([line, , , ...cells]) => [line, cells]));
+    this.ranges = problem.routes.map((route) => this.range(route, changes.get(String(route.line))));
     /** @type {Map<string, number>} */
     const groups = new Map();
     /** @type {PlaceResult[]} */
@@ -67,6 +70,15 @@ export class FlowPlan {
       isExact: exact === 'yes',
       dearer: dearer ? this.rateOf(dearer) : null,
     };
+  }
+
+  // This method returns from what to what the cost of a route's first step may change, by how much
+  // it may fall and rise; null if that isn't told.
+  /** @type {(route: Route, changes?: string[]) => CostRange | null} */
+  range({ steps: [{ cost }] }, changes) {
+    if (!changes) return null;
+    const [down, up] = changes.map((text) => (text ? this.rateOf(text) : null));
+    return { low: down === null ? null : cost - down, high: up === null ? null : cost + up };
   }
 
   // This method says whether a route carries its most, and that isn't 0.

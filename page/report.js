@@ -2,7 +2,7 @@
 // The sentences and tables about a flow, as mcf_plan writes them.
 import { balanceOf } from './blocked.js';
 import { TOLD_NAMES, countOf, listed } from './faults.js';
-import { FLOW_RESULTS, PLACE_RESULTS, THROUGH_RESULTS } from './heads.js';
+import { FLOW_RESULTS, PLACE_RESULTS, RANGE_RESULTS, THROUGH_RESULTS } from './heads.js';
 import { MISSING, STAYS, THROUGH } from './plan.js';
 import { SEPARATORS, cellAt, lineOf } from './tables.js';
 import { words } from './words.js';
@@ -23,7 +23,7 @@ import { words } from './words.js';
  * @returns {SavedTable}
  */
 function after(name, like, results, rows) {
-  const places = like.kept(...results);
+  const places = like.kept(...results, RANGE_RESULTS);
   const heads = [...places.map((place) => like.titles[place]), ...results.flat()];
   return {
     name,
@@ -40,8 +40,11 @@ function after(name, like, results, rows) {
 export function flowsTable(plan) {
   const { problem } = plan;
   const { units } = problem;
+  const results = plan.hasRanges ? [FLOW_RESULTS, RANGE_RESULTS] : [FLOW_RESULTS];
   /** @type {[string[], string[]][]} */
-  const rows = problem.routes.map((route, k) => [route.cells, cellsOf(plan, plan.routes[k])]);
+  const rows = problem.routes.map((route, k) => [
+    route.cells, [...cellsOf(plan, plan.routes[k]), ...rangeCells(plan, k)],
+  ]);
   for (const isSupply of [true, false]) {
     for (const [place, amount] of plan.unmet(isSupply)) {
       const ends = new Map([
@@ -52,11 +55,19 @@ export function flowsTable(plan) {
       const cost = penalty === null ? null : penalty * amount;
       rows.push([
         problem.routeTable.heads.map((head) => ends.get(head) || ''),
-        [units.amount(amount), units.total(cost), '', '', '', ''],
+        [units.amount(amount), units.total(cost), ...results.flat().slice(2).map(() => '')],
       ]);
     }
   }
-  return after('flows', problem.routeTable, [FLOW_RESULTS], rows);
+  return after('flows', problem.routeTable, results, rows);
+}
+
+// This function returns from what to what the cost of a route may change, if the plan has ranges.
+/** @type {(plan: FlowPlan, k: number) => string[]} */
+export function rangeCells({ hasRanges, ranges, problem: { units } }, k) {
+  if (!hasRanges) return [];
+  const range = ranges[k];
+  return range ? [units.rate(range.low), units.rate(range.high)] : ['unknown', 'unknown'];
 }
 
 /** @type {(plan: FlowPlan, result: RouteResult) => string[]} */

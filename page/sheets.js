@@ -10,6 +10,7 @@ import {
   bottleneckTable,
   flowsTable,
   pricesTable,
+  rangeCells,
   savingsOf,
   slips,
 } from './report.js';
@@ -60,7 +61,8 @@ export function planShown(plan) {
       ...warnings(problem, plan.policy),
       'No plan for these tables costs less.',
       ...besideLines(plan),
-      ...problem.told(plan.policy)
+      ...problem.told(plan.policy),
+      ...(plan.hasRanges ? [RANGES] : []),
     ],
     facts,
     findings: [],
@@ -112,8 +114,15 @@ const isPlain = ({ routes }) => routes.every(({ steps }) => steps.length === 1);
 const may = (problem, head) =>
   isPlain(problem) && problem.routeTable.heads.includes(head) ? { edit: head, of: true } : {};
 
-/** @type {(problem: Problem) => Column[]} */
-const routeColumns = (problem) => [
+// What the ranges of costs say, and their columns.
+const RANGES = 'The plan stays least while the cost of one route, of the first step if it has '
+  + 'several, is within its range, and all other costs stay as they are.';
+const RANGE_COLUMNS = ['cost may fall to', 'cost may rise to'].map((head) =>
+  number(head, 'while this plan stays least; empty: no limit')
+);
+
+/** @type {(plan: FlowPlan) => Column[]} */
+const routeColumns = ({ problem, hasRanges }) => [
   column('from', 'where the route begins'),
   column('to', 'where it ends'),
   number('least', 'it carries no less', may(problem, 'least')),
@@ -125,6 +134,7 @@ const routeColumns = (problem) => [
   number('one more saves', 'what one more unit of room saves'),
   column('exact', 'whether it saves just that'),
   number('one more carried costs', 'at least, if it has to carry one more; empty: full'),
+  ...(hasRanges ? RANGE_COLUMNS : []),
   ...ownOf(problem.routeTable),
 ];
 
@@ -134,7 +144,7 @@ function routesSheet(plan) {
   const { units, routeTable } = problem;
   const own = ownColumns(routeTable);
   const plain = isPlain(problem);
-  const columns = routeColumns(problem);
+  const columns = routeColumns(plan);
   /** @type {Sheet['row']} */
   const row = (k) => {
     const route = problem.routes[k], { carries, cost, saves, isExact, dearer } = plan.routes[k];
@@ -154,6 +164,7 @@ function routesSheet(plan) {
         saves ? units.rate(saves) : '',
         saves ? (isExact ? 'exactly' : 'at most') : '',
         units.rate(dearer),
+        ...rangeCells(plan, k),
         ...own.map((place) => cellAt(route.cells, place)),
       ],
     };

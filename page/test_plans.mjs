@@ -1,6 +1,8 @@
 // This file runs the plans of examples/plans through the page, and compares what it says and its
 // tables with what mcf_plan says and writes.
+import { spawnSync } from 'node:child_process';
 import fs from 'node:fs';
+import os from 'node:os';
 import path from 'node:path';
 import { fileURLToPath } from 'node:url';
 import { BadTable } from './faults.js';
@@ -55,6 +57,36 @@ export function solverOf(module) {
   };
 }
 
+// This function returns a solver that runs a program like mcfplan for each call. It solves tables
+// alone.
+function solverBy(program) {
+  const scratch = fs.mkdtempSync(path.join(os.tmpdir(), 'mcf-page-'));
+  process.on('exit', () => fs.rmSync(scratch, { recursive: true }));
+  const wordsOf = ({ decimal, unused, short, ranges, penalty, each, maximise }) => [
+    decimal && `--decimal=${decimal}`, unused && '--unused=allow', short && '--short=allow',
+    ranges && '--ranges=yes', penalty && `--penalty=${penalty}`, each && `--each=${each}`,
+    maximise && '--maximise=yes',
+  ].filter(Boolean);
+  return {
+    plan: async (texts, options) => {
+      const files = texts.map((text, k) => {
+        fs.writeFileSync(path.join(scratch, String(k)), text);
+        return path.join(scratch, String(k));
+      });
+      const command = texts.length === 2 ? 'flow' : 'pairs';
+      const { status, stdout } = spawnSync(program, [command, ...wordsOf(options), ...files]);
+      return {
+        status: ['flow', 'blocked', 'refused'][status] ?? 'failed',
+        answer: new TextDecoder().decode(stdout),
+      };
+    },
+  };
+}
+
+// This function returns what solves in tests: the module, or the program that MCFPLAN names.
+export const solverHere = () =>
+  process.env.MCFPLAN ? solverBy(process.env.MCFPLAN) : solverOf(loaded());
+
 // This function translates mcf_plan's command line for the page: the files, how to read them,
 // choices, and the units of the caption.
 export function asked(words) {
@@ -70,6 +102,7 @@ export function asked(words) {
   for (let k = 0; k < words.length; k++) {
     const word = words[k];
     if (word === '--maximise') found.maximise = true;
+    else if (word === '--ranges') found.policy.ranges = true;
     else if (word === '--by') found.by.push(words[++k]);
     else if (word === '--map') {
       const [head, own] = words[++k].split('=');
@@ -216,7 +249,7 @@ async function summed(expect, solver) {
 }
 
 export default async function test(expect) {
-  const solver = solverOf(loaded());
+  const solver = solverHere();
   await written(expect, solver);
   await mapped(expect, solver);
   await summed(expect, solver);

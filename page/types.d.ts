@@ -25,12 +25,13 @@ interface Reading {
 }
 
 /**
- * Whether supplies may stay, and demands may be short. `penalty`: what each missing unit costs at
- * places that have no penalty of their own.
+ * Whether supplies may stay, demands may be short, and ranges of costs are told. `penalty`: what
+ * each missing unit costs at places that have no penalty of their own.
  */
 interface Policy {
   unused?: boolean;
   short?: boolean;
+  ranges?: boolean;
   penalty?: string;
 }
 
@@ -213,6 +214,12 @@ interface RouteResult {
   dearer: bigint | null;
 }
 
+/** From what to what the cost of a route's first step may change; null is no limit. */
+interface CostRange {
+  low: bigint | null;
+  high: bigint | null;
+}
+
 /** What a plan says of a place; `through` is null where nothing bounds it. */
 interface PlaceResult {
   price: bigint;
@@ -297,6 +304,7 @@ interface PlanOptions {
   decimal?: string;
   unused?: boolean;
   short?: boolean;
+  ranges?: boolean;
   penalty?: string;
 }
 

@@ -15,9 +15,11 @@ NAME, FORMAT = "asked.json", 1
 TEXT = (str, type(None))
 READING = {"decimal": TEXT, "encoding": TEXT, "map": dict}
 OPTIONS = {
-    "flow": {**READING, "unused": bool, "short": bool, "penalty": TEXT},
+    "flow": {**READING, "unused": bool, "short": bool, "penalty": TEXT, "ranges": bool},
     "pairs": {**READING, "each": TEXT, "maximise": bool},
 }
+# Options without a word.
+FLAGS = ("ranges", "maximise")
 # The values of options that have few, and the most files of each command.
 CHOICES = {"decimal": (None, ",", "."), "each": (None, "who", "what", "both")}
 FILES = {"flow": 2, "pairs": 1}
@@ -71,7 +73,7 @@ def options_text(asked):
     for name, value in asked.options.items():
         values = [f"{head}={own}" for head, own in value.items()] if name == "map" else [value]
         for one in filter(None, values):
-            said = [] if name == "maximise" else ["allow" if one is True else one]
+            said = [] if name in FLAGS else ["allow" if one is True else one]
             words += [f"--{name}", *said]
     return line_of(shlex.join(words))
 

@@ -98,6 +98,11 @@ def add_flow(command):
     command.add_argument(
         "--penalty", metavar="N", help="the cost of each missing unit, unless its place has one"
     )
+    command.add_argument(
+        "--ranges",
+        action="store_true",
+        help="also write from what to what the cost of each route may change",
+    )
     command.add_argument("--no-picture", action="store_true", help="draw no picture")
 
 

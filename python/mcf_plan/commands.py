@@ -60,7 +60,8 @@ class Asking:
             return self.answer(*words, *(["--maximise", "yes"] if options.maximise else []))
         if options.penalty is not None:
             self.settle()
-        return self.answer(*policy_words(options.unused, options.short, options.penalty))
+        words = policy_words(options.unused, options.short, options.penalty)
+        return self.answer(*words, *(["--ranges", "yes"] if options.ranges else []))
 
     def write(self, folder):
         """Writes answer.csv, and asked.json, and returns the answer."""

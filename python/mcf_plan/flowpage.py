@@ -9,6 +9,7 @@ from .results import kept
 from .scene import blocked_heading
 from .words import listed
 
+TOTAL_COLUMN = ("total", "cost of what it carries")
 ROUTE_COLUMNS = [
     ("from", "where the route begins"),
     ("to", "where it ends"),
@@ -16,11 +17,15 @@ ROUTE_COLUMNS = [
     ("most", "it carries no more; empty: no limit"),
     ("cost", "of each unit"),
     ("carries", "in this plan"),
-    ("total", "cost of what it carries"),
+    TOTAL_COLUMN,
     ("of its room", "what it carries of its most"),
     ("one more saves", "what one more unit of room saves"),
     ("exact", "whether it saves just that"),
     ("one more carried costs", "at least, if it has to carry one more; empty: full"),
+]
+RANGE_COLUMNS = [
+    ("cost may fall to", "while this plan stays least; empty: no limit"),
+    ("cost may rise to", "while this plan stays least; empty: no limit"),
 ]
 PLACE_COLUMNS = [
     ("name", ""),
@@ -63,6 +68,7 @@ def plan_page(plan, options, picture, sums):
         facts += [(shown_number(problem, total, options.unit), words)] if found else []
     lead = warnings(problem) + ["No plan for these tables costs less."]
     lead += report.unmet_lines(plan) + notes_of(problem)
+    lead += [report.RANGES] * plan.has_ranges
     return Page(
         options.title or "A least-cost plan",
         f"Least cost: {shown_number(problem, plan.cost, options.currency)}",
@@ -106,9 +112,11 @@ def routes_sheet(plan):
         cells = [table.cell(route.line, route.cells, place) for place in own]
         rows.append((kind, route_cells(plan, number) + cells))
     rows, note = listed_rows(rows)
-    columns = ROUTE_COLUMNS + [(table.title(sheet.titles[place]), "") for place in own]
+    columns = ROUTE_COLUMNS + RANGE_COLUMNS * plan.has_ranges
+    columns += [(table.title(sheet.titles[place]), "") for place in own]
     total = figure(sum(result.cost or 0 for result in plan.routes))
-    totals = [total if head == "total" else "" for head, _ in ROUTE_COLUMNS] + [""] * len(own)
+    totals = [""] * len(columns)
+    totals[ROUTE_COLUMNS.index(TOTAL_COLUMN)] = total
     return Sheet("Routes", columns, rows, totals, note)
 
 
@@ -128,6 +136,7 @@ def route_cells(plan, number):
         figure(result.saves) if result.saves else "",
         exact if result.saves else "",
         figure(result.dearer),
+        *report.range_cells(plan, plan.ranges[number]),
     ]
 
 

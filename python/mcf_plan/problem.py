@@ -12,7 +12,7 @@ BOUND_HEADS = ("least", "most", "cost")
 NO = ("", "no", "n", "0", "false", "nein")
 STAYS, MISSING, THROUGH = "(stays)", "(missing)", "(through)"
 # The options of a plan that is read again.
-NO_OPTIONS = argparse.Namespace(unused=False, short=False, penalty=None)
+NO_OPTIONS = argparse.Namespace(unused=False, short=False, penalty=None, ranges=False)
 
 # A place. `bounds` limits the flow through it (its inflow and its supply) or is None; `penalty` is
 # the cost of each unit that is missing there, or None if that of all places holds; `line` and
@@ -30,6 +30,9 @@ Step = collections.namedtuple("Step", "most cost")
 # missing, and the RouteResult of the flow through it, if it has bounds.
 RouteResult = collections.namedtuple("RouteResult", "carries cost free saves is_exact dearer")
 PlaceResult = collections.namedtuple("PlaceResult", "costs group stays missing through")
+# From what to what the cost of a route's first step may change while the plan stays least; None
+# means no limit.
+CostRange = collections.namedtuple("CostRange", "low high")
 
 
 class Route(collections.namedtuple("Route", "tail head least steps both line cells")):
@@ -139,6 +142,9 @@ class Plan:
         ]
         groups = {}
         self.places = [place_result(cells[2:], groups) for cells in rows["place"]]
+        self.has_ranges = problem.options.ranges
+        changes = {int(line): map(number_in, cells) for line, _, _, *cells in rows["range"]}
+        self.ranges = [cost_range(route, changes.get(route.line)) for route in problem.routes]
 
     def is_full(self, number):
         """Whether a route carries its whole capacity, and more than 0."""
@@ -171,6 +177,15 @@ def check_spots(sheet, name, faults):
 def route_result(cells):
     """The results of a route, from cells of an answer."""
     return RouteResult(*map(number_in, cells[:4]), cells[4] == "yes", number_in(cells[5]))
+
+
+def cost_range(route, changes):
+    """The range of the cost of a route, by how much it may fall and rise; None if that isn't
+    told."""
+    if changes is None:
+        return None
+    (down, up), cost = changes, route.steps[0].cost
+    return CostRange(None if down is None else cost - down, None if up is None else cost + up)
 
 
 def both_ways(there, back):

@@ -2,17 +2,25 @@
 from .answer import cell_at
 from .figures import Figure, figure
 from .problem import MISSING, STAYS, THROUGH
-from .results import FLOW_RESULTS, PLACE_RESULTS, THROUGH_RESULTS
+from .results import FLOW_RESULTS, PLACE_RESULTS, RANGE_RESULTS, THROUGH_RESULTS
 from .words import TOLD_NAMES, count_of, listed
+
+# A range that isn't told.
+UNKNOWN = "unknown"
+RANGES = (
+    "The plan stays least while the cost of one route, of the first step if it has several, is"
+    " within its range, and all other costs stay as they are."
+)
 
 
 def write_flows(results, plan):
     """Writes flows.csv: the routes in their order, with the columns of their table, and then what
     stays and what is missing."""
     problem = plan.problem
+    groups = [FLOW_RESULTS, RANGE_RESULTS] if plan.has_ranges else [FLOW_RESULTS]
     rows = [
-        (route.line, route.cells, result_cells(result))
-        for route, result in zip(problem.routes, plan.routes)
+        (route.line, route.cells, result_cells(result) + range_cells(plan, told))
+        for route, result, told in zip(problem.routes, plan.routes, plan.ranges)
     ]
     for is_supply in (True, False):
         for place, amount in plan.unmet(is_supply):
@@ -22,8 +30,9 @@ def write_flows(results, plan):
             penalty = 0 if is_supply else problem.penalty_of(place)
             cost = "" if penalty is None else figure(penalty * amount)
             cells = [ends.get(head, "") for head in problem.route_sheet.heads]
-            rows.append((None, cells, [figure(amount), cost, *[""] * (len(FLOW_RESULTS) - 2)]))
-    results.after("flows", problem.route_table, problem.route_sheet, [FLOW_RESULTS], rows)
+            more = [""] * (sum(map(len, groups)) - 2)
+            rows.append((None, cells, [figure(amount), cost, *more]))
+    results.after("flows", problem.route_table, problem.route_sheet, groups, rows)
 
 
 def write_prices(results, plan):
@@ -46,6 +55,13 @@ def result_cells(result):
     empty."""
     exact = "" if result.saves is None else "yes" if result.is_exact else "no"
     return [*map(figure, result[:4]), exact, figure(result.dearer)]
+
+
+def range_cells(plan, told):
+    """From what to what the cost of a route may change, if the plan has ranges."""
+    if not plan.has_ranges:
+        return []
+    return [UNKNOWN, UNKNOWN] if told is None else [*map(figure, told)]
 
 
 def write_bottlenecks(results, problem, bottlenecks):

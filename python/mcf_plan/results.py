@@ -9,6 +9,7 @@ from .workbook import openpyxl_for, write_workbook
 FORMULA = ("=", "+", "-", "@", "\t", "\r")
 # The heads of results, in groups.
 FLOW_RESULTS = ("carries", "total", "free", "one_more_saves", "exact", "one_more_carried_costs")
+RANGE_RESULTS = ("cost_may_fall_to", "cost_may_rise_to")
 PLACE_RESULTS = ("one_more_costs", "group")
 THROUGH_RESULTS = (
     "passes",
@@ -18,7 +19,7 @@ THROUGH_RESULTS = (
     "exact",
     "one_more_passing_costs",
 )
-GROUPS = (FLOW_RESULTS, PLACE_RESULTS, THROUGH_RESULTS)
+GROUPS = (FLOW_RESULTS, RANGE_RESULTS, PLACE_RESULTS, THROUGH_RESULTS)
 
 
 def kept(sheet, groups=GROUPS):
@@ -55,7 +56,7 @@ class Results:
     def after(self, name, like, sheet, groups, rows):
         """Writes a table with the columns of another, followed by groups of results. Each row has a
         line and the cells of both."""
-        places = kept(sheet, groups)
+        places = kept(sheet, [*groups, RANGE_RESULTS])
         heads = [like.title(sheet.titles[place]) for place in places]
         heads += [head for group in groups for head in group]
         self.table(

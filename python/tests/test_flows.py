@@ -76,6 +76,26 @@ class Flows(WithFolder):
             "name,supply,one_more_costs,group\nMill,30,0,1\nWien,-18,9,1\nGraz,-12,7,1\n",
         )
 
+    def test_ranges(self):
+        places = PLACES + "Hub,0\n"
+        routes = "from,to,most,cost,both,most 2,cost 2\n" + (
+            "Mill,Wien,15,4,,,\nMill,Graz,20,7,yes,,\nGraz,Wien,10,2,,5,3\nGraz,Hub,1,0,,,\n"
+        )
+        self.assertEqual(self.flow(places, routes, "--ranges")[0], 0)
+        rows = rows_of(self.out / "flows.csv")
+        told = [(row["cost_may_fall_to"], row["cost_may_rise_to"]) for row in rows]
+        self.assertEqual(told, [("", "9"), ("2", ""), ("-3", ""), ("", "")])
+        page = (self.out / "report.html").read_text()
+        self.assertIn("The plan stays least while the cost of one route", page)
+        self.flow(places.replace("supply", "supply,most"), routes, "--ranges")
+        self.assertEqual(rows_of(self.out / "flows.csv")[1]["cost_may_rise_to"], "")
+        bounded = "name,supply,most\nMill,30,40\nWien,-18,\nGraz,-12,\nHub,0,\n"
+        self.flow(bounded, routes, "--ranges")
+        self.assertEqual(rows_of(self.out / "flows.csv")[1]["cost_may_rise_to"], "unknown")
+        again = (self.out / "flows.csv").read_text()
+        self.assertEqual(self.flow(bounded, again)[0], 0)
+        self.assertNotIn("cost_may", (self.out / "flows.csv").read_text())
+
     def test_tables_that_mean_the_same(self):
         for places in SAME_PLACES:
             with self.subTest(places=places):

@@ -66,6 +66,9 @@ class Verify(WithFolder):
         for words in (["--unused", "allow", "--decimal", "."], ["--most-flow"]):
             self.flow(PLACES.replace("30", "31"), ROUTES, *words)
             self.assertEqual(self.verify()[0], 0, words)
+        self.flow(PLACES, ROUTES, "--ranges")
+        text = "The tables give this answer, proved: plan, cost 171, by --ranges."
+        self.assertEqual(self.verify(), (0, [text]))
         self.pairs(VALUES, "--each", "what")
         self.assertEqual((self.verify()[0], self.asked()["options"]["each"]), (0, "what"))
 
@@ -243,6 +246,7 @@ class Verify(WithFolder):
                 "unused": False,
                 "short": True,
                 "penalty": "7,5",
+                "ranges": False,
             },
         )
         answer = (self.out / "answer.csv").read_bytes()
