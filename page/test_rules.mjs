@@ -4,8 +4,7 @@
 import fs from 'node:fs';
 import path from 'node:path';
 import { fileURLToPath } from 'node:url';
-import { loaded } from './test_module.mjs';
-import { asked, solverOf, told } from './test_plans.mjs';
+import { asked, solverHere, told } from './test_plans.mjs';
 import { runFlow, runPairs } from './running.js';
 import { grouped } from './view.js';
 
@@ -39,7 +38,7 @@ async function shownOf(rule, solver, sources) {
 }
 
 export default async function test(expect) {
-  const solver = solverOf(loaded());
+  const solver = solverHere();
   for (const rule of JSON.parse(fs.readFileSync(list, 'utf8'))) {
     const sources = ['places', 'routes', 'costs']
       .filter((name) => name in rule)

@@ -1,17 +1,18 @@
 #!/usr/bin/env python3
-"""Builds the solver by plain `rustc`, without its contracts, in a quarter of a minute, to measure a
-change before it is proved.
+"""Builds a program by plain `rustc`, without its contracts, in half a minute, to measure or to try
+a change before it is proved.
 
-    bench/unproved/build.py PROGRAM [--of FOLDER] [--keep FOLDER] [-- FLAGS ..]
+    bench/unproved/build.py PROGRAM [--planner] [--of FOLDER] [--keep FOLDER] [-- FLAGS ..]
     PROGRAM ENGINE FILE      solves the instance in FILE by an engine, and writes the answer, as
                              `mcf solve --engine ENGINE --form 2 FILE`
+    PROGRAM flow|pairs ..    with --planner: as `mcfplan`, with its options and statuses
 
-The script removes contracts, ghost items and tactics from `mcf_solver` and the crates below it, and
-compiles the rest as modules of one program over `kit.rs`. That file replaces the parts of the kit's
-library that differ from Rust's; if a crate uses a new part, add it there. `--of` names another
-checkout to compare with, and `--keep` a folder for the generated sources; flags are rustc's.
-Nothing is proved, and sums may wrap. The kit's compiler uses other layouts for some structs, so
-only the proved program (`bench/run.py`) decides between two variants.
+The script removes contracts, ghost items and tactics from the crates that the program calls and
+from those below them, and compiles the rest as modules of one program over `kit.rs`. That file
+replaces the parts of the kit's library that differ from Rust's; if a crate uses a new part, add it
+there. `--of` names another checkout to compare with, and `--keep` a folder for the generated
+sources; flags are rustc's. Nothing is proved, and sums may wrap. The kit's compiler uses other
+layouts for some structs, so only the proved program (`bench/run.py`) decides between two variants.
 """
 import argparse
 import pathlib
@@ -22,8 +23,9 @@ import tempfile
 
 HERE = pathlib.Path(__file__).resolve().parent
 CHECKOUT = HERE.parents[1]
-# the crate that the program calls
-TOP = "mcf_solver"
+# the main file of a program, and the crates that it calls
+SOLVER = "main.rs", ["mcf_solver"]
+PLANNER = "planner.rs", ["mcf_range_text", "mcf_pair_text", "mcf_planner"]
 
 
 def tokens(text):
@@ -126,8 +128,8 @@ def translated(text, crate, crates):
     return "use crate::kit::prelude::*; " + text
 
 
-def crates_below(checkout, top):
-    """A crate and its dependencies, each after its own dependencies."""
+def crates_below(checkout, tops):
+    """Crates and their dependencies, each after its own dependencies."""
     needs = {}
     for line in (checkout / "crates.txt").read_text().splitlines():
         name, _, rest = line.partition("#")[0].partition(":")
@@ -141,13 +143,15 @@ def crates_below(checkout, top):
                 add(need)
             found.append(name)
 
-    add(top)
+    for top in tops:
+        add(top)
     return found
 
 
-def generate(checkout, folder):
-    """Writes the sources of the program into a folder."""
-    crates = crates_below(checkout, TOP)
+def generate(checkout, program, folder):
+    """Writes the sources of a program into a folder."""
+    root, tops = program
+    crates = crates_below(checkout, tops)
     for crate in crates:
         for source in (checkout / "crates" / crate / "src").rglob("*.rt"):
             name = source.relative_to(checkout / "crates" / crate / "src").with_suffix(".rs")
@@ -155,20 +159,21 @@ def generate(checkout, folder):
             path.parent.mkdir(parents=True, exist_ok=True)
             path.write_text(translated(source.read_text(), crate, crates))
     (folder / "kit.rs").write_text((HERE / "kit.rs").read_text())
-    main = (HERE / "main.rs").read_text()
+    main = (HERE / root).read_text()
     (folder / "main.rs").write_text(main + "".join(f"mod {crate};\n" for crate in crates))
 
 
 def main():
     words = argparse.ArgumentParser(usage=__doc__.split("\n")[3].strip())
     words.add_argument("program", type=pathlib.Path)
+    words.add_argument("--planner", action="store_true")
     words.add_argument("--of", type=pathlib.Path, default=CHECKOUT)
     words.add_argument("--keep", type=pathlib.Path)
     at = sys.argv.index("--") if "--" in sys.argv else len(sys.argv)
     given, flags = words.parse_args(sys.argv[1:at]), sys.argv[at + 1 :]
     with tempfile.TemporaryDirectory() as made:
         folder = given.keep or pathlib.Path(made)
-        generate(given.of.resolve(), folder)
+        generate(given.of.resolve(), PLANNER if given.planner else SOLVER, folder)
         command = [
             "rustc",
             "--edition",

@@ -173,14 +173,28 @@ pub mod memchr {
 }
 
 pub mod itoa {
+    // A whole number: its size, and whether it is below 0.
+    pub trait Integer {
+        fn parts(self) -> (u128, bool);
+    }
+    impl Integer for i128 {
+        fn parts(self) -> (u128, bool) {
+            (self.unsigned_abs(), self < 0)
+        }
+    }
+    impl Integer for u128 {
+        fn parts(self) -> (u128, bool) {
+            (self, false)
+        }
+    }
     pub struct Buffer([u8; 40]);
     impl Buffer {
         pub fn new() -> Buffer {
             Buffer([0; 40])
         }
-        pub fn format(&mut self, number: i128) -> &str {
+        pub fn format<I: Integer>(&mut self, number: I) -> &str {
             let mut at = 40;
-            let mut size = number.unsigned_abs();
+            let (mut size, is_negative) = number.parts();
             while size > u64::MAX as u128 {
                 at -= 1;
                 self.0[at] = b'0' + (size % 10) as u8;
@@ -195,7 +209,7 @@ pub mod itoa {
                     break;
                 }
             }
-            if number < 0 {
+            if is_negative {
                 at -= 1;
                 self.0[at] = b'-';
             }
