@@ -165,6 +165,17 @@ async function planner(page, { set, act, go, kind, example, ended }) {
   ({ text } = await act(`[...document.querySelectorAll('#result button')]
     .find((it) => it.textContent === 'Take it back').click()`));
   expect(text.includes('Least cost: 980'), 'a change is taken back');
+  const press = (label) => `[...document.querySelectorAll('#result button')]
+    .find((it) => it.textContent === '${label}').click()`;
+  await page.run(press('Keep this plan'));
+  ({ text } = await change('most', 'Mühle Nord', 'Lager Linz', 46));
+  expect(
+    /\d of \d+ amounts differ\./.test(text) && /plan 1\s+now\s+cost\s+980\s+969\s/i.test(text),
+    'a plan that was kept stands beside the next one'
+  );
+  await page.run(press('Forget the kept plans'));
+  ({ text } = await act(press('Take it back')));
+  expect(!text.includes('amounts differ'), 'and is forgotten');
   await set('title', 'Week <7>');
   ({ text } = await go());
   const above = await page.run(

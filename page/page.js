@@ -1,13 +1,13 @@
 // @ts-check
 // The page: its inputs, its results, and the runs between them.
 import { Client } from './client.js';
+import { Comparison, changesShown } from './compare.js';
 import { BadTable } from './faults.js';
 import { Grid } from './grid.js';
 import { headsOf } from './heads.js';
 import { svgOf } from './picture.js';
 import { csvOf } from './report.js';
 import { runFlow, runPairs, runText } from './running.js';
-import { changesShown } from './sheets.js';
 import { textOf } from './tables.js';
 import { el, grouped, pictureOf, saver } from './view.js';
 
@@ -15,6 +15,7 @@ import { el, grouped, pictureOf, saver } from './view.js';
  * @typedef {import('./plan.js').FlowPlan} FlowPlan
  * @typedef {import('./view.js').Part} Part
  * @typedef {{ parts: Part[], sheets: Sheet[] }} Changes
+ * @typedef {(sheets: Sheet[]) => HTMLElement[]} Making
  */
 
 // This function returns an element of page.html; most are fields.
@@ -45,6 +46,9 @@ let busy = false;
 let plan = null;
 /** @type {Grid[]} */
 let grids = [];
+// The plans that were kept, to be put beside others.
+/** @type {{ label: string, side: Side }[]} */
+let beside = [];
 // The name and the bytes of the file in each field.
 /** @type {Record<string, { name: string, bytes?: Uint8Array } | null>} */
 const files = {};
@@ -276,18 +280,18 @@ function show(shown, change, before) {
   const drawn = shown.scene && svgOf(shown.scene(caption));
   document.title = caption.title || 'Least-cost plans';
   const differs = change && changeParts(shown, change, before);
-  grids = [...shown.sheets, ...(differs ? differs.sheets : [])].map((sheet) =>
-    new Grid(sheet, settings)
-  );
-  const apart = grids.splice(shown.sheets.length).map((grid) => {
-    grids.unshift(grid);
-    return grid.element;
-  });
+  grids = [];
+  /** @type {Making} */
+  const made = (sheets) => {
+    const found = sheets.map((sheet) => new Grid(sheet, settings));
+    grids.push(...found);
+    return found.map((grid) => grid.element);
+  };
   const ms = (/** @type {number} */ time) => `${time < 10 ? time.toFixed(1) : time.toFixed(0)} ms`;
   replaceResult(
     headOf(shown),
     shown.lead.map((line) => paragraph(line)),
-    differs && el('div', { class: 'changed' }, differs.parts, apart),
+    differs && el('div', { class: 'changed' }, differs.parts, made(differs.sheets)),
     shown.facts.length
       ? el(
         'ul',
@@ -300,7 +304,8 @@ function show(shown, change, before) {
       : null,
     shown.findings.map(findingOf),
     drawn && [el('h2', {}, 'Picture'), pictureOf(drawn)],
-    grids.filter((grid) => !apart.includes(grid.element)).map((grid) => grid.element),
+    made(shown.sheets),
+    shown.side && besideSection(shown, made),
     saves(shown, drawn),
     el(
       'p',
@@ -343,6 +348,55 @@ function changeParts(shown, { what, undo }, before) {
   }
   const { text, sheets } = changesShown(before, shown.plan);
   return { parts: [paragraph(what), paragraph(text), back], sheets };
+}
+
+// This function returns the section that keeps plans, and that puts those that were kept beside the
+// present one.
+/** @type {(shown: CaptionedRun, made: Making) => HTMLElement} */
+function besideSection(shown, made) {
+  const isHere = (/** @type {{ side: Side }} */ { side }) => side.isFlow === Boolean(shown.plan);
+  const others = beside.filter(isHere);
+  const told = el(
+    'p',
+    { class: 'soft', role: 'status' },
+    'Keep this plan, change the tables, and find another: the page then puts both side by side.'
+  );
+  const keep = el('button', {
+    type: 'button',
+    onclick: () => {
+      const label = labelOf(shown.caption.title);
+      beside.push({ label, side: shown.side() });
+      told.textContent = `Kept as “${label}”. The next plan stands beside it.`;
+      keep.disabled = true;
+    },
+  }, 'Keep this plan');
+  const section = el('section', {}, el('h2', {}, 'Plans side by side'));
+  if (others.length) {
+    const found = new Comparison([...others, { label: 'now', side: shown.side() }]);
+    const forget = el('button', {
+      type: 'button',
+      onclick: () => {
+        beside = beside.filter((one) => !isHere(one));
+        section.replaceWith(besideSection(shown, made));
+      },
+    }, 'Forget the kept plans');
+    section.append(...found.lines().map((line) => paragraph(line)), ...made(found.sheets()));
+    section.append(el('div', { class: 'tools' }, forget, saver(
+      'compare.csv', () => `\ufeff${csvOf(found.table(), found.mark)}`, 'text/csv'
+    )));
+  }
+  section.append(told, el('div', { class: 'tools' }, keep));
+  return section;
+}
+
+// This function returns the label of a plan that is kept: its title, or its number.
+/** @type {(title: string) => string} */
+function labelOf(title) {
+  const labels = beside.map(({ label }) => label);
+  for (let number = beside.length + 1; ; number++) {
+    const label = title && !labels.includes(title) ? title : `${title || 'plan'} ${number}`;
+    if (!labels.includes(label)) return label;
+  }
 }
 
 /** @type {(shown: Run, drawn: string | null) => HTMLElement} */

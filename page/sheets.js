@@ -3,6 +3,7 @@
 // a scene, and tables to look at and to save.
 import { balanceOf } from './blocked.js';
 import { column, number, ownColumns, sheetOf } from './columns.js';
+import { flowSide, pairsSide } from './compare.js';
 import { pairsSummary, pairsTable, rivalsLines, rivalsSentence, rivalsTable } from './pairs.js';
 import {
   besideLines,
@@ -28,7 +29,6 @@ import { grouped } from './view.js';
  * @typedef {import('./pairs.js').Roster} Roster
  * @typedef {import('./plan.js').FlowPlan} FlowPlan
  * @typedef {import('./tables.js').Table} Table
- * @typedef {{ all: string, byPlace: string }} Delivered
  */
 
 /** @type {(table: Table) => Column[]} */
@@ -67,6 +67,7 @@ export function planShown(plan) {
     facts,
     findings: [],
     scene: (caption) => planScene(plan, caption),
+    side: () => flowSide(plan),
     sheets: [
       ...savingsSheet(plan), routesSheet(plan), placesSheet(plan), { ...views.sheet(0), views },
     ],
@@ -417,6 +418,7 @@ export function pairsShown(roster) {
     ],
     findings: [],
     scene: null,
+    side: () => pairsSide(roster),
     sheets: [
       sheetOf(
         'Pairs',
@@ -540,82 +542,4 @@ export function textBlocked(bottlenecks) {
       ]
       : [],
   };
-}
-
-// ---- What changed
-
-// This function describes how two plans differ. It matches routes by their ends, and routes with
-// the same ends by their order.
-/** @type {(before: FlowPlan, plan: FlowPlan) => { text: string, sheets: Sheet[] }} */
-export function changesShown(before, plan) {
-  const { units } = plan.problem;
-  /** @type {SheetRow[]} */
-  const rows = [];
-  const now = carriedBy(plan);
-  const was = carriedBy(before);
-  const old = before.problem.units;
-  for (const key of new Set([...was.keys(), ...now.keys()])) {
-    const [a, b] = [was.get(key), now.get(key)];
-    const texts = [a ? old.amount(a.carries) : '', b ? units.amount(b.carries) : ''];
-    if (texts[0] !== texts[1]) rows.push({ kind: '', cells: [...(b || a).ends, ...texts] });
-  }
-  const [delivered, deliversNow] = [deliveredBy(before), deliveredBy(plan)];
-  const [cost, other] = [
-    before.problem.said.total(before.cost),
-    plan.problem.said.total(plan.cost),
-  ];
-  const sheets = rows.length
-    ? [
-      sheetOf(
-        'Routes that carry another amount than before',
-        [column('from'), column('to'), number('before'), number('now')],
-        rows
-      ),
-    ]
-    : [];
-  const differing = rows.length === 1 ? '1 route carries' : `${rows.length} routes carry`;
-  return {
-    text:
-      `${deliverySentence(delivered, deliversNow)}Cost before ${cost}, now ${other}; `
-        + `${differing} another amount.`,
-    sheets,
-  };
-}
-
-// This function returns what a plan delivers: the total as text, and the amount of each place.
-/** @type {(plan: FlowPlan) => Delivered} */
-function deliveredBy({ problem, places }) {
-  const found = new Map();
-  problem.places.forEach(({ name, supply }, k) => {
-    if (supply < 0n) found.set(name, -supply - places[k].unmet);
-  });
-  return {
-    all: problem.said.amount([...found.values()].reduce((sum, amount) => sum + amount, 0n)),
-    byPlace: JSON.stringify(
-      [...found].map(([name, amount]) => [name, problem.units.amount(amount)]).sort()
-    ),
-  };
-}
-
-// This function warns if two plans deliver different amounts, since their costs can't be compared
-// then.
-/** @type {(before: Delivered, now: Delivered) => string} */
-function deliverySentence(before, now) {
-  if (before.byPlace === now.byPlace) return '';
-  const told = before.all === now.all
-    ? `Both deliver ${now.all} in all, but not the same at each place`
-    : `The plan before delivers ${before.all} in all, this one ${now.all}`;
-  return `${told}: mind that where you compare what they cost. `;
-}
-
-/** @type {(plan: FlowPlan) => Map<string, { ends: string[], carries: bigint }>} */
-function carriedBy(plan) {
-  const found = new Map();
-  plan.problem.routes.forEach((route, k) => {
-    const ends = plan.problem.ends(route);
-    let key = JSON.stringify(ends), nth = 0;
-    while (found.has(key)) key = JSON.stringify([...ends, ++nth]);
-    found.set(key, { ends, carries: plan.routes[k].carries });
-  });
-  return found;
 }

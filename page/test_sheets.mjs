@@ -4,7 +4,8 @@ import { totalsOf } from './grid.js';
 import { headsOf } from './heads.js';
 import { csvOf, flowSummary, flowsTable } from './report.js';
 import { flowOf } from './running.js';
-import { blockedShown, changesShown, planShown } from './sheets.js';
+import { changesShown } from './compare.js';
+import { blockedShown, planShown } from './sheets.js';
 
 // This function returns the answer to tables whose routes carry these amounts; at the places, such
 // amounts stay or are missing. One more unit costs and saves nothing.

@@ -393,6 +393,25 @@ interface Caption {
   currency: string;
 }
 
+/**
+ * What is compared of a plan or of pairs: figures by their names, what each route carries or which
+ * pairs there are, and what is delivered, as one text.
+ */
+interface Side {
+  isFlow: boolean;
+  mark: string | null;
+  figures: [name: string, value: string][];
+  parts: SidePart[];
+  delivered: string;
+}
+
+/** A route or a pair, and its amount. */
+interface SidePart {
+  key: string;
+  ends: string[];
+  amount: string;
+}
+
 /** What is shown of an answer. `scene` is null where nothing is drawn, `plan` only with routes. */
 interface Shown {
   isPlan: boolean;
@@ -403,6 +422,7 @@ interface Shown {
   findings: Finding[];
   scene: ((caption: Caption) => Scene) | null;
   sheets: Sheet[];
+  side?(): Side;
   tables(): SavedTable[];
 }
 
