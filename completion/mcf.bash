@@ -22,7 +22,7 @@ _mcf_values()
 _mcf_options()
 {
     local solve="--engine --pricing --block --form"
-    local plan="-o --output --programs --decimal --encoding --map --xlsx --title --currency --unit --by --guard-formulas"
+    local plan="-o --output --programs --decimal --encoding --map --fill-down --xlsx --title --currency --unit --by --guard-formulas"
     case $1:$2 in
         mcf:solve) echo -h --help "$solve" ;;
         mcf:*) echo -h --help -V --version ;;

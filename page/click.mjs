@@ -251,6 +251,20 @@ async function planner(page, { set, act, go, kind, example, ended }) {
       && text.includes('1 of supply elsewhere'),
     'files that were dropped, and why there is no plan'
   );
+  await page.run(`(() => {
+    const data = new DataTransfer();
+    for (const file of [
+      ${dropped('k.txt', 'name=Ort\r\nmost=Menge\r\n')}, ${dropped('c.xlsx', 'PK\u0003\u0004')},
+    ]) data.items.add(file);
+    dispatchEvent(new DragEvent('drop', { dataTransfer: data }));
+  })()`);
+  await page.until("document.getElementById('result').innerText.includes('this is a workbook')", 10);
+  expect(
+    await page.run("document.getElementById('heads').value") === 'name=Ort most=Menge'
+      && await page.run("document.querySelector('[name=kind]:checked').value") === 'flow',
+    'a file of heads, and a workbook, which is told at once'
+  );
+  await set('heads', '');
   await kind('pairs');
   await set('costs', 'who,what,cost\nAnna,Früh,1\nBert,Früh,2\n');
   ({ text } = await go());

@@ -11,11 +11,11 @@ import {
   scaled,
   settledBy,
 } from './amounts.js';
-import { Faults } from './faults.js';
+import { Faults, countOf } from './faults.js';
 import { carriedLines, carriedOf } from './heads.js';
 import { NEEDED, numberCells, readLine } from './sentences.js';
 import { SPOT_HEADS, spotsOf } from './spots.js';
-import { Table, fold } from './tables.js';
+import { Table, cellAt, fold } from './tables.js';
 import { words } from './words.js';
 
 const BOUND_HEADS = ['least', 'most', 'cost'];
@@ -38,6 +38,7 @@ export class Problem {
   constructor(answer, texts, reading, penalty = '') {
     this.mark = answer.mark;
     this.reading = reading;
+    this.notes = texts.flatMap(({ notes }) => notes);
     this.placeTable = new Table(texts[0], answer.tables.get('places'));
     this.routeTable = new Table(texts[1], answer.tables.get('routes'));
     const places = placesOf(this.placeTable, this.mark);
@@ -61,7 +62,11 @@ export class Problem {
     const cells = numberCells({ places: placeTable, routes: routeTable });
     const known = [...NEEDED.places, ...BOUND_HEADS, 'penalty', ...(hasSpots ? SPOT_HEADS : [])];
     const isUnused = !short && this.places.some(({ penalty }) => penalty !== null);
+    const supply = placeTable.heads.indexOf('supply');
+    const empty = this.places.filter(({ cells: row }) => !cellAt(row, supply)).length;
     return [
+      ...this.notes,
+      ...(empty ? [`${countOf(empty, 'empty supply is', 'empty supplies are')} read as 0.`] : []),
       ...(isUnused
         ? [`Penalties aren't used, since no demand may be short (${words().short}).`]
         : []),

@@ -87,7 +87,12 @@ function sourceOf(id) {
 function choices() {
   const heads = headsOf($('heads').value);
   return {
-    reading: { decimal: $('decimal').value || null, encoding: $('encoding').value || null, heads },
+    reading: {
+      decimal: $('decimal').value || null,
+      encoding: $('encoding').value || null,
+      heads,
+      fillDown: $('filldown').value.split(/[,;]/).map((title) => title.trim()).filter(Boolean),
+    },
     policy: {
       unused: $('unused').checked,
       short: $('short').checked,
@@ -128,6 +133,11 @@ async function take(list) {
     }
     const begin = new TextDecoder().decode(bytes.subarray(0, 4096));
     const first = begin.split('\n').find((line) => line.trim()) || '';
+    const lines = begin.replace('\ufeff', '').split(/\r?\n/).filter((line) => line.trim());
+    if (lines.length && lines.every((line) => /^[a-z]+(?: \d+)?=./.test(line))) {
+      $('heads').value = lines.join(' ');
+      continue;
+    }
     let id = 'places';
     const isDimacs =
       /^[ \t]*(c([ \t].*)?\r?\n[ \t]*)*p[ \t]/.test(begin)
@@ -139,15 +149,16 @@ async function take(list) {
         ? 'routes'
         : kindOf() === 'flow' && /place|ort|node/i.test(file.name) ? 'places' : 'costs';
     }
-    chooseKind({ dimacs: 'text', costs: 'pairs' }[id] || 'flow');
     let text = `(${file.name}, ${grouped(String(bytes.length))} bytes)`;
-    if (bytes.length < FIELD) {
-      try {
-        text = textOf(file.name, bytes, $('encoding').value || null).text;
-      } catch {
-        // The run reports what is wrong with the file when it reads it.
-      }
+    try {
+      const { text: whole } = isDimacs && bytes.length >= FIELD
+        ? { text } : textOf(file.name, bytes, $('encoding').value || null);
+      if (bytes.length < FIELD) text = whole;
+    } catch (error) {
+      showTrouble(error);
+      continue;
     }
+    chooseKind({ dimacs: 'text', costs: 'pairs' }[id] || 'flow');
     put(id, text, { name: file.name, bytes });
   }
 }
@@ -161,9 +172,8 @@ function example(number) {
   $('unused').checked = unused;
   $('short').checked = short;
   $('penalty').disabled = !short;
-  for (const id of ['title', 'unit', 'currency', 'penalty', 'decimal', 'encoding', 'each']) {
-    $(id).value = '';
-  }
+  const others = 'title unit currency penalty decimal encoding each filldown'.split(' ');
+  for (const id of others) $(id).value = '';
 }
 
 // ---- Running

@@ -4,7 +4,7 @@ import { Said, Units, decimalsOf, exactOf, scaled, settledBy } from './amounts.j
 import { TOLD_NAMES, countOf, listed } from './faults.js';
 import { carriedLines, carriedOf } from './heads.js';
 import { partsOf } from './network.js';
-import { NEEDED, isList, numberCells, readLine } from './sentences.js';
+import { FORBIDDEN, NEEDED, isList, numberCells, readLine } from './sentences.js';
 import { Table, cellAt, fold } from './tables.js';
 import { words } from './words.js';
 
@@ -12,9 +12,6 @@ import { words } from './words.js';
  * @typedef {import('./answer.js').Answer} Answer
  * @typedef {import('./tables.js').TableText} TableText
  */
-
-// The cells that forbid a pair.
-const FORBIDDEN = ['', 'x', '-', '–', '—'];
 
 // What an answer says of a table of persons and things. The table is plain if it doesn't say how
 // many a person takes or a thing needs.
@@ -29,6 +26,7 @@ export class Roster {
     this.reading = reading;
     this.maximise = maximise;
     this.mark = answer.mark;
+    this.notes = text.notes;
     this.table = new Table(text, answer.tables.get('costs'));
     this.isList = isList(this.table);
     this.isPlain = !this.isFilled('takes') && !(this.isList && this.isFilled('needs'));
@@ -102,6 +100,7 @@ export class Roster {
   told() {
     const known = [...NEEDED.costs, 'takes', 'needs'], cells = numberCells({ costs: this.table });
     return [
+      ...this.notes,
       ...(this.isList ? carriedLines(carriedOf(this.table, known)) : []),
       ...readLine(settledBy(cells, this.mark), this.mark, this.reading),
     ];

@@ -20,6 +20,14 @@ export const NEEDED = {
   routes: ['from', 'to', 'most', 'cost'],
   costs: ['who', 'what', 'cost'],
 };
+// The cells that forbid a pair.
+export const FORBIDDEN = ['', 'x', '-', '–', '—'];
+const MATRIX =
+  'this looks like a matrix, and routes are a list: write a line from, to, most, cost for each '
+    + "cell (Excel's Unpivot Columns does so), with an empty most for no limit; ";
+const WISHES =
+  '; if these are wishes, write a list with a line who, what, cost for each wish: 1 as the cost '
+    + 'of a first one, 2 of a second';
 const TOO_GREAT = '{this} is beyond the limits, by itself or in total ({limits})';
 // What is wrong, as the module calls it, perhaps with its column, and the sentence.
 /** @type {Record<string, string>} */
@@ -37,7 +45,7 @@ const SENTENCES = {
     'some decimals follow a point, others a comma: {other} and {cell}; write them in one way, '
       + '{orChoose}',
   'beyond the last head': 'a cell beyond the last head: {cell}',
-  'empty name': 'the name is empty',
+  'empty name': 'the name is empty{merges}',
   'control character': 'the name {cell} has a line break or another control character',
   'named twice': 'a thing {cell} is already in column {place}',
   'named twice: name': 'a place {cell} is already on line {first}',
@@ -48,7 +56,7 @@ const SENTENCES = {
   exponent: '{cell} is written with an exponent; write all its digits',
   'either of two numbers': '{cell} may be {digits} or a number with three decimals: {choose}',
   'other decimal mark': "{cell} isn't written with {mark} before decimals, {chosen}",
-  'no number': '{cell} is no number',
+  'no number': '{cell} is no number{wishes}',
   'too many digits': '{cell} has too many digits',
   'too great': TOO_GREAT,
   'beyond the limits': TOO_GREAT,
@@ -186,6 +194,8 @@ export class Teller {
         .map((one) => `${shown(one.cell)} (${one.table.name}, line ${one.line})`)[0],
       near: () => nearTo(cell, this.names(), fold).map((one) => `; is ${shown(one)} meant?`)[0],
       date: /[0-9]{4}-|\.\s?\w{3}/.test(cell) ? '; was it taken for a date?' : '',
+      merges: () => this.merged(word, Number(line), column),
+      wishes: () => this.wishes(word),
       meant: shown(meant),
       heads: listed(table.titles.map(shown)),
       separator: shown(table.separator),
@@ -225,8 +235,28 @@ export class Teller {
     return word === 'places' && table.has(['from', 'to'])
       ? 'this looks like the table of routes, which comes second; '
       : count && table.titles.length > 2 && 2 * count >= table.titles.length - 1
-        ? 'this looks like a matrix, and routes are a list, a line for each; '
+        ? MATRIX
         : '';
+  }
+
+  // This method returns a hint at merged cells, if a cell above in the column has a name, which may
+  // stand there several times.
+  /** @type {(word: string, line: number, column: string) => string} */
+  merged(word, line, column) {
+    const { heads, titles, rows } = this.tables[word], place = heads.indexOf(column);
+    return column !== 'name' && rows.some((row) => row.line < line && cellAt(row.cells, place))
+      ? `; if cells are merged in the spreadsheet, ${words().merged(shown(titles[place]))}`
+      : '';
+  }
+
+  // This method returns a hint at a list of wishes, if most filled cells of a matrix are words.
+  /** @type {(word: string) => string} */
+  wishes(word) {
+    const table = this.tables[word];
+    const cells = table.rows.flatMap((row) => row.cells.slice(1))
+      .filter((cell) => !FORBIDDEN.includes(fold(cell)));
+    const count = cells.filter((cell) => /^\p{L}/u.test(cell)).length;
+    return word === 'costs' && !isList(table) && 2 * count > cells.length ? WISHES : '';
   }
 }
 

@@ -2,6 +2,7 @@
 // Tables: their texts, from files or pasted, for the module; and their rows, as an answer repeats
 // them.
 import { BadTable, at, shown } from './faults.js';
+import { prepare } from './prepare.js';
 import { words } from './words.js';
 
 /** @typedef {import('./faults.js').Faults} Faults */
@@ -92,7 +93,7 @@ export const escaped = (text) => text.replace(/[\\^$.*+?()[\]{}|]/g, '\\$&');
 const withFeeds = (text) => text.replace(/\r\n?/g, '\n');
 
 // A text for the module, in normal form C, with a line feed at the end of each line. `own` has the
-// planner's titles by the heads that replace them in the text.
+// planner's titles by the heads that replace them in the text; `notes` say what was changed in it.
 export class TableText {
   /**
    * @param {Source} source
@@ -108,6 +109,8 @@ export class TableText {
     this.text = withFeeds(read.text).replace(/^\ufeff+/, '').normalize('NFC');
     /** @type {Map<string, string>} */
     this.own = new Map();
+    /** @type {string[]} */
+    this.notes = [];
     if (!this.text.trim()) {
       throw new BadTable([
         `${name}, line 1: the table is empty; its first line has the heads of the columns`,
@@ -118,6 +121,13 @@ export class TableText {
     this.separators = SEPARATORS + (named ? named[1] : '');
   }
 
+  // This method returns the lines among which the heads are, from 0.
+  headLines() {
+    const filled = new RegExp(`[^\\s"${escaped(this.separators)}]`);
+    return this.text.split('\n').map((line, k) => (filled.test(line) ? k : -1))
+      .filter((k) => k >= 0).slice(0, LOOKED);
+  }
+
   // This method gives columns with titles of the planner's their wanted heads, each in the first
   // line that has its title, and columns that have one of these heads another one. It returns the
   // heads whose titles no line has.
@@ -125,9 +135,7 @@ export class TableText {
   call(titles) {
     const lines = this.text.split('\n'), missing = [];
     /** @type {Map<number, string[][]>} */
-    const found = new Map();
-    const filled = new RegExp(`[^\\s"${escaped(this.separators)}]`);
-    const among = lines.map((_, k) => k).filter((k) => filled.test(lines[k])).slice(0, LOOKED);
+    const found = new Map(), among = this.headLines();
     for (const [head, title] of titles) {
       const field = this.fieldOf([title]), k = among.find((one) => lines[one].search(field) >= 0);
       if (k === undefined) missing.push(head);
@@ -189,6 +197,7 @@ export function textsOf(sources, reading, faults) {
     const told = `there is no such column, ${words().names(head, own)}${nor}`;
     faults.add(at(last.name, 1, own), 'map', told);
   }
+  prepare(texts, reading.fillDown || []);
   return texts;
 }
 

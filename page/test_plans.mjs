@@ -36,6 +36,8 @@ export const TOOL = {
   chosen: 'as --decimal says',
   own: (head) => `where a head has another name, say so: --map ${head}=NAME`,
   names: (head, own) => `which --map ${head}=${own} names`,
+  merged: (title) => `say --fill-down ${title}`,
+  fills: (column) => `--fill-down ${column}`,
   unused: '--unused allow lets it stay',
   short: '--short allow lets it be short',
   penalty: (number) => `--penalty ${number}`,
@@ -92,7 +94,7 @@ export const solverHere = () =>
 export function asked(words) {
   const found = {
     files: [],
-    reading: { heads: {} },
+    reading: { heads: {}, fillDown: [] },
     policy: {},
     each: null,
     maximise: false,
@@ -104,6 +106,7 @@ export function asked(words) {
     if (word === '--maximise') found.maximise = true;
     else if (word === '--ranges') found.policy.ranges = true;
     else if (word === '--by') found.by.push(words[++k]);
+    else if (word === '--fill-down') found.reading.fillDown.push(words[++k]);
     else if (word === '--map') {
       const [head, own] = words[++k].split('=');
       found.reading.heads[head] = own;

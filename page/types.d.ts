@@ -22,6 +22,7 @@ interface Reading {
   decimal?: string | null;
   encoding?: string | null;
   heads?: Record<string, string>;
+  fillDown?: string[];
 }
 
 /**
@@ -158,6 +159,8 @@ interface Speech {
   chosen: string;
   own(head: string): string;
   names(head: string, own: string): string;
+  merged(title: string): string;
+  fills(column: string): string;
   unused: string;
   short: string;
   penalty(number: string): string;
@@ -403,6 +406,13 @@ interface Side {
   figures: [name: string, value: string][];
   parts: SidePart[];
   delivered: string;
+}
+
+/** A row of a text: its cells, its first line and the line after its last, from 0. */
+interface TextRow {
+  cells: string[];
+  begin: number;
+  end: number;
 }
 
 /** A route or a pair, and its amount. */

@@ -10,6 +10,8 @@ const OWN_WORDS = {
   chosen: 'as chosen under Reading',
   own: (head) => `where a head has another name, write ${head}=NAME under Reading`,
   names: (head, own) => `which ${head}=${own} under Reading names`,
+  merged: (title) => `name ${title} under Reading, to fill it down`,
+  fills: (column) => `fill down ${column} under Reading`,
   unused: 'a choice lets it stay',
   short: 'a choice lets it be short',
   penalty: (number) => `penalty ${number} under Choices`,

@@ -13,7 +13,7 @@ NAME, FORMAT = "asked.json", 1
 # The options that change what `mcfplan` reads or answers, with their types: those of all commands,
 # of which `map` has the user's heads by the wanted ones, and those of each.
 TEXT = (str, type(None))
-READING = {"decimal": TEXT, "encoding": TEXT, "map": dict}
+READING = {"decimal": TEXT, "encoding": TEXT, "map": dict, "fill_down": list}
 OPTIONS = {
     "flow": {**READING, "unused": bool, "short": bool, "penalty": TEXT, "ranges": bool},
     "pairs": {**READING, "each": TEXT, "maximise": bool},
@@ -71,17 +71,19 @@ def options_text(asked):
     """The options as on the command line, except those that have their default."""
     words = []
     for name, value in asked.options.items():
-        values = [f"{head}={own}" for head, own in value.items()] if name == "map" else [value]
+        values = value if isinstance(value, list) else [value]
+        values = [f"{head}={own}" for head, own in value.items()] if name == "map" else values
         for one in filter(None, values):
             said = [] if name in FLAGS else ["allow" if one is True else one]
-            words += [f"--{name}", *said]
+            words += [f"--{name.replace('_', '-')}", *said]
     return line_of(shlex.join(words))
 
 
 def is_well_formed(asked):
     """Whether all parts of what was read have their types."""
     kinds, options = OPTIONS[asked.command], asked.options
-    texts = [text for file in asked.tables for text in file] + [*options["map"].values()]
+    texts = [text for file in asked.tables for text in file]
+    texts += [*options["map"].values(), *options["fill_down"]]
     return (
         0 < len(asked.tables) <= FILES[asked.command]
         and options.keys() == kinds.keys()

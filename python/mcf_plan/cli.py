@@ -1,6 +1,7 @@
 """The command line."""
 import argparse
 import os
+import pathlib
 import re
 import signal
 import sys
@@ -24,6 +25,7 @@ HEADS = (
     "least",
     "most",
     "cost",
+    "penalty",
     "both",
     "who",
     "what",
@@ -32,6 +34,8 @@ HEADS = (
 )
 # The head of a step after the first.
 STEP = re.compile("^(most|cost) (?:[2-9]|[1-9][0-9]+)$")
+# The options for reading of commands that have none.
+NO_READING = {"map": [], "decimal": None, "encoding": None, "fill_down": []}
 STATUSES = (
     "Status 0: a plan, proved. 1: no plan exists, proved. 2: a bad table or a wrong call. 3:"
     " anything else. 130: interrupted. Of verify, 0: the same answer, proved. 1: another one."
@@ -136,7 +140,7 @@ def add_diff(command):
     command.add_argument("old", metavar="OLD", help="the folder of the first plan")
     command.add_argument("new", metavar="NEW", help="the folder of the second")
     command.add_argument("--all", action="store_true", help="list all differences")
-    command.set_defaults(act=diff_command, map=[], decimal=None, encoding=None, xlsx=False)
+    command.set_defaults(act=diff_command, xlsx=False, **NO_READING)
 
 
 def add_compare(command):
@@ -145,7 +149,7 @@ def add_compare(command):
     command.add_argument(
         "-o", "--output", dest="folder", metavar="FOLDER", help="the folder for tables and a page"
     )
-    command.set_defaults(act=compare_command, map=[], decimal=None, encoding=None, xlsx=False)
+    command.set_defaults(act=compare_command, xlsx=False, **NO_READING)
 
 
 def add_verify(command):
@@ -159,7 +163,7 @@ def add_verify(command):
         help="its tables, if they were moved; by default those that its run read",
     )
     add_programs(command)
-    command.set_defaults(act=verify_command, map=[], decimal=None, encoding=None, xlsx=False)
+    command.set_defaults(act=verify_command, xlsx=False, **NO_READING)
 
 
 def add_programs(command):
@@ -183,6 +187,7 @@ def add_common(command, act):
     )
     add_programs(command)
     add_reading(command)
+    add_writing(command)
     command.add_argument(
         "--by",
         action="append",
@@ -194,7 +199,7 @@ def add_common(command, act):
 
 
 def add_reading(command):
-    """Adds the options for reading and writing tables."""
+    """Adds the options for reading tables."""
     command.add_argument(
         "--decimal",
         choices=(",", "."),
@@ -207,9 +212,20 @@ def add_reading(command):
         "--map",
         action="append",
         default=[],
-        metavar="HEAD=NAME",
-        help="the column NAME of the tables is the column HEAD",
+        metavar="HEAD=NAME|FILE",
+        help="the column NAME of the tables is the column HEAD; a file has a line for each column",
     )
+    command.add_argument(
+        "--fill-down",
+        action="append",
+        default=[],
+        metavar="COLUMN",
+        help="an empty cell of this column takes the value above it, as merged cells mean it",
+    )
+
+
+def add_writing(command):
+    """Adds the options for writing results."""
     command.add_argument(
         "--xlsx",
         action="store_true",
@@ -234,18 +250,30 @@ def add_reading(command):
 
 def reading_of(options):
     """How to read tables, from the options."""
+    named = [one for word in options.map for one in named_in(word)]
     wrong = [
-        word
-        for word in options.map
+        (at, word)
+        for at, word in named
         if STEP.sub(r"\1", word.split("=")[0]) not in HEADS or not word.partition("=")[2].strip()
     ]
     if wrong:
-        raise Stop(
-            f"--map {wrong[0]}: say --map HEAD=NAME, where HEAD is one of {', '.join(HEADS)}", 2
-        )
-    return Reading(
-        options.decimal, options.encoding, dict(word.split("=", 1) for word in options.map)
-    )
+        text = f"say {'--map ' * (not wrong[0][0])}HEAD=NAME, where HEAD is one of"
+        raise Stop(f"--map {' '.join(filter(None, wrong[0]))}: {text} {', '.join(HEADS)}", 2)
+    heads = dict(word.split("=", 1) for _, word in named)
+    return Reading(options.decimal, options.encoding, heads, options.fill_down)
+
+
+def named_in(word):
+    """What a word after `--map` names: itself, or the lines of a file, with where they are."""
+    if "=" in word:
+        return [("", word)]
+    try:
+        lines = pathlib.Path(word).read_text(encoding="utf-8-sig").split("\n")
+    except (OSError, UnicodeError) as error:
+        why = getattr(error, "strerror", None) or "this isn't text in UTF-8"
+        raise Stop(f"--map {word}: say --map HEAD=NAME, or name a file of such lines: {why}", 2)
+    numbered = enumerate((line.strip() for line in lines), 1)
+    return [(f"{word}, line {number}:", line) for number, line in numbered if line]
 
 
 def prepare():

@@ -6,7 +6,7 @@ from .figures import EITHER, figure, mark_in, value_of
 from .problem import SPOT_HEADS
 from .results import kept
 from .roster import is_list
-from .words import listed
+from .words import count_of, listed
 
 # The most carried columns to name.
 NAMED = 24
@@ -76,6 +76,20 @@ def number_cells(word, table, sheet):
                 yield table, line, cell_at(cells, place)
 
 
+def prepared_lines(tables):
+    """The notes of tables on what was changed in their texts."""
+    return [line for table in tables if table for line in table.notes]
+
+
+def supply_lines(problem):
+    """A line on empty supplies, if there are some."""
+    column = problem.place_sheet.place("supply")
+    count = sum(1 for place in problem.places if not cell_at(place.cells, column))
+    return (
+        [f"{count_of(count, 'empty supply is', 'empty supplies are')} read as 0."] if count else []
+    )
+
+
 def penalty_lines(problem):
     """A line on penalties that count for nothing, if there are some."""
     if problem.short or all(place.penalty is None for place in problem.places):
@@ -88,5 +102,6 @@ def notes_of(problem):
     words, tables = ("places", "routes"), (problem.place_table, problem.route_table)
     sheets = problem.place_sheet, problem.route_sheet
     cells = [cell for one in zip(words, tables, sheets) for cell in number_cells(*one)]
-    lines = penalty_lines(problem) + carried_lines(words, tables, sheets)
+    lines = prepared_lines(tables) + supply_lines(problem) + penalty_lines(problem)
+    lines += carried_lines(words, tables, sheets)
     return lines + reading_lines(cells, problem, problem.options.decimal)

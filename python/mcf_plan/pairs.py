@@ -8,9 +8,10 @@ from .words import TOLD_NAMES, count_of, listed
 
 def notes_of(roster):
     """Notes on how the table was read. All columns of a matrix are used."""
-    lines, table, sheet = [], roster.table, roster.sheet
+    table, sheet = roster.table, roster.sheet
+    lines = notes.prepared_lines([table])
     if roster.is_list:
-        lines = notes.carried_lines(("costs",), [table], [sheet])
+        lines += notes.carried_lines(("costs",), [table], [sheet])
     cells = notes.number_cells("costs", table, sheet)
     return lines + notes.reading_lines(cells, roster, roster.options.decimal)
 

@@ -10,11 +10,14 @@ import unicodedata
 
 from .faults import At, bad_table, shown
 from .figures import Figure
+from .preparing import prepare
 from .workbook import is_workbook, sheets_of
 
-# How to read tables: the mark before decimals, the encoding, and the user's heads by the wanted
-# ones.
-Reading = collections.namedtuple("Reading", "decimal encoding heads", defaults=(None, None, {}))
+# How to read tables: the mark before decimals, the encoding, the user's heads by the wanted ones,
+# and the columns to fill down.
+Reading = collections.namedtuple(
+    "Reading", "decimal encoding heads fill_down", defaults=(None, None, {}, ())
+)
 
 # The blanks at the ends of cells that don't count.
 BLANKS = (
@@ -40,11 +43,11 @@ class Table:
     `mcfplan` reads all of them. `has_mark` says whether its file
     has a byte-order mark; `own` has the user's titles by those that replace them in the text;
     `figures` has the numbers of a sheet by their lines and places, `width` the number of its
-    columns; `sha256` is that of its file, once it was read."""
+    columns; `sha256` is that of its file, once it was read; `notes` say what was changed in it."""
 
     def __init__(self, name, text, has_mark=False, book=None, figures=None):
         self.name, self.has_mark, self.book, self.figures = name, has_mark, book, figures or {}
-        self.width = None
+        self.width, self.notes = None, []
         self.text, self.own, self.sha256 = unicodedata.normalize("NFC", with_feeds(text)), {}, None
         if not self.text.strip(BLANKS):
             raise bad_table(
@@ -217,4 +220,5 @@ def tables_of(paths, wanted, reading, faults):
                 "map",
                 f"there is no such column, which --map {head}={own} names{others}",
             )
+    prepare(found, wanted, reading.fill_down)
     return found

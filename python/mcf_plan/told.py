@@ -8,6 +8,7 @@ from .faults import At, shown
 from .figures import mark_in, value_of
 from .notes import number_cells
 from .problem import check_spots
+from .roster import FORBIDDEN, is_list
 from .tables import BLANKS, LOOKED
 from .words import count_of, listed
 
@@ -20,6 +21,14 @@ NEEDED = {
 NOTHING = (
     " is read: the heads are {heads} (split at {separator}), with {lines} below; a list has the"
     " columns who, what and cost, a matrix things in its first line and persons in its first column"
+)
+MATRIX = (
+    "this looks like a matrix, and routes are a list: write a line from, to, most, cost for each"
+    " cell (Excel's Unpivot Columns does so), with an empty most for no limit; "
+)
+WISHES = (
+    "; if these are wishes, write a list with a line who, what, cost for each wish: 1 as the cost"
+    " of a first one, 2 of a second"
 )
 BEYOND = "{this} is beyond the limits, by itself or in total (LIMITS in `man mcf`)"
 # What is wrong, as `mcfplan` calls it, perhaps with its column, and the sentence.
@@ -40,7 +49,7 @@ SENTENCES = {
         " or say --decimal"
     ),
     "beyond the last head": "a cell beyond the last head: {cell}",
-    "empty name": "the name is empty",
+    "empty name": "the name is empty{merged}",
     "control character": "the name {cell} has a line break or another control character",
     "named twice": "a thing {cell} is already in column {place}",
     "named twice: name": "a place {cell} is already on line {first}",
@@ -54,7 +63,7 @@ SENTENCES = {
         " (what stands before decimals)"
     ),
     "other decimal mark": "{cell} isn't written with {mark} before decimals{says}",
-    "no number": "{cell} is no number",
+    "no number": "{cell} is no number{wishes}",
     "too many digits": "{cell} has too many digits",
     "too great": BEYOND,
     "beyond the limits": BEYOND,
@@ -163,6 +172,8 @@ class Teller:
             "other": lambda: self.other(mark_in(cell)),
             "near": lambda: self.near_place(cell),
             "date": lambda: "; was it taken for a date?" if DATE.search(cell) else "",
+            "merged": lambda: self.merged(word, line, column),
+            "wishes": lambda: self.wishes(word),
             "meant": lambda: shown(meant),
             "column": lambda: column,
             "heads": lambda: listed([shown(table.title(title)) for title in sheet.titles]),
@@ -208,8 +219,25 @@ class Teller:
             return "this looks like the table of routes, which comes second; "
         titles = [self.tables[word].title(title) for title in sheet.titles[1:]]
         if len(titles) > 1 and 2 * sum(title in names for title in titles) >= len(titles):
-            return "this looks like a matrix, and routes are a list, a line for each; "
+            return MATRIX
         return ""
+
+    def merged(self, word, line, column):
+        """A hint at merged cells, if a cell above in the column has a name, which may stand there
+        several times."""
+        sheet = self.sheets[word]
+        place = None if column == "name" or column.isdecimal() else sheet.place(column)
+        if not any(cell_at(cells, place) for number, cells in sheet.rows if number < line):
+            return ""
+        title = shown(self.tables[word].title(sheet.titles[place]))
+        return f"; if cells are merged in the spreadsheet, say --fill-down {title}"
+
+    def wishes(self, word):
+        """A hint at a list of wishes, if most filled cells of a matrix are words."""
+        sheet = self.sheets[word]
+        cells = [cell for _, row in sheet.rows for cell in row[1:] if cell.lower() not in FORBIDDEN]
+        are_words = 2 * sum(cell[:1].isalpha() for cell in cells) > len(cells)
+        return WISHES if word == "costs" and not is_list(sheet) and are_words else ""
 
 
 def filled(sheet, heads, row):

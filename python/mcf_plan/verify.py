@@ -60,7 +60,7 @@ def asking_again(before, options):
     again = argparse.Namespace(
         command=before.command, tables=named or names, programs=options.programs, **before.options
     )
-    return Asking(again, Reading(again.decimal, again.encoding, again.map))
+    return Asking(again, Reading(again.decimal, again.encoding, again.map, again.fill_down))
 
 
 def changed_files(before, asking, folder, kept):

@@ -191,6 +191,28 @@ class Reading(WithFolder):
         """The answer in the folder."""
         return (self.out / "answer.csv").read_text(encoding="utf-8")
 
+    def test_own_heads_in_a_file(self):
+        routes = ROUTES.replace("from,to", "Von,Nach")
+        heads = self.put("heads.txt", "\ufefffrom=Von\r\n\nto=Nach\n")
+        self.assertEqual(self.flow(PLACES, routes, "--map", heads)[0], 0)
+        asked = json.loads((self.out / "asked.json").read_text())["options"]["map"]
+        self.assertEqual(asked, {"from": "Von", "to": "Nach"})
+        self.put("heads.txt", "from=Von\nnach=Nach\n")
+        told = self.flow(PLACES, routes, "--map", heads)[2]
+        self.assertIn("heads.txt, line 2: nach=Nach: say HEAD=NAME, where HEAD is one of", told)
+        told = self.flow(PLACES, routes, "--map", "no-file")[2]
+        self.assertIn("--map no-file: say --map HEAD=NAME, or name a file of such lines", told)
+
+    def test_filled_down_and_totals_again(self):
+        routes = "from,to,most,cost\nMill,Wien,15,4\n,Graz,20,7\nGraz,Wien,10,2\n,,45,13\n"
+        self.assertEqual(self.flow(PLACES, routes, "--fill-down", "from")[0], 0)
+        rows = rows_of(self.out / "flows.csv")
+        self.assertEqual([row["from"] for row in rows], ["Mill", "Mill", "Graz"])
+        text = "plan, cost 171, by --fill-down from."
+        self.assertIn(text, run("verify", self.out)[1])
+        page = (self.out / "report.html").read_text()
+        self.assertIn("line 5 is left out: it has the sums of the lines above", page)
+
     def test_own_heads_between_quotes_and_below_other_lines(self):
         places = 'Stand;\n\n"Ort ""A"""; "supply";Name\nA;1;x\nB;-1;y\n'
         routes = "sep=|\nvon|to|most|cost\nA|B||3\n"

@@ -243,6 +243,7 @@ class Verify(WithFolder):
                 "decimal": None,
                 "encoding": "windows-1252",
                 "map": {"name": "Ort", "from": "von"},
+                "fill_down": [],
                 "unused": False,
                 "short": True,
                 "penalty": "7,5",

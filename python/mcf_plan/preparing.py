@@ -1,0 +1,135 @@
+"""What becomes of the text of a table before `mcfplan` reads it: cells that take the value above
+them, and a row of totals that is left out."""
+import csv
+import io
+import unicodedata
+
+from .faults import Stop, shown
+from .figures import MARKED, value_of
+from .words import count_of, listed
+
+# The heads of names, and the heads of numbers that a row of totals may add up.
+NAMES = ("name", "from", "to", "who", "what")
+NUMBERS = ("supply", "least", "most", "cost")
+# What stands for a name in a row of totals.
+TOTALS = ("", "total", "totals", "sum", "gesamt", "gesamtsumme", "summe", "insgesamt")
+BLANKS = " \u00a0\t"
+
+
+def named(text):
+    """A text as titles of columns are compared."""
+    return unicodedata.normalize("NFC", text).strip(BLANKS).casefold()
+
+
+class Rows:
+    """The rows of a text from that of the heads on, each with its cells and with the numbers of its
+    first line and of the one after its last, from 0."""
+
+    def __init__(self, table, wanted):
+        self.table, self.lines = table, table.text.split("\n")
+        _, number, self.mark = max(
+            (
+                (
+                    len({named(cell) for cell in self.cells(number - 1, mark)} & set(wanted)),
+                    -place,
+                    mark,
+                )
+                for place, (number, _) in enumerate(table.head_lines())
+                for mark in table.separators
+            ),
+            default=(0, 0, ","),
+        )
+        self.begin = table.head_lines()[-number][0] - 1
+        self.heads = [named(cell) for cell in self.cells(self.begin, self.mark)]
+        self.titles = [named(table.title(head)) for head in self.heads]
+
+    def cells(self, line, mark):
+        """The cells of the row that begins in a line, by a separator."""
+        return next(self.read(line, mark))[0]
+
+    def read(self, begin, mark):
+        """The rows from a line on."""
+        text = io.StringIO("\n".join(self.lines[begin:]), newline="")
+        reader, start = csv.reader(text, delimiter=mark, skipinitialspace=True), 0
+        for cells in reader:
+            yield [cell.strip(BLANKS) for cell in cells], begin + start, begin + reader.line_num
+            start = reader.line_num
+
+    def below(self):
+        """The rows below the heads that aren't blank."""
+        rows = self.read(self.begin, self.mark)
+        return [row for number, row in enumerate(rows) if number and any(row[0])]
+
+    def places(self, heads):
+        """The places of the columns with some heads or titles."""
+        pairs = enumerate(zip(self.heads, self.titles))
+        return [place for place, names in pairs if not set(names).isdisjoint(heads)]
+
+    def fill_down(self, column):
+        """Gives empty cells of a column the value above them. Returns how many there were, or None
+        if there is no such column."""
+        places, count, above = self.places([named(column)]), 0, ""
+        if not places:
+            return None
+        for cells, begin, end in self.below():
+            cells += [""] * (places[0] + 1 - len(cells))
+            if not cells[places[0]] and above:
+                cells[places[0]], count = above, count + 1
+                self.lines[begin:end] = self.written(cells, end - begin)
+            above = cells[places[0]]
+        self.table.text = "\n".join(self.lines)
+        return count
+
+    def written(self, cells, count):
+        """The lines of a row of cells, as many as it had."""
+        text = io.StringIO()
+        csv.writer(text, delimiter=self.mark, lineterminator="\n").writerow(cells)
+        lines = text.getvalue()[:-1].split("\n")
+        return lines + [""] * (count - len(lines))
+
+    def total(self):
+        """The last row, if it is one of totals: its names are empty or say so, and its numbers are
+        the sums of those above, which are two at least."""
+        line = next((number for number, one in enumerate(self.lines[::-1]) if one.strip()), 0)
+        cells = dict(enumerate(self.cells(len(self.lines) - 1 - line, self.mark)))
+        names = self.places(NAMES)
+        if not names or any(named(cells.get(place, "")) not in TOTALS for place in names):
+            return None
+        *above, last = self.below() or [None]
+        numbers = [place for place in self.places(NUMBERS) if cells.get(place)]
+        columns = [[row[place] for row, _, _ in above if place < len(row)] for place in numbers]
+        sums = zip(columns, (cells[place] for place in numbers))
+        is_total = len(above) > 1 and last[2] - last[1] == 1 and numbers
+        return last if is_total and all(is_sum(*one) for one in sums) else None
+
+
+def is_sum(cells, total):
+    """Whether cells are numbers that add up to another cell, by one mark before decimals."""
+    cells = [*filter(None, cells), total]
+    if not all(any(c.isdigit() for c in cell) and MARKED.fullmatch(cell) for cell in cells):
+        return False
+    return any(
+        sum(value_of(cell, mark) for cell in cells[:-1]) == value_of(total, mark) for mark in ".,"
+    )
+
+
+def prepare(tables, wanted, columns):
+    """Fills columns of tables down, and leaves rows of totals out. Notes in the tables what it did;
+    a column that no table has ends the run."""
+    for table, heads in zip(tables, wanted):
+        last = Rows(table, heads).total()
+        if last:
+            cells, begin, _ = last
+            table.notes.append(
+                f"{table.name}, line {begin + 1} is left out: it has the sums of the lines above"
+                f" ({listed([shown(cell) for cell in cells if cell])})."
+            )
+            table.text = "\n".join(table.text.split("\n")[:begin])
+    for column in columns:
+        counts = [Rows(table, heads).fill_down(column) for table, heads in zip(tables, wanted)]
+        if not any(count is not None for count in counts):
+            raise Stop(f"--fill-down {column}: there is no such column", 2)
+        for table, count in zip(tables, counts):
+            if count:
+                cells = count_of(count, "empty cell takes", "empty cells take")
+                table.notes.append(f"{table.name}, column {column}: {cells} the value above.")
