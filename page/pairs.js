@@ -21,10 +21,11 @@ export class Roster {
    * @param {TableText} text
    * @param {Choices} choices
    */
-  constructor(answer, text, { reading, maximise }) {
+  constructor(answer, text, { reading, each, maximise }) {
     this.answer = answer;
     this.reading = reading;
     this.maximise = maximise;
+    this.each = each;
     this.mark = answer.mark;
     this.notes = text.notes;
     this.table = new Table(text, answer.tables.get('costs'));
@@ -87,6 +88,14 @@ export class Roster {
     if (!this.persons.has(who)) this.persons.set(who, this.persons.size);
     if (!this.things.has(what)) this.things.set(what, this.things.size);
     if (!FORBIDDEN.includes(fold(cost))) this.allowed.push([who, what]);
+  }
+
+  // This method returns the persons with a number of things that they take.
+  numbered() {
+    const { heads } = this.table;
+    const takes = heads.indexOf('takes'), who = this.isList ? heads.indexOf('who') : 0;
+    const rows = this.table.rows.filter(({ cells }) => cellAt(cells, takes));
+    return new Set(rows.map(({ cells }) => cellAt(cells, who)));
   }
 
   // This method says whether a cell below a head isn't empty.
@@ -272,7 +281,23 @@ export function pairsSummary(roster) {
     const left = [...names.keys()].filter((name) => !taken.has(name));
     if (left.length) lines.push(`${text}: ${listed(left)}.`);
   }
-  return lines;
+  return [...lines, ...bothHint(roster)];
+}
+
+// This function returns a hint, if persons get nothing because no number of the table says that
+// they must.
+/** @type {(roster: Roster) => string[]} */
+function bothHint(roster) {
+  if (roster.isPlain || roster.each) return [];
+  const { persons, pairs } = roster, taking = roster.numbered();
+  for (const { who } of pairs) taking.add(who);
+  const count = [...persons.keys()].filter((name) => !taking.has(name)).length;
+  return count
+    ? [
+      `${countOf(count, 'person gets', 'persons get')} nothing, and no number of the table says `
+        + `that they must: ${words().both} each gets one, if that can be.`,
+    ]
+    : [];
 }
 
 // This function explains why no such pairs exist.

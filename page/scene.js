@@ -142,10 +142,9 @@ function markedOf({ bottlenecks }) {
 export function whyBlocked({ problem, surplus, bottlenecks }, unit) {
   const { amount } = figuresOf(problem), [supply, demand] = balanceOf(problem);
   if (surplus) return `supply ${amount(supply, unit)}, demand ${amount(demand, unit)}`;
-  return bottlenecks
-    .slice(0, 3)
-    .map((found) => `short by ${amount(found.must - found.can, unit)}`)
-    .join(', ');
+  const short = bottlenecks.reduce((sum, { must, can }) => sum + must - can, 0n);
+  const several = bottlenecks.length > 1 ? ` in ${bottlenecks.length} bottlenecks` : '';
+  return `short by ${amount(short, unit)}${several}`;
 }
 
 // This function keeps the places in bottlenecks and those that a route joins with them.

@@ -43,6 +43,7 @@ export const TOOL = {
   penalty: (number) => `--penalty ${number}`,
   ofAll: 'or say --penalty N for all that have none',
   each: 'With --each what each thing would get a person',
+  both: 'with --each both',
   limits: 'LIMITS in `man mcf`',
 };
 

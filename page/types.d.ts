@@ -166,6 +166,7 @@ interface Speech {
   penalty(number: string): string;
   ofAll: string;
   each: string;
+  both: string;
   limits: string;
 }
 

@@ -89,7 +89,7 @@ function lensOf(svg) {
   };
 }
 
-// The wheel zooms at the pointer, and dragging moves the picture.
+// The wheel with Ctrl zooms at the pointer, and dragging moves the picture.
 /** @type {(svg: SVGSVGElement, lens: Lens) => void} */
 function followPointer(svg, lens) {
   /** @type {DOMPoint | null} */
@@ -99,6 +99,7 @@ function followPointer(svg, lens) {
   svg.addEventListener(
     'wheel',
     (event) => {
+      if (!event.ctrlKey && !event.metaKey) return;
       event.preventDefault();
       const { x, y } = spot(event);
       lens.zoom(event.deltaY < 0 ? 0.85 : 1 / 0.85, x, y);
@@ -117,8 +118,8 @@ function followPointer(svg, lens) {
   svg.addEventListener('pointerup', () => { from = null; });
 }
 
-// This function shows a picture with its buttons. The wheel zooms at the pointer, dragging moves
-// the picture, and buttons and keys do the same.
+// This function shows a picture with its buttons. The wheel with Ctrl zooms at the pointer,
+// dragging moves the picture, and buttons and keys do the same.
 /** @type {(text: string) => HTMLElement} */
 export function pictureOf(text) {
   const drawn = new DOMParser().parseFromString(text, 'image/svg+xml').documentElement;
@@ -146,9 +147,10 @@ export function pictureOf(text) {
       class: 'picture',
       tabindex: 0,
       role: 'group',
-      'aria-label': 'Picture: + and - zoom, arrows move, 0 shows the whole picture',
+      'aria-label': 'Picture: + and - zoom, as the wheel does with Ctrl; arrows move, 0 shows the '
+        + 'whole picture',
       onkeydown: (/** @type {KeyboardEvent} */ event) => {
-        if (!keys[event.key]) return;
+        if (!keys[event.key] || event.ctrlKey || event.metaKey) return;
         event.preventDefault();
         keys[event.key]();
       },

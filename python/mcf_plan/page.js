@@ -1,5 +1,5 @@
 "use strict";
-// Pictures: the wheel zooms at the pointer, dragging moves, buttons do the same.
+// Pictures: the wheel with Ctrl zooms at the pointer, dragging moves, buttons and keys do the same.
 document.querySelectorAll(".picture").forEach(function (frame) {
   const svg = frame.querySelector("svg"), whole = svg.viewBox.baseVal;
   const home = [whole.x, whole.y, whole.width, whole.height];
@@ -15,6 +15,7 @@ document.querySelectorAll(".picture").forEach(function (frame) {
     return [point.x, point.y];
   };
   svg.addEventListener("wheel", function (event) {
+    if (!event.ctrlKey && !event.metaKey) { return; }
     event.preventDefault();
     zoom(event.deltaY < 0 ? 0.85 : 1 / 0.85, ...spot(event));
   }, { passive: false });
@@ -27,6 +28,16 @@ document.querySelectorAll(".picture").forEach(function (frame) {
     show();
   });
   svg.addEventListener("pointerup", function () { from = null; });
+  const act = { "+": ["0.7"], "-": ["1.43"], 0: ["0"], ArrowLeft: [-0.1, 0], ArrowRight: [0.1, 0], ArrowUp: [0, -0.1], ArrowDown: [0, 0.1] };
+  frame.addEventListener("keydown", function (event) {
+    const [dx, dy] = act[event.key] || [];
+    if (dx === undefined || event.ctrlKey || event.metaKey) { return; }
+    event.preventDefault();
+    if (dy === undefined) { frame.querySelector('[data-zoom="' + dx + '"]').click(); return; }
+    view[0] += dx * view[2];
+    view[1] += dy * view[3];
+    show();
+  });
   frame.querySelectorAll("button").forEach(function (button) {
     button.addEventListener("click", function () {
       const factor = Number(button.dataset.zoom);
@@ -55,7 +66,7 @@ document.querySelectorAll(".sheet table").forEach(function (table) {
   };
   table.querySelectorAll("thead th").forEach(function (head, column) {
     head.tabIndex = 0;
-    head.addEventListener("keydown", function (event) { if (event.key === "Enter") { head.click(); } });
+    head.addEventListener("keydown", function (event) { if (event.key === "Enter" || event.key === " ") { event.preventDefault(); head.click(); } });
     head.addEventListener("click", function () {
       const down = head.getAttribute("aria-sort") === (head.classList.contains("number") ? "descending" : "ascending");
       const sign = head.classList.contains("number") === down ? 1 : -1;

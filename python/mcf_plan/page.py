@@ -20,6 +20,8 @@ Share = collections.namedtuple("Share", "percent")
 # The most rows of a table, since a browser is slow with more.
 LISTED = 5000
 
+# What a picture is called, and how it moves.
+LENS = "Picture: + and - zoom, as the wheel does with Ctrl; arrows move, 0 shows the whole picture"
 PROVED = (
     "mcfplan wrote answer.csv from the texts of the tables, and it is proved that mcfplan writes"
     " nothing that isn't right: from the bytes of these texts to the bytes of answer.csv. How files"
@@ -90,8 +92,8 @@ class Writer:
         )
         return (
             [
-                f'<h2>Picture</h2>\n<div class="picture">{page.picture}<div'
-                f' class="zoom">{zooms}</div></div>'
+                f'<h2>Picture</h2>\n<div class="picture" tabindex="0" role="group"'
+                f' aria-label="{LENS}">{page.picture}<div class="zoom">{zooms}</div></div>'
             ]
             if page.picture
             else []

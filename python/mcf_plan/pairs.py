@@ -55,7 +55,20 @@ def left_lines(roster):
     ):
         left = [name for name in side if name not in taken]
         lines += [f"{text}: {listed(left)}."] if left else []
-    return lines
+    return lines + both_hint(roster)
+
+
+def both_hint(roster):
+    """A hint, if persons get nothing because no number of the table says that they must."""
+    if roster.is_plain or roster.options.each:
+        return []
+    taking = {pair.who for pair in roster.pairs} | roster.numbered()
+    count = sum(1 for name in roster.persons if name not in taking)
+    told = count_of(count, "person gets", "persons get")
+    return [
+        f"{told} nothing, and no number of the table says that they must: with --each both each"
+        " gets one, if that can be."
+    ] * (count > 0)
 
 
 def blocked_lines(roster):

@@ -59,6 +59,12 @@ class Roster:
         if cost.lower() not in FORBIDDEN:
             self.allowed.append((who, what))
 
+    def numbered(self):
+        """The persons with a number of things that they take."""
+        takes, who = self.sheet.place("takes"), self.sheet.place("who") if self.is_list else 0
+        rows = (cells for _, cells in self.sheet.rows if cell_at(cells, takes))
+        return {cell_at(cells, who) for cells in rows}
+
     def is_filled(self, head):
         """Whether a cell below a head isn't empty."""
         place = self.sheet.place(head)

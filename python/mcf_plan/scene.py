@@ -107,10 +107,9 @@ def blocked_heading(blocked, unit):
     problem, amount = blocked.problem, functools.partial(shown_number, blocked.problem, unit=unit)
     if blocked.is_unbalanced:
         return f"No plan exists: supply {amount(problem.supply)}, demand {amount(problem.demand)}"
-    return "No plan exists: " + ", ".join(
-        f"short by {amount(bottleneck.must - bottleneck.can)}"
-        for bottleneck in blocked.bottlenecks[:3]
-    )
+    shorts, count = [one.must - one.can for one in blocked.bottlenecks], len(blocked.bottlenecks)
+    several = f" in {count} bottlenecks" if count > 1 else ""
+    return f"No plan exists: short by {amount(sum(shorts))}{several}"
 
 
 def limited(node, is_limited, place, amount):

@@ -6,6 +6,9 @@ import io
 from .faults import bad_table, shown
 from .figures import Figure
 
+# The most characters that a column of a written workbook shows.
+WIDEST = 40
+
 
 def is_workbook(data):
     """Whether bytes begin like an Excel workbook or another zip archive."""
@@ -81,8 +84,21 @@ def write_workbook(path, sheets):
         for line, row in enumerate([heads, *rows], 1):
             for column, value in enumerate(row, 1):
                 fill(sheet.cell(line, column), value)
-        sheet.freeze_panes = "A2"
+        for cells in sheet.columns:
+            lay_out(sheet, cells)
+        sheet.freeze_panes, sheet.auto_filter.ref = "A2", sheet.dimensions
     book.save(path)
+
+
+def lay_out(sheet, cells):
+    """Gives a column of a sheet a width, and its numbers the decimals that they have."""
+    texts = ["" if cell.value is None else format(cell.value) for cell in cells]
+    wide = min(max(map(len, texts)) + 4, WIDEST)
+    sheet.column_dimensions[cells[0].column_letter].width = wide
+    numbers = [cell for cell in cells if isinstance(cell.value, decimal.Decimal)]
+    places = max((-cell.value.as_tuple().exponent for cell in numbers), default=0)
+    for cell in numbers:
+        cell.number_format = "#,##0" + ("." + "0" * places if places > 0 else "")
 
 
 def fill(cell, value):

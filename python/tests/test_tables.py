@@ -415,6 +415,19 @@ class Workbooks(WithFolder):
         self.assertEqual(self.flow(PLACES, ROUTES, "--xlsx")[0], 0)
         self.assertTrue((self.out / "plan.xlsx").exists())
 
+    def test_filters_and_formats_of_a_workbook(self):
+        import openpyxl
+
+        routes = ROUTES.replace(",4\n", ",4.25\n").replace("Mill,Wien,0,15", "Mill,Wien,0,15000")
+        self.flow(PLACES.replace("30", "30000").replace("-18", "-29988"), routes, "--xlsx")
+        sheet = openpyxl.load_workbook(self.out / "plan.xlsx")["bottleneck"]
+        self.assertEqual(sheet.auto_filter.ref, sheet.dimensions)
+        self.flow(PLACES, routes, "--xlsx")
+        sheet = openpyxl.load_workbook(self.out / "plan.xlsx")["flows"]
+        formats = [sheet.cell(2, column).number_format for column in (1, 6, 7)]
+        self.assertEqual(formats, ["General", "#,##0", "#,##0.0"])
+        self.assertGreater(sheet.column_dimensions["K"].width, 20)
+
     def test_one_table_of_text(self):
         self.assertIn(
             "this is no workbook with two sheets",
