@@ -12,6 +12,8 @@ const NAMED_HEADS = ['name', 'from', 'to', 'who', 'what'];
 const SUMMED_HEADS = ['supply', 'least', 'most', 'cost'];
 // What stands for a name in a row of totals.
 const TOTALS = ['', 'total', 'totals', 'sum', 'gesamt', 'gesamtsumme', 'summe', 'insgesamt'];
+// The most lines of a row of heads.
+const SPANNED = 50;
 // The heads of which tables are known.
 const WANTED = [...NAMED_HEADS, ...SUMMED_HEADS];
 
@@ -74,7 +76,8 @@ class TextRows {
   // This method returns the cells of the row that begins in a line, by a separator.
   /** @type {(line: number, mark: string) => string[]} */
   cells(line, mark) {
-    for (const { cells } of rowsIn(this.lines.slice(line).join('\n'), mark)) return cells;
+    const text = this.lines.slice(line, line + SPANNED).join('\n');
+    for (const { cells } of rowsIn(text, mark)) return cells;
     return [];
   }
 

@@ -14,6 +14,8 @@ NUMBERS = ("supply", "least", "most", "cost")
 # What stands for a name in a row of totals.
 TOTALS = ("", "total", "totals", "sum", "gesamt", "gesamtsumme", "summe", "insgesamt")
 BLANKS = " \u00a0\t"
+# The most lines of a row of heads.
+SPANNED = 50
 
 
 def named(text):
@@ -27,29 +29,26 @@ class Rows:
 
     def __init__(self, table, wanted):
         self.table, self.lines = table, table.text.split("\n")
-        _, number, self.mark = max(
+        ranked = [
             (
-                (
-                    len({named(cell) for cell in self.cells(number - 1, mark)} & set(wanted)),
-                    -place,
-                    mark,
-                )
-                for place, (number, _) in enumerate(table.head_lines())
-                for mark in table.separators
-            ),
-            default=(0, 0, ","),
-        )
-        self.begin = table.head_lines()[-number][0] - 1
+                len({named(cell) for cell in self.cells(number - 1, mark)} & set(wanted)),
+                number - 1,
+                mark,
+            )
+            for number, _ in table.head_lines()
+            for mark in table.separators
+        ]
+        _, self.begin, self.mark = max(ranked, key=lambda one: one[0], default=(0, 0, ","))
         self.heads = [named(cell) for cell in self.cells(self.begin, self.mark)]
         self.titles = [named(table.title(head)) for head in self.heads]
 
     def cells(self, line, mark):
         """The cells of the row that begins in a line, by a separator."""
-        return next(self.read(line, mark))[0]
+        return next(self.read(line, mark, line + SPANNED))[0]
 
-    def read(self, begin, mark):
-        """The rows from a line on."""
-        text = io.StringIO("\n".join(self.lines[begin:]), newline="")
+    def read(self, begin, mark, end=None):
+        """The rows from a line on, up to the end or to another line."""
+        text = io.StringIO("\n".join(self.lines[begin:end]), newline="")
         reader, start = csv.reader(text, delimiter=mark, skipinitialspace=True), 0
         for cells in reader:
             yield [cell.strip(BLANKS) for cell in cells], begin + start, begin + reader.line_num
@@ -90,7 +89,7 @@ class Rows:
     def total(self):
         """The last row, if it is one of totals: its names are empty or say so, and its numbers are
         the sums of those above, which are two at least."""
-        line = next((number for number, one in enumerate(self.lines[::-1]) if one.strip()), 0)
+        line = next((number for number, one in enumerate(reversed(self.lines)) if one.strip()), 0)
         cells = dict(enumerate(self.cells(len(self.lines) - 1 - line, self.mark)))
         names = self.places(NAMES)
         if not names or any(named(cells.get(place, "")) not in TOTALS for place in names):
