@@ -6,17 +6,19 @@ histograms, as POT's functions of these names do. `SimpleMinCostFlow`, `SimpleMa
 `SimpleLinearSumAssignment` have the methods of OR-tools' classes, and `mcf.nx` takes networkx
 graphs. The checker judges each answer before the package returns it, unless `check=False`; by
 `check_arrays` it judges a flow that anybody made, and `cost_ranges` tells how far its costs may
-change. `solve_text` and `check_text` take texts in the DIMACS formats, `plan_flow` tables of places
-and routes, and `plan_pairs` a table of persons and things.
+change. `time_limit` limits how long calls may take. `solve_text` and `check_text` take texts in the
+DIMACS formats, `plan_flow` tables of places and routes, and `plan_pairs` a table of persons and
+things.
 """
 from typing import Optional, Tuple, Union
 
 from . import _library
 from ._arrays import ArrayFlow, solve_arrays
-from ._errors import Infeasible, MCFError, NotAccepted, Refused, Unbounded
+from ._errors import Infeasible, MCFError, NotAccepted, Refused, TimeLimit, Unbounded
 from ._judging import check_arrays, cost_ranges
 from ._library import Verdict
 from ._solving import Flow, solve
+from ._waiting import time_limit
 from .assigning import Assignment, assign
 from .assignment import linear_sum_assignment
 from .earth_mover import emd, emd2
@@ -37,6 +39,7 @@ __all__ = [
     "SimpleLinearSumAssignment",
     "SimpleMaxFlow",
     "SimpleMinCostFlow",
+    "TimeLimit",
     "Unbounded",
     "Verdict",
     "assign",
@@ -51,6 +54,7 @@ __all__ = [
     "solve",
     "solve_arrays",
     "solve_text",
+    "time_limit",
     "transport",
 ]
 __version__ = "1.0.0"

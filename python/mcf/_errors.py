@@ -140,3 +140,17 @@ class Unbounded(MCFError):
 class NotAccepted(MCFError):
     """The checker rejected the answer, so the package doesn't return it. This would be a bug
     outside the proofs."""
+
+
+class TimeLimit(MCFError, TimeoutError):
+    """The time that `time_limit` allows is up.
+
+    Attributes
+    ----------
+    seconds : float
+        The limit.
+    """
+
+    def __init__(self, seconds: float):
+        super().__init__("no answer within %g seconds" % seconds)
+        self.seconds = seconds

@@ -1,16 +1,15 @@
 """Calls libmcf in this process through ctypes. Several threads can call it at once, because ctypes
 releases the interpreter's lock."""
-import _thread
 import ctypes
 import ctypes.util
 import os
 import sys
-import threading
 from array import array
 from fractions import Fraction
 from typing import Any, Callable, Dict, List, NamedTuple, Optional, Sequence, Tuple, Union
 
 from ._errors import NotAccepted
+from ._waiting import called
 
 (
     FLOW,
@@ -331,46 +330,6 @@ def failed(status: int) -> Exception:
     return AssertionError("mcf: status %d" % status)
 
 
-def _run(function: Any, words: Any, kept: Any, ended: List[Any], done: Any) -> None:
-    """Calls the library in a thread. `kept` keeps alive what the call reads and writes."""
-    try:
-        ended.append((function(*words), None))
-    except BaseException as error:
-        ended.append((None, error))
-    finally:
-        done.release()
-
-
-def _called(function: Any, words: Any, kept: Any) -> Any:
-    """Runs a long call of the library so that a signal can interrupt it, and returns its result.
-
-    Python handles signals in the main thread, between bytecode instructions. So if the caller is
-    the main thread, the call runs in another thread, and an exception that a handler raises, such
-    as KeyboardInterrupt, takes effect at once. The call then runs to its end in its thread. Until
-    then the thread keeps the memory that the call reads and writes, and nobody else uses it.
-    """
-    if (
-        _thread.get_ident() != threading.main_thread().ident
-        or sys.is_finalizing()
-        or _thread.stack_size() != 0
-    ):
-        return function(*words)
-    ended: List[Any] = []
-    done = _thread.allocate_lock()
-    done.acquire()
-    try:
-        _thread.start_new_thread(_run, (function, words, kept, ended, done))
-    except RuntimeError:
-        # No thread can start, for example while the interpreter shuts down.
-        return function(*words)
-    while not done.acquire(True, 0.05):
-        pass
-    answer, error = ended[0]
-    if error is not None:
-        raise error
-    return answer
-
-
 def bytes_of(text: Any) -> bytes:
     """The bytes of any object that holds bytes."""
     return text if isinstance(text, bytes) else memoryview(text).tobytes()
@@ -387,7 +346,7 @@ def _written(function: Any, texts: Sequence[bytes], options: Any) -> Tuple[int, 
     while True:
         buffer = ctypes.create_string_buffer(room)
         words = (*lent, options, buffer, room, used)
-        status = _called(function, words, None) if size > LASTING_BYTES else function(*words)
+        status = called(function, words, None) if size > LASTING_BYTES else function(*words)
         if status != BUFFER_TOO_SMALL:
             return status, ctypes.string_at(buffer, used.value)
         room = used.value
@@ -470,7 +429,7 @@ class Arrays:
         self.told = Told(0, 0, cost < 0, size & (2**64 - 1), size >> 64)
 
     def _call(self, function: Any, words: Tuple[Any, ...], size: int) -> Any:
-        return _called(function, words, self) if size > LASTING_ARCS else function(*words)
+        return called(function, words, self) if size > LASTING_ARCS else function(*words)
 
     def _room(self, arcs: int, nodes: int) -> None:
         self.flow = array("q", bytes(8 * arcs))
@@ -572,7 +531,7 @@ class MatrixArrays(Priced):
     def _call(self, function: Any, *words: Any) -> int:
         lasts = self.matrix.length > LASTING_ARCS
         words = (self.matrix, *words)
-        status = _called(function, words, self) if lasts else function(*words)
+        status = called(function, words, self) if lasts else function(*words)
         if status in (NO_MEMORY, BUFFER_TOO_SMALL):
             raise failed(status)
         return int(status)
@@ -638,7 +597,7 @@ class TransportArrays(Priced):
         prices = (word for room, size in rooms for word in (at(room), size))
         words = (self.problem, at(self.plan), len(self.plan) // 2, *prices, self.told)
         lasts = matrix.length > LASTING_ARCS
-        status = _called(function, words, self) if lasts else function(*words)
+        status = called(function, words, self) if lasts else function(*words)
         if status in (NO_MEMORY, BUFFER_TOO_SMALL):
             raise failed(status)
         return int(status)

@@ -834,8 +834,49 @@ class Interrupted(unittest.TestCase):
             signal.setitimer(signal.ITIMER_REAL, 0)
             signal.signal(signal.SIGALRM, before)
 
+    def test_a_time_limit(self):
+        matrix = [[(i * j) % 1009 for j in range(400)] for i in range(400)]
+        seen, begun = [], time.monotonic()
+        with self.assertRaises(mcf.TimeLimit) as c, mcf.time_limit(0.3, progress=seen.append):
+            mcf.linear_sum_assignment(matrix, engine="cancel")
+        self.assertLess(time.monotonic() - begun, 2)
+        self.assertEqual(str(c.exception), "no answer within 0.3 seconds")
+        self.assertEqual(pickle.loads(pickle.dumps(c.exception)).seconds, c.exception.seconds)
+        self.assertIsInstance(c.exception, TimeoutError)
+        self.assertTrue(seen and sorted(seen) == seen)
+        # The limit ends with its block.
+        self.assertEqual(mcf.solve([1, -1], [(0, 1, 1, 1)]).cost, 1)
+
+    def test_an_outer_time_limit(self):
+        matrix = [[(i * j) % 1009 for j in range(400)] for i in range(400)]
+        with mcf.time_limit(0.2), mcf.time_limit():
+            self.assertRaises(mcf.TimeLimit, mcf.linear_sum_assignment, matrix, engine="cancel")
+        for seconds in (0, -1, float("nan")):
+            with self.assertRaisesRegex(ValueError, "above 0"), mcf.time_limit(seconds):
+                pass
+
+    def test_a_time_limit_in_a_thread(self):
+        matrix, found = [[(i * j) % 1009 for j in range(400)] for i in range(400)], []
+
+        def work():
+            try:
+                with mcf.time_limit(0.2):
+                    mcf.linear_sum_assignment(matrix, engine="cancel")
+            except mcf.TimeLimit as error:
+                found.append(error)
+
+        thread = threading.Thread(target=work)
+        thread.start()
+        thread.join(10)
+        self.assertEqual(len(found), 1)
+
+    def test_what_progress_raises(self):
+        matrix = [[(i * j) % 1009 for j in range(400)] for i in range(400)]
+        with mcf.time_limit(progress=lambda seconds: 1 / 0):
+            self.assertRaises(ZeroDivisionError, mcf.linear_sum_assignment, matrix, engine="cancel")
+
     def test_errors_of_a_thread(self):
-        called = mcf._library._called
+        called = mcf._waiting.called
         self.assertEqual(called(max, (3, 5), None), 5)
         self.assertRaises(TypeError, called, max, (3, "5"), None)
         with mock.patch("_thread.start_new_thread", side_effect=RuntimeError):
