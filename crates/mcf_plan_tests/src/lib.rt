@@ -22,6 +22,8 @@ mod pair_tables;
 #[cfg(test)]
 mod pair_texts;
 #[cfg(test)]
+mod periods;
+#[cfg(test)]
 mod places;
 #[cfg(test)]
 mod places_planned;

@@ -1,0 +1,5 @@
+mod Grids
+mod FlatPlans
+mod MadeFlat
+mod FlatAnswers
+mod ProperPeriods

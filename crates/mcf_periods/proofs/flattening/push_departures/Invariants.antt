@@ -1,0 +1,6 @@
+use Rattle.std.proofs.Common.{◌≡◌, ◌++◌, map, take}
+use Rattle.mcf_periods.specs.Flat.{flat_row}
+use Rattle.mcf_periods.proofs.flattening.push_departures.Given as goal
+
+abbrev pub invariant-loop-place : goal.invariant-loop-place
+invariant-loop-place l = l.made.items ≡ l.initial.made.items ++ map (flat_row l.count) (take l.place l.departures)

@@ -1,0 +1,13 @@
+pub use Rattle.mcf_places.specs.Answers
+pub use Rattle.mcf_places.specs.FinerPlanners
+pub use Rattle.mcf_places.specs.Models
+pub use Rattle.mcf_places.specs.PlannerFaults
+pub use Rattle.mcf_places.specs.PlannerLaws
+pub use Rattle.mcf_places.specs.Planners
+pub use Rattle.mcf_places.specs.Planning
+pub use Rattle.mcf_places.specs.Ways
+pub mod Periods
+pub mod Flat
+pub mod FinerPeriods
+pub mod PeriodLaws
+pub mod PeriodAnswers
