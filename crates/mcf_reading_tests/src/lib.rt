@@ -12,6 +12,8 @@ mod faults;
 #[cfg(test)]
 mod near_heads;
 #[cfg(test)]
+mod periods;
+#[cfg(test)]
 mod rosters;
 #[cfg(test)]
 mod texts;

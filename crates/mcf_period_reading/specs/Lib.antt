@@ -1,0 +1,15 @@
+pub use Rattle.mcf_decimal.specs.Decimals
+pub use Rattle.mcf_names.specs.NameFaults
+pub use Rattle.mcf_names.specs.Names
+pub use Rattle.mcf_reading.specs.Cells
+pub use Rattle.mcf_reading.specs.Columns
+pub use Rattle.mcf_reading.specs.HeadTexts
+pub use Rattle.mcf_reading.specs.RouteRows
+pub use Rattle.mcf_table.specs.Heads
+pub use Rattle.mcf_table.specs.Texts
+pub mod PeriodFaults
+pub mod PeriodHeads
+pub mod PeriodCells
+pub mod PlaceTimes
+pub mod RouteTimes
+pub mod PeriodReading

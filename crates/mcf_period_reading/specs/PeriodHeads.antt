@@ -1,0 +1,60 @@
+-- The heads of the columns that say something about periods.
+-- Source: own
+use Rattle.std.specs.Prelude.{ℕ, Bool, not, List, [], ◌∷◌, ◌++◌, codes, Option, Some, None}
+use Rattle.std.specs.List.{flat_map}
+use Rattle.mcf_reading.specs.Columns.{only_place}
+use Rattle.mcf_reading.specs.HeadTexts.{is_there}
+use Rattle.mcf_reading.specs.declared.locations.Table.{Table}
+use Rattle.mcf_reading.specs.declared.locations.Table.TheVariants.{Places, Routes}
+use Rattle.mcf_table.specs.Heads.{column_of}
+use Rattle.mcf_table.specs.Texts.{Record}
+use Rattle.mcf_table.specs.declared.heads.Column.{Column}
+use Rattle.mcf_table.specs.declared.heads.Column.TheVariants.{Missing, Twice, At}
+use Rattle.mcf_period_reading.specs.PeriodFaults.{if_kind, told}
+use Rattle.mcf_period_reading.specs.declared.heads.PeriodHead.{PeriodHead}
+use Rattle.mcf_period_reading.specs.declared.heads.PeriodHead.TheVariants.{Period, KeepMost, KeepCost, FirstStock, LastStock, Lead}
+use Rattle.mcf_period_reading.specs.declared.kinds.PeriodFault.{PeriodFault}
+use Rattle.mcf_period_reading.specs.declared.kinds.PeriodKind.{PeriodKind}
+use Rattle.mcf_period_reading.specs.declared.kinds.PeriodKind.TheVariants.{NoPeriods, TwoColumns}
+
+-- the text of a head
+abbrev pub head_text : PeriodHead → List ℕ
+head_text Period = codes "period"
+head_text KeepMost = codes "keep most"
+head_text KeepCost = codes "keep cost"
+head_text FirstStock = codes "first stock"
+head_text LastStock = codes "last stock"
+head_text Lead = codes "lead"
+
+-- the heads that are looked for in a table
+abbrev pub heads_of : Table → List PeriodHead
+heads_of Places = Period ∷ KeepMost ∷ KeepCost ∷ FirstStock ∷ LastStock ∷ []
+heads_of Routes = Period ∷ Lead ∷ []
+
+-- the column of a table that has this head
+abbrev pub column_under : List Record → PeriodHead → Column
+column_under records head = column_of (head_text head) records
+
+-- the place of that column, if just one has the head
+abbrev pub place_under : List Record → PeriodHead → Option ℕ
+place_under records head = only_place (column_under records head)
+
+-- the table of places has a column of periods
+abbrev pub has_periods : List Record → Bool
+has_periods places = is_there (column_under places Period)
+
+-- what is wrong with a column, if the table of places has a column of periods, or if it has none
+abbrev pub column_kind : Bool → Column → Option PeriodKind
+column_kind has Missing = None
+column_kind has Twice = Some TwoColumns
+column_kind has (At place) = if_kind (not has) NoPeriods
+
+-- the fault of a head
+abbrev pub head_fault : Bool → Table → List Record → PeriodHead → List PeriodFault
+head_fault has table records head = told table 0 head (column_kind has (column_under records head))
+
+-- the faults of the heads of both tables
+abbrev pub head_faults : List Record → List Record → List PeriodFault
+head_faults places routes =
+    flat_map (head_fault (has_periods places) Places places) (heads_of Places)
+    ++ flat_map (head_fault (has_periods places) Routes routes) (heads_of Routes)

@@ -1,0 +1,23 @@
+#![tactic(auto)]
+
+//! What tables of places and of routes say about periods: which periods there are, in which of them
+//! a row holds, what places keep from one to the next, and after how many periods what is sent
+//! arrives; or all faults.
+//!
+//! It builds on `mcf_table`, `mcf_decimal` and `mcf_names`, and on definitions of `mcf_reading`.
+//! The definitions are in `specs/`: `PeriodHeads` says which columns are read, `PlaceTimes` and
+//! `RouteTimes` what a row says and which faults it has, and `PeriodReading` what both tables say
+//! together.
+
+mod cells;
+mod heads;
+mod kinds;
+mod place_times;
+mod reading;
+mod route_times;
+
+pub use heads::PeriodHead;
+pub use kinds::{PeriodFault, PeriodKind};
+pub use place_times::{KeepEntry, PlaceTime};
+pub use reading::{PeriodTables, read_periods};
+pub use route_times::RouteTime;

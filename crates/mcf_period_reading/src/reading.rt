@@ -1,0 +1,108 @@
+//! What both tables say about periods.
+ghost use Rattle.std.specs.Prelude.{◌≡◌, [], IfOk};
+ghost use Rattle.mcf_period_reading.specs.PeriodHeads.{head_faults};
+ghost use Rattle.mcf_period_reading.specs.PeriodReading.{IsReadOf, place_format, spots_in};
+ghost use Rattle.mcf_period_reading.specs.PlaceTimes.{periods_in};
+
+use crate::cells::cells_under;
+use crate::heads::head_faults;
+use crate::kinds::PeriodFault;
+use crate::place_times::{
+    PlaceFormat, PlaceTime, Spot, periods_in, read_places, spots, time_columns,
+};
+use crate::route_times::{RouteTime, read_routes, route_format};
+use mcf_decimal::Mark;
+use mcf_names::Names;
+use mcf_table::Records;
+use mcf_text::NoMemory;
+use std::alloc::Global;
+
+/// What two tables say about periods.
+#[derive(Drop)]
+pub struct PeriodTables<'t> {
+    /// The periods, in the order in which the table of places names them first; none if it has no
+    /// column of periods.
+    pub periods: Names<'t>,
+    /// What each row of places says.
+    pub places: Vec<PlaceTime>,
+    /// What each row of routes says.
+    pub routes: Vec<RouteTime>,
+}
+
+// How the rows of places are read, if these are the periods.
+fn place_format(mark: Option<Mark>, places: &Records, periods: &Names<'_>) -> PlaceFormat
+    requires { periods.now ≡ periods_in places.now }
+    ensures { result ≡ place_format mark places.now }
+{
+    PlaceFormat {
+        mark,
+        columns: time_columns(places),
+        count: periods.len(),
+    }
+}
+
+// The place and the period of each row of places, if these are the periods.
+fn spots_in(alloc: Global, places: &Records, periods: &Names<'_>) -> Result<Vec<Spot>, NoMemory>
+    requires { periods.now ≡ periods_in places.now }
+    ensures { IfOk result (λ made. made.items ≡ spots_in places.now) }
+{
+    let columns = time_columns(places);
+    let names = Names::of(alloc, cells_under(alloc, places, columns.name)?)?;
+    spots(alloc, columns, &names, periods, places)
+}
+
+// What the rows of tables say whose heads have no fault.
+fn read_rows<'t>(
+    alloc: Global,
+    places: &'t Records,
+    routes: &Records,
+    mark: Option<Mark>,
+) -> Result<Result<PeriodTables<'t>, Vec<PeriodFault>>, NoMemory>
+    requires { head_faults places.now routes.now ≡ [] }
+    ensures { IfOk result (IsReadOf mark places.now routes.now) }
+{
+    let periods = periods_in(alloc, places)?;
+    let all = spots_in(alloc, places, &periods)?;
+    let format = place_format(mark, places, &periods);
+    let mut faults = Vec::new(alloc);
+    let times = read_places(alloc, format, &all, places, &mut faults)?;
+    let leads = read_routes(
+        alloc,
+        route_format(mark, routes),
+        &periods,
+        routes,
+        &mut faults,
+    )?;
+    if !faults.is_empty() {
+        return Ok(Err(faults));
+    }
+    Ok(Ok(PeriodTables {
+        periods,
+        places: times,
+        routes: leads,
+    }))
+}
+
+/// Reads what the table of places and the table of routes say about periods, in the columns
+/// `period`, `keep most`, `keep cost`, `first stock` and `last stock` of places, and `period` and
+/// `lead` of routes. The first row of each table has its heads. A row without a period holds in
+/// each period. A place keeps nothing if both cells of what it may keep are empty.
+///
+/// # Errors
+///
+/// The faults of the heads, if there are some; or else all faults of rows, first of places and then
+/// of routes. `NoMemory` if an allocation is refused.
+pub fn read_periods<'t>(
+    alloc: Global,
+    places: &'t Records,
+    routes: &Records,
+    mark: Option<Mark>,
+) -> Result<Result<PeriodTables<'t>, Vec<PeriodFault>>, NoMemory>
+    ensures { IfOk result (IsReadOf mark places.now routes.now) }
+{
+    let found = head_faults(alloc, places, routes)?;
+    if !found.is_empty() {
+        return Ok(Err(found));
+    }
+    read_rows(alloc, places, routes, mark)
+}

@@ -1,0 +1,206 @@
+//! What tables say about periods.
+use mcf_decimal::{Decimal, NumberFault};
+use mcf_names::NameFault;
+use mcf_period_reading::{
+    KeepEntry, PeriodFault, PeriodHead, PeriodKind, PeriodTables, PlaceTime, RouteTime,
+    read_periods,
+};
+use mcf_reading::Table;
+use mcf_table::records_of;
+use mcf_text::NoMemory;
+use std::alloc::Global;
+use std::test::Fail;
+
+const PLACES: &[u8] =
+    b"name;supply;period;keep most;keep cost;first stock;last stock\nMill;9;W1;;;;\nDepot;0;;20;0.5;3;1\nShop;-4;W2;;;;\n";
+
+const ROUTES: &[u8] = b"from;to;most;cost;period;lead\nMill;Depot;;1;;\nDepot;Shop;;1;W2;1\n";
+
+// Two tables, and the only fault of both: its table, its row, its column, and its kind.
+type FaultRow = (
+    &'static [u8],
+    &'static [u8],
+    Table,
+    usize,
+    PeriodHead,
+    PeriodKind,
+);
+
+static ROWS: [FaultRow; 10] = [
+    (
+        b"name;period;period\n",
+        b"from\n",
+        Table::Places,
+        0,
+        PeriodHead::Period,
+        PeriodKind::TwoColumns,
+    ),
+    (
+        b"name\nA\n",
+        b"from;lead\nA;1\n",
+        Table::Routes,
+        0,
+        PeriodHead::Lead,
+        PeriodKind::NoPeriods,
+    ),
+    (
+        b"name;period\nA;W\x01\n",
+        b"from\n",
+        Table::Places,
+        1,
+        PeriodHead::Period,
+        PeriodKind::Name(NameFault::Control),
+    ),
+    (
+        b"name;period\nA;W1\nB;W1\nA;\n",
+        b"from\n",
+        Table::Places,
+        3,
+        PeriodHead::Period,
+        PeriodKind::Twice,
+    ),
+    (
+        b"name;period\nA;W1\n",
+        b"from;period\nA;W2\n",
+        Table::Routes,
+        1,
+        PeriodHead::Period,
+        PeriodKind::NoPeriod,
+    ),
+    (
+        b"name;period;keep cost\nA;W1;x\n",
+        b"from\n",
+        Table::Places,
+        1,
+        PeriodHead::KeepCost,
+        PeriodKind::Number(NumberFault::NoNumber),
+    ),
+    (
+        b"name;period;keep most\nA;W1;-1\n",
+        b"from\n",
+        Table::Places,
+        1,
+        PeriodHead::KeepMost,
+        PeriodKind::BelowZero,
+    ),
+    (
+        b"name;period\nA;W1\n",
+        b"from;lead\nA;1.5\n",
+        Table::Routes,
+        1,
+        PeriodHead::Lead,
+        PeriodKind::NoLead,
+    ),
+    (
+        b"name;period;first stock\nA;W1;1\nA;W2;1\n",
+        b"from\n",
+        Table::Places,
+        2,
+        PeriodHead::FirstStock,
+        PeriodKind::NotFirst,
+    ),
+    (
+        b"name;period;last stock\nA;W1;1\nA;W2;1\n",
+        b"from\n",
+        Table::Places,
+        1,
+        PeriodHead::LastStock,
+        PeriodKind::NotLast,
+    ),
+];
+
+// The faults of two texts, whose cells a semicolon separates; none if one is no table.
+fn faults_of(alloc: Global, places: &[u8], routes: &[u8]) -> Result<Vec<PeriodFault>, NoMemory> {
+    let none = Vec::new(alloc);
+    let Ok(places) = records_of(alloc, places, b';')? else {
+        return Ok(none);
+    };
+    let Ok(routes) = records_of(alloc, routes, b';')? else {
+        return Ok(none);
+    };
+    match read_periods(alloc, &places, &routes, None)? {
+        Ok(_) => Ok(none),
+        Err(faults) => Ok(faults),
+    }
+}
+
+// Whether the tables of a row have its fault, and no other.
+fn is_as_said(alloc: Global, row: &FaultRow) -> Result<bool, NoMemory> {
+    let (places, routes, table, number, head, kind) = *row;
+    let faults = faults_of(alloc, places, routes)?;
+    let wanted = [PeriodFault {
+        table,
+        row: number,
+        head,
+        kind,
+    }];
+    Ok(faults.as_slice() == wanted.as_slice())
+}
+
+// The decimal of this mantissa and so many places.
+fn decimal(mantissa: i128, places: u32) -> Decimal {
+    Decimal { mantissa, places }
+}
+
+// What a row says that names a period alone.
+fn plain(period: usize) -> PlaceTime {
+    PlaceTime {
+        period,
+        keep: None,
+        first: decimal(0, 0),
+        last: decimal(0, 0),
+    }
+}
+
+// Whether the tables say what they say.
+fn has_rows(tables: &PeriodTables<'_>) -> bool {
+    let depot = PlaceTime {
+        period: 0,
+        keep: Some(KeepEntry {
+            most: Some(decimal(20, 0)),
+            cost: decimal(5, 1),
+        }),
+        first: decimal(3, 0),
+        last: decimal(1, 0),
+    };
+    let places = [plain(1), depot, plain(2)];
+    let routes = [
+        RouteTime {
+            period: 0,
+            lead: decimal(0, 0),
+        },
+        RouteTime {
+            period: 2,
+            lead: decimal(1, 0),
+        },
+    ];
+    tables.periods.len() == 2
+        && tables.places.as_slice() == places.as_slice()
+        && tables.routes.as_slice() == routes.as_slice()
+}
+
+#[test]
+fn rows_hold_in_periods(rt: HostRuntime) -> Result<(), Fail> {
+    let (Ok(places), Ok(routes)) = (
+        records_of(rt.alloc(), PLACES, b';')?,
+        records_of(rt.alloc(), ROUTES, b';')?,
+    ) else {
+        assert!(rt; false);
+        return Ok(());
+    };
+    let is_said = match read_periods(rt.alloc(), &places, &routes, None)? {
+        Ok(tables) => has_rows(&tables),
+        Err(_) => false,
+    };
+    assert!(rt; is_said);
+    Ok(())
+}
+
+#[test]
+fn each_fault_of_periods_is_told(rt: HostRuntime) -> Result<(), Fail> {
+    for row in &ROWS {
+        let fits = is_as_said(rt.alloc(), row)?;
+        assert!(rt; fits);
+    }
+    Ok(())
+}
