@@ -37,7 +37,7 @@ may_be : (n : ℕ) (p : Pair) (c : Bool) → MayCarry (pair_route n p) (amount_o
 may_be n p true = record { enough = omega (arith, ints); fits = omega (arith, ints) }
 may_be n p false = record { enough = omega (arith, ints); fits = omega (arith, ints) }
 
-tests_again : (cs : List Bool) → map is_carried (map amount_of cs) ≡ cs
+pub tests_again : (cs : List Bool) → map is_carried (map amount_of cs) ≡ cs
 tests_again [] = refl
 tests_again (true ∷ cs) = ap (λ xs. true ∷ xs) (tests_again cs)
 tests_again (false ∷ cs) = ap (λ xs. false ∷ xs) (tests_again cs)

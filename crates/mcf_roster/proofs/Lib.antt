@@ -1,12 +1,12 @@
-mod RangeSums
-mod PairSums
-mod Balances
-mod Exchange
+pub mod RangeSums
+pub mod PairSums
+pub mod Balances
+pub mod Exchange
 mod SetSums
-mod Contests
+pub mod Contests
 mod ProperRosters
-mod ProperModels
-mod RowSteps
+pub mod ProperModels
+pub mod RowSteps
 mod OriginLists
-mod ToldAnswers
+pub mod ToldAnswers
 mod ToldSums

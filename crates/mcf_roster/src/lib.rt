@@ -33,4 +33,5 @@ pub use origins::{Origin, origin_of};
 pub use pairs::{Pair, Range};
 pub use reading::choice_of;
 pub use rosters::Roster;
+pub use rows::{plain_row, push_persons, push_things};
 pub use told::Competition;

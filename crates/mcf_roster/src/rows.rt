@@ -12,8 +12,9 @@ use mcf_model::RouteRow;
 use mcf_text::NoMemory;
 use std::alloc::Global;
 
-// Returns a route one way, for a number of units within a range.
-fn plain_row(tail: u32, head: u32, range: Range, cost: i64) -> RouteRow
+/// Returns a route one way between two places of a model, for a number of units within a range,
+/// each at a cost.
+pub fn plain_row(tail: u32, head: u32, range: Range, cost: i64) -> RouteRow
     ensures { result ≡ plain_row tail head range cost }
 {
     RouteRow {
@@ -56,8 +57,12 @@ fn push_pairs(
     Ok(())
 }
 
-// Appends the routes from the hub to persons.
-fn push_persons(hub: u32, takes: &[Range], rows: &mut Vec<RouteRow>) -> Result<(), NoMemory>
+/// Appends the routes from the hub to persons, of whom each takes a number of things within its
+/// range.
+///
+/// # Errors
+/// `NoMemory` if an allocation is refused.
+pub fn push_persons(hub: u32, takes: &[Range], rows: &mut Vec<RouteRow>) -> Result<(), NoMemory>
     requires few { length takes.now ≤ SIZE_LIMIT }
     ensures { OnOk result (rows.new.items ≡ rows.old.items ++ map (person_row hub takes.now) (range_with_len 1 (length takes.now))) }
 {
@@ -68,8 +73,12 @@ fn push_persons(hub: u32, takes: &[Range], rows: &mut Vec<RouteRow>) -> Result<(
     Ok(())
 }
 
-// Appends the routes from things, which are after so many persons, to the hub.
-fn push_things(
+/// Appends the routes from things, which are after so many persons, to the hub; each thing is taken
+/// by a number of persons within its range.
+///
+/// # Errors
+/// `NoMemory` if an allocation is refused.
+pub fn push_things(
     persons: u32,
     hub: u32,
     needs: &[Range],
