@@ -26,6 +26,18 @@ pub(crate) fn judge(search: &mut Search, state: &mut State<'_>, prices: &mut [i1
 {
     carry_all(search, state);
     write_prices(search, prices);
+    is_shown(state, prices)
+}
+
+/// Returns whether a state has no surplus, and prices show its flow, so that it is least: no
+/// residual arc with room has a reduced cost below 0 (Ahuja, Magnanti and Orlin, Network Flows,
+/// section 9.3).
+pub fn is_shown(state: &State<'_>, prices: &[i128]) -> bool
+    requires count { length prices.now ≡ node_count state.now.net }
+    requires small { All (IsUpTo near_limit) prices.now }
+    ensures least { result ≡ true → IsLeastState state.now.net state.now }
+    ensures near { result ≡ true → AreNearPrices state.now 1 0 prices.now }
+{
     has_no_surplus(state) && shows(state, prices)
 }
 
@@ -70,7 +82,8 @@ fn write_prices(search: &Search, prices: &mut [i128])
 
 // Whether no node has a surplus or a deficit.
 fn has_no_surplus(state: &State<'_>) -> bool
-    ensures { result ≡ true → HasNoSurplus state.now }
+    ensures none { result ≡ true → HasNoSurplus state.now }
+    ensures valid { IsPseudoflow state.now }
 {
     'nodes: for number in 0..state.net().node_count() {
         if !is_met(state, NodeId::at(number)) {

@@ -16,4 +16,5 @@ mod spreading;
 mod star;
 mod tables;
 
+pub use judging::is_shown;
 pub use searching::find_least;

@@ -8,8 +8,8 @@ pub nodes-preserved : goal.nodes-preserved
 nodes-preserved c =
     every_next (λ (v : ℕ). surplus_at c.args.state.now v ≡ pos 0) c.nodes.number c.at.result c.at.ensures c.nodes.invariant (c.is_met.ensures c.if-not-is_met.false)
 
-pub returns : goal.returns
-returns c =
+pub returns-clause-none : goal.returns-clause-none
+returns-clause-none c =
     let count = c.node_count-number-end.ensures.value ∙ ap (λ (g : Network). node_count g) c.net.ensures.value in
     let past = c.nodes-test.false in
     λ _ v h. c.nodes.invariant v (h.0, omega (arith, h, count, past))
