@@ -6,6 +6,8 @@
 //! others, so that all are proved at the same time. It has no other function.
 
 #[cfg(test)]
+mod again;
+#[cfg(test)]
 mod asking_again;
 #[cfg(test)]
 mod assigning;
