@@ -12,6 +12,7 @@
 mod device;
 mod fault;
 mod flow;
+mod hint;
 mod kind;
 mod meant;
 mod running;
@@ -24,4 +25,4 @@ pub use fault::RunFault;
 pub use kind::Kind;
 pub use mcf_choice::{BlockSize, Choice, EngineChoice, Form, PricingChoice};
 pub use running::{run, send};
-pub use solving::{solve_instance, solve_text};
+pub use solving::{solve_instance, solve_instance_from, solve_text};

@@ -16,10 +16,12 @@ ghost use Rattle.mcf_instance.specs.Reading.{reading};
 ghost use Rattle.std.specs.Prelude.{Ok};
 
 use crate::flow::flow_answer;
+use crate::hint::hint_of;
 use crate::kind::Kind;
 use crate::meant::Meant;
 use crate::set::set_answer;
 use crate::sparse::sparse_answer;
+use mcf_again::Again;
 use mcf_answer::{Answer, write};
 use mcf_assign::Sap;
 use mcf_cancel::Cancel;
@@ -149,6 +151,30 @@ pub fn solve_instance(
         Meant::ByFast => solve_by(alloc, instance, choice.form, &mut Fast::new()),
         Meant::BySap => solve_by(alloc, instance, choice.form, &mut Sap::new()),
     }
+}
+
+/// The answer to an instance, as by `solve_instance`, from the answer to a similar one: its flow by
+/// arc and its prices by node, in order.
+///
+/// The engine `Again` mends that answer, which may be anything: if it has other lengths, or little
+/// in common with the answer to this instance, `Fast` answers from nothing.
+///
+/// # Errors
+///
+/// `NoMemory` only if there are nodes.
+pub fn solve_instance_from(
+    alloc: Global,
+    instance: &Instance,
+    form: Form,
+    flow: &[i64],
+    prices: &[i64],
+) -> Result<Answer, NoMemory>
+    ensures owed { IfOk result (IsOwed (Ok instance.now)) }
+    ensures formed { IfOk result (HasForm form (Ok instance.now)) }
+    ensures wants { OnErr result (1 ≤ node_count instance.now) }
+{
+    let hint = hint_of(alloc, instance, flow, prices)?;
+    solve_by(alloc, instance, form, &mut Again::new(hint))
 }
 
 // The engine that is meant for a problem.

@@ -2,7 +2,7 @@
 use mcf_answer::Answer;
 use mcf_checker::{Verdict, check_flow};
 use mcf_instance::{Instance, RawArc, RawPair, assignment_problem, flow_problem};
-use mcf_solver::{Choice, solve_instance};
+use mcf_solver::{Choice, Form, solve_instance, solve_instance_from};
 use mcf_text::NoMemory;
 use std::alloc::Global;
 use std::test::Fail;
@@ -57,7 +57,29 @@ static PAIRS: [RawPair; 4] = [
 // Whether the answer to an instance is a flow of this cost, which the checker accepts.
 fn costs(alloc: Global, instance: &Instance, want: i128) -> Result<bool, NoMemory> {
     let answer = solve_instance(alloc, instance, Choice::default())?;
-    match &answer {
+    is_right(alloc, instance, &answer, want)
+}
+
+// The same from a flow and prices.
+fn costs_from(
+    alloc: Global,
+    instance: &Instance,
+    flow: &[i64],
+    prices: &[i64],
+    want: i128,
+) -> Result<bool, NoMemory> {
+    let answer = solve_instance_from(alloc, instance, Form::One, flow, prices)?;
+    is_right(alloc, instance, &answer, want)
+}
+
+// Whether an answer is a flow of this cost, which the checker accepts.
+fn is_right(
+    alloc: Global,
+    instance: &Instance,
+    answer: &Answer,
+    want: i128,
+) -> Result<bool, NoMemory> {
+    match answer {
         Answer::Flow(flow) => {
             let verdict = check_flow(alloc, instance, flow)?;
             Ok(verdict == Verdict::Flow(want))
@@ -83,5 +105,15 @@ fn an_assignment_problem_of_arrays(rt: HostRuntime) -> Result<(), Fail> {
         return Ok(());
     };
     assert!(rt; costs(rt.alloc(), &instance, 1)?);
+    Ok(())
+}
+
+#[test]
+fn a_flow_problem_from_the_answer_to_one_of_less_supply(rt: HostRuntime) -> Result<(), Fail> {
+    let Ok(instance) = flow_problem(rt.alloc(), &[5, 0, -5], &ARCS)? else {
+        assert!(rt; false);
+        return Ok(());
+    };
+    assert!(rt; costs_from(rt.alloc(), &instance, &[3, 3, 1], &[0, -1, -5], 10)?);
     Ok(())
 }
