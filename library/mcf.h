@@ -199,6 +199,16 @@ uint32_t mcf_solve_arcs(const struct mcf_flow_problem *problem, const struct mcf
                         int64_t *flow, size_t flow_length, int64_t *prices, size_t prices_length,
                         struct mcf_verdict *verdict);
 
+/* The same, from the answer to a similar problem: `flow` and `prices` hold it when the call begins,
+   as mcf_solve_arcs wrote them. Statuses, buffers and `verdict` are as there. The old answer may be
+   anything: the new one is right in any case, and is found faster if few costs, bounds and supplies
+   have changed. Of several least-cost flows it may be another one than that of mcf_solve_arcs; its
+   prices are the same. The engines MCF_AUTO and MCF_FAST mend the old answer; the others solve the
+   problem from nothing. */
+uint32_t mcf_solve_arcs_from(const struct mcf_flow_problem *problem,
+                             const struct mcf_choice *choice, int64_t *flow, size_t flow_length,
+                             int64_t *prices, size_t prices_length, struct mcf_verdict *verdict);
+
 /* An allowed pair: its row and its column, both from 1, and its cost. */
 struct mcf_pair {
     uint32_t row, column;

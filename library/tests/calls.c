@@ -70,6 +70,8 @@ static int check_arcs(void) {
     static const struct mcf_arc other[3] = {{1, 2, 0, 3, 1}, {2, 3, 4, 3, -1}, {1, 3, 0, 9, 5}};
     static const struct mcf_flow_problem problem = {supplies, 3, arcs, 3},
                                          richer = {more, 3, arcs, 3};
+    static const struct mcf_arc dearer[3] = {{1, 2, 0, 3, 1}, {2, 3, 0, 3, 9}, {1, 3, 0, 9, 5}};
+    static const struct mcf_flow_problem changed = {supplies, 3, dearer, 3};
     static const struct mcf_flow_problem faulty = {supplies, 3, other, 3},
                                          nothing = {supplies, 0, arcs, 0};
     int64_t flow[3], prices[3];
@@ -81,6 +83,13 @@ static int check_arcs(void) {
                       verdict.high == 0 && verdict.negative == 0);
         CHECK(13, mcf_check_arcs(&problem, flow, 3, prices, 3, &verdict) == 0 &&
                       verdict.kind == MCF_ACCEPTED_FLOW);
+        CHECK(27, mcf_solve_arcs_from(&changed, &choice, flow, 3, prices, 3, &verdict) == MCF_FLOW);
+        CHECK(28, flow[0] == 0 && flow[1] == 0 && flow[2] == 4 && verdict.low == 20);
+        CHECK(29, mcf_solve_arcs_from(&problem, &choice, flow, 3, prices, 3, &verdict) == MCF_FLOW);
+        CHECK(30, flow[0] == 3 && flow[1] == 3 && flow[2] == 1 && verdict.low == 5);
+        CHECK(31,
+              mcf_solve_arcs_from(&richer, &choice, flow, 3, prices, 3, &verdict) == MCF_BLOCKED);
+        CHECK(32, mcf_solve_arcs_from(&problem, &choice, flow, 3, prices, 3, &verdict) == MCF_FLOW);
         choice.check = choice.engine & 1;
     }
     verdict.low = 6;

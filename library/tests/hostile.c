@@ -168,6 +168,7 @@ struct problem {
 };
 
 static struct problem now;
+static int is_again;
 static uint8_t *supply_end, *arc_end, *flow_end, *price_end, *other_flow_end, *other_price_end;
 
 static int64_t bound(void) {
@@ -361,8 +362,13 @@ static uint32_t call(const struct mcf_choice *choice, int64_t *flow, size_t flow
         return now.is_pairs
                    ? mcf_check_pairs(&pairs, flow, flow_length, prices, prices_length, verdict)
                    : mcf_check_arcs(&flows, flow, flow_length, prices, prices_length, verdict);
-    return now.is_pairs
-               ? mcf_solve_pairs(&pairs, choice, flow, flow_length, prices, prices_length, verdict)
+    if (now.is_pairs)
+        return mcf_solve_pairs(&pairs, choice, flow, flow_length, prices, prices_length, verdict);
+    /* Every other call starts from what the buffers hold. */
+    is_again = !is_again;
+    return is_again
+               ? mcf_solve_arcs_from(&flows, choice, flow, flow_length, prices, prices_length,
+                                     verdict)
                : mcf_solve_arcs(&flows, choice, flow, flow_length, prices, prices_length, verdict);
 }
 

@@ -184,9 +184,11 @@ static uint32_t call(int number) {
                                            20, column_wides, 20, &told_doubles.scale);
     case 14:
         return plan_flow();
-    default:
+    case 15:
         return mcf_plan_pairs(bytes_of(pair_case->costs), strlen(pair_case->costs),
                               &pair_case->options, buffer, sizeof buffer, &used);
+    default:
+        return mcf_solve_arcs_from(&problem, &choice, flow, arc_count, prices, nodes, &verdict);
     }
 }
 
@@ -196,8 +198,8 @@ static int refuse_each(int number) {
     long step;
     for (step = 0;; step++) {
         uint32_t status;
-        int solves = number == 2 || number == 4 || number == 6 || number == 8;
-        int answers = number == 0 || number > 13;
+        int solves = number == 2 || number == 4 || number == 6 || number == 8 || number == 16;
+        int answers = number == 0 || number == 14 || number == 15;
         int is_wide = number == 10 || number == 12, plans = number == 8 || number == 12;
         memset(&verdict, 9, sizeof verdict);
         if (answers) memset(buffer, 7, sizeof buffer);
@@ -295,9 +297,10 @@ int main(int count, char **words) {
             choice.check = choice.pricing & 1;
             for (number = 2; number < 6; number++)
                 if (refuse_each(number)) return 1;
+            if (refuse_each(16)) return 1;
             /* The supply exceeds the capacities. */
             supplies[0] += 1000, supplies[29] -= 1000;
-            if (refuse_each(2)) return 1;
+            if (refuse_each(2) || refuse_each(16)) return 1;
             supplies[0] -= 1000, supplies[29] += 1000;
         }
     /* Call it with the same matrix, and with one that allows only one column. */

@@ -1,6 +1,6 @@
 -- What the numbers of a call choose.
 -- Source: own
-use Rattle.std.specs.Prelude.{ℕ, ◌==◌, nat_le, Option, Some, None, if◌then◌else◌}
+use Rattle.std.specs.Prelude.{ℕ, ◌==◌, nat_le, Bool, true, false, Option, Some, None, if◌then◌else◌}
 use Rattle.mcf_c.specs.declared.choosing.McfChoice.{McfChoice}
 use Rattle.mcf_choice.specs.BlockSizes.{block_limit, standard_block}
 use Rattle.mcf_choice.specs.declared.choice.Choice.{Choice}
@@ -39,3 +39,12 @@ choice_from (Some engine) (Some pricing) (Some block) None = None
 -- the choice that the numbers mean, if they mean one
 abbrev pub choice_of : McfChoice → Option Choice
 choice_of c = choice_from (engine_of c.engine) (pricing_of c.pricing) (block_of c.block) (form_of c.form)
+
+-- whether an engine is one that mends the answer to a similar problem where there is one
+abbrev pub is_mender : EngineChoice → Bool
+is_mender Auto = true
+is_mender Cancel = false
+is_mender Simplex = false
+is_mender Scaling = false
+is_mender Sap = false
+is_mender Fast = true

@@ -1,6 +1,6 @@
 //! Flow problems and assignment problems solved in arrays, without texts.
 ghost use Rattle.std.specs.Prelude.{◌≡◌, ◌≢◌, ◌≤◌, ◌<◌, ◌⊎◌, ◌↔◌, ◌+◌, IfErr, IfOk, IfSome, None, is_ok, length, true, false};
-ghost use Rattle.mcf_c.specs.Choices.{choice_of};
+ghost use Rattle.mcf_c.specs.Choices.{choice_of, is_mender};
 ghost use Rattle.mcf_c.specs.Handing.{HandsFault, HandsFlow, HandsSet, HasWidePrice, IsMadeFlow, KeepsSizes, TakesMemory};
 ghost use Rattle.mcf_c.specs.Problems.{assignment_network, flow_network};
 ghost use Rattle.mcf_c.specs.Verdicts.{TellsFault};
@@ -8,7 +8,7 @@ ghost use Rattle.mcf_flows.specs.Limits.{limits};
 ghost use Rattle.mcf_flows.specs.Network.{node_count};
 ghost use Rattle.mcf_flows.specs.WellFormed.{IsWellFormed};
 
-use crate::choosing::{Asked, McfChoice, choice_of};
+use crate::choosing::{Asked, McfChoice, choice_of, is_mender};
 use crate::handing::answer_instance;
 use crate::problems::{McfAssignment, McfFlowProblem, node_count};
 use crate::statuses::{BUFFER_TOO_SMALL, INVALID_CHOICE, INVALID_INPUT, NO_MEMORY};
@@ -30,7 +30,7 @@ fn answer_made(
     requires prices { IfOk made (λ g. length prices.old ≡ node_count g) }
     ensures statuses { (result ≤ 3) ⊎ (result ≡ 6) }
     ensures flow { result ≡ 0 → IfOk made (λ g. HandsFlow g flow.new prices.new told.new) × (is_ok made ≡ true) }
-    ensures made { result ≡ 0 → IfOk made (λ g. IsMadeFlow asked.choice g flow.new) }
+    ensures made { result ≡ 0 → asked.is_again ≡ false → IfOk made (λ g. IsMadeFlow asked.choice g flow.new) }
     ensures set { result ≡ 1 → IfOk made (λ g. HandsSet g prices.new told.new) × (is_ok made ≡ true) }
     ensures fault { result ≡ 2 → IfErr made (λ fault. TellsFault fault told.new) × (is_ok made ≡ false) }
     ensures memory { result ≡ 3 → IfOk made (λ g. TakesMemory asked.choice.engine g) × (is_ok made ≡ true) }
@@ -48,13 +48,15 @@ fn answer_made(
     }
 }
 
-// What a call is asked, by the choice that its numbers mean.
+// What a call is asked, by the choice that its numbers mean: to solve an instance from nothing.
 fn asked(choice: Choice, numbers: &McfChoice) -> Asked
-    ensures { result.choice ≡ choice }
+    ensures choice { result.choice ≡ choice }
+    ensures anew { result.is_again ≡ false }
 {
     Asked {
         choice,
         is_judged: numbers.check != 0,
+        is_again: false,
     }
 }
 
@@ -102,6 +104,63 @@ pub extern "C" fn mcf_solve_arcs(
         return NO_MEMORY;
     };
     answer_made(alloc, made, asked, flow, prices, told)
+}
+
+/// Solves a flow problem from the answer to a similar one, which `flow` and `prices` hold, as
+/// `mcf_solve_arcs` writes them, and writes the new answer over it.
+///
+/// The statuses and what is written are those of `mcf_solve_arcs`. The old answer may be anything:
+/// the new one is right in any case, and is found faster if few costs, bounds and supplies have
+/// changed since (reoptimization: Ahuja, Magnanti and Orlin, Network Flows, section 9.11). The
+/// engines auto and fast mend the old answer; the others solve the problem from nothing.
+#[unsafe(no_mangle)]
+pub extern "C" fn mcf_solve_arcs_from(
+    alloc: Global,
+    problem: &McfFlowProblem<'_>,
+    choice: &McfChoice,
+    flow: &mut [i64],
+    prices: &mut [i64],
+    told: &mut McfVerdict,
+) -> u32
+    ensures statuses { result ≤ 6 }
+    ensures flow { result ≡ 0 → HandsFlow (flow_network problem.now) flow.new prices.new told.new }
+    ensures made { result ≡ 0 → IfSome (choice_of choice.now) (λ c. is_mender c.engine ≡ false → IsMadeFlow c (flow_network problem.now) flow.new) }
+    ensures set { result ≡ 1 → HandsSet (flow_network problem.now) prices.new told.new }
+    ensures fault { result ≡ 2 → HandsFault (flow_network problem.now) told.new }
+    ensures within { (result ≤ 1) ⊎ (result ≡ 6) → IsWellFormed limits (flow_network problem.now) }
+    ensures memory { result ≡ 3 → IfSome (choice_of choice.now) (λ c. TakesMemory c.engine (flow_network problem.now)) }
+    ensures sized { result ≡ 3 → KeepsSizes (flow_network problem.now) }
+    ensures room { result ≡ 4 → (length flow.old ≢ length (flow_network problem.now).arcs) ⊎ (length prices.old ≢ node_count (flow_network problem.now)) }
+    ensures choice { (result ≡ 5) ↔ (choice_of choice.now ≡ None) }
+    ensures wide { result ≡ 6 → HasWidePrice (flow_network problem.now) }
+    ensures flow_stays { (1 ≤ result) × (result ≤ 5) → flow.new ≡ flow.old }
+    ensures prices_stay { (2 ≤ result) × (result ≤ 5) → prices.new ≡ prices.old }
+    ensures told_stays { 3 ≤ result → told.new ≡ told.old }
+{
+    let Some(chosen) = choice_of(choice) else {
+        return INVALID_CHOICE;
+    };
+    let asked = asked_again(chosen, choice);
+    let (arcs, nodes) = (problem.arcs.len(), problem.supplies.len());
+    if !are_rooms(flow, arcs, prices, nodes) {
+        return BUFFER_TOO_SMALL;
+    }
+    let Ok(made) = flow_problem(alloc, problem.supplies, problem.arcs) else {
+        return NO_MEMORY;
+    };
+    answer_made(alloc, made, asked, flow, prices, told)
+}
+
+// What such a call is asked: to mend the answer in its buffers, if the engine does.
+fn asked_again(choice: Choice, numbers: &McfChoice) -> Asked
+    ensures choice { result.choice ≡ choice }
+    ensures again { result.is_again ≡ is_mender choice.engine }
+{
+    Asked {
+        choice,
+        is_judged: numbers.check != 0,
+        is_again: is_mender(choice.engine),
+    }
 }
 
 /// Whether arrays for the arcs and for the nodes have these lengths.

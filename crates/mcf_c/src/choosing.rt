@@ -1,6 +1,6 @@
 //! The choice that the numbers of a call mean.
 ghost use Rattle.std.specs.Prelude.{◌≡◌};
-ghost use Rattle.mcf_c.specs.Choices.{block_of, choice_of, engine_of, form_of, pricing_of};
+ghost use Rattle.mcf_c.specs.Choices.{block_of, choice_of, engine_of, form_of, is_mender, pricing_of};
 
 use mcf_solver::{BlockSize, Choice, EngineChoice, Form, PricingChoice};
 
@@ -16,12 +16,13 @@ pub struct McfChoice {
     pub check: u32,
 }
 
-/// What a call for arrays is asked: how to solve the instance, and whether the checker judges the
-/// flow before the call returns it.
+/// What a call for arrays is asked: how to solve the instance, whether the checker judges the flow
+/// before the call returns it, and whether its buffers hold the answer to a similar instance.
 #[derive(Clone, Copy)]
 pub(crate) struct Asked {
     pub(crate) choice: Choice,
     pub(crate) is_judged: bool,
+    pub(crate) is_again: bool,
 }
 
 // The engine with a number.
@@ -87,4 +88,15 @@ pub(crate) fn choice_of(numbers: &McfChoice) -> Option<Choice>
         block,
         form,
     })
+}
+
+/// Whether an engine is one that mends the answer to a similar problem where there is one.
+pub(crate) fn is_mender(engine: EngineChoice) -> bool
+    ensures { result ≡ is_mender engine }
+{
+    match engine {
+        EngineChoice::Auto | EngineChoice::Fast => true,
+        EngineChoice::Cancel | EngineChoice::Simplex | EngineChoice::Scaling | EngineChoice::Sap =>
+            false,
+    }
 }

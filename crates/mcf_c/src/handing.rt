@@ -8,6 +8,8 @@ ghost use Rattle.mcf_checker.specs.Correct.{IsRightSolution, amounts};
 ghost use Rattle.mcf_flows.specs.Blocking.{in_list, in_table};
 ghost use Rattle.mcf_flows.specs.Network.{IsNode, Network, node_count};
 ghost use Rattle.mcf_solver.specs.Answering.{IsNoFlowProof, IsOwed};
+ghost use Rattle.mcf_solver.specs.Forms.{HasForm};
+ghost use Rattle.mcf_solver.specs.Making.{HasMadeFlow, IsMadeBy};
 
 use crate::choosing::Asked;
 use crate::judging::accepts;
@@ -17,7 +19,7 @@ use mcf_answer::{Answer, BlockedAnswer, FlowAnswer, Sent};
 use mcf_checker::{Verdict, check_flow};
 use mcf_flows::NODE_LIMIT;
 use mcf_instance::{Instance, table_of};
-use mcf_solver::{Choice, Form, solve_instance};
+use mcf_solver::{Choice, Form, solve_instance, solve_instance_from};
 use mcf_text::NoMemory;
 use std::alloc::Global;
 
@@ -177,7 +179,7 @@ pub(crate) fn answer_instance(
     requires prices { length prices.old ≡ node_count instance.now }
     ensures statuses { (result ≤ 1) ⊎ ((result ≡ 3) ⊎ (result ≡ 6)) }
     ensures flow { result ≡ 0 → HandsFlow instance.now flow.new prices.new told.new }
-    ensures made { result ≡ 0 → IsMadeFlow asked.choice instance.now flow.new }
+    ensures made { result ≡ 0 → asked.is_again ≡ false → IsMadeFlow asked.choice instance.now flow.new }
     ensures set { result ≡ 1 → HandsSet instance.now prices.new told.new }
     ensures memory { result ≡ 3 → TakesMemory asked.choice.engine instance.now }
     ensures wide { result ≡ 6 → HasWidePrice instance.now }
@@ -186,12 +188,12 @@ pub(crate) fn answer_instance(
     ensures told_stays { (result ≡ 3) ⊎ (result ≡ 6) → told.new ≡ told.old }
 {
     prove!(instance.node_count() <= NODE_LIMIT);
-    let choice = in_one_form(asked.choice);
-    let Ok(answer) = solve_instance(alloc, instance, choice) else {
+    let is_judged = asked.is_judged;
+    let Ok(answer) = answer_asked(alloc, instance, asked, flow, prices) else {
         return NO_MEMORY;
     };
     match &answer {
-        Answer::Flow(answer) => match is_accepted(alloc, instance, answer, asked.is_judged) {
+        Answer::Flow(answer) => match is_accepted(alloc, instance, answer, is_judged) {
             Ok(true) => hand_flow(answer, flow, prices, told),
             Ok(false) => NOT_SHOWN,
             Err(_) => NO_MEMORY,
@@ -199,6 +201,26 @@ pub(crate) fn answer_instance(
         Answer::Blocked(answer) => hand_set(alloc, instance, answer, prices, told),
         Answer::Sparse(_) | Answer::Refused(_) => unreachable!(),
     }
+}
+
+// The answer to an instance: from nothing, or from the answer to a similar one.
+fn answer_asked(
+    alloc: Global,
+    instance: &Instance,
+    asked: Asked,
+    flow: &[i64],
+    prices: &[i64],
+) -> Result<Answer, NoMemory>
+    ensures owed { IfOk result (IsOwed (Ok instance.now)) }
+    ensures made { asked.is_again ≡ false → IfOk result (HasMadeFlow (IsMadeBy asked.choice) (Ok instance.now)) }
+    ensures formed { IfOk result (HasForm Form.One (Ok instance.now)) }
+    ensures wants { OnErr result (TakesMemory asked.choice.engine instance.now) }
+{
+    if asked.is_again {
+        return solve_instance_from(alloc, instance, Form::One, flow, prices);
+    }
+    let choice = in_one_form(asked.choice);
+    solve_instance(alloc, instance, choice)
 }
 
 // The choice with the full form.

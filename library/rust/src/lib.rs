@@ -154,6 +154,17 @@ pub fn solve_arcs(supplies: &[i64], arcs: &[Arc], choice: Choice) -> Result<Answ
     answer_of(status, flow, prices, told)
 }
 
+/// The answer to the flow problem of these supplies and arcs, from the flow and the prices of the
+/// answer to a similar one. They may be anything, but only if they are nearly right is this faster
+/// than `solve_arcs`, and only for the engines `Auto` and `Fast`.
+pub fn solve_arcs_from(supplies: &[i64], arcs: &[Arc], choice: Choice, flow: Vec<i64>, prices: Vec<i64>) -> Result<Answer, Error> {
+    let (mut flow, mut prices, mut told) = (flow, prices, raw::Told::default());
+    flow.resize(arcs.len(), 0);
+    prices.resize(supplies.len(), 0);
+    let status = raw::solve_arcs_from(supplies, arcs, &choice, &mut flow, &mut prices, &mut told);
+    answer_of(status, flow, prices, told)
+}
+
 /// The answer to an assignment problem with these pairs. Its nodes are the rows and then the
 /// columns, and its arcs are the pairs.
 pub fn solve_pairs(rows: u32, columns: u32, pairs: &[Pair], choice: Choice) -> Result<Answer, Error> {

@@ -253,6 +253,8 @@ mod exports {
         pub fn mcf_check(input: *const u8, input_length: usize, answer: *const u8, answer_length: usize, told: *mut Told) -> u32;
         pub fn mcf_solve_arcs(problem: *const FlowProblem, choice: *const Choice,
             flow: *mut i64, flow_length: usize, prices: *mut i64, prices_length: usize, told: *mut Told) -> u32;
+        pub fn mcf_solve_arcs_from(problem: *const FlowProblem, choice: *const Choice,
+            flow: *mut i64, flow_length: usize, prices: *mut i64, prices_length: usize, told: *mut Told) -> u32;
         pub fn mcf_check_arcs(problem: *const FlowProblem,
             flow: *const i64, flow_length: usize, prices: *const i64, prices_length: usize, told: *mut Told) -> u32;
         pub fn mcf_solve_pairs(problem: *const Assignment, choice: *const Choice,
@@ -313,6 +315,11 @@ pub fn check(input: &[u8], answer: &[u8], told: &mut Told) -> u32 {
 pub fn solve_arcs(supplies: &[i64], arcs: &[Arc], choice: &Choice, flow: &mut [i64], prices: &mut [i64], told: &mut Told) -> u32 {
     let problem = FlowProblem::of(supplies, arcs);
     unsafe { exports::mcf_solve_arcs(&problem, choice, flow.as_mut_ptr(), flow.len(), prices.as_mut_ptr(), prices.len(), told) }
+}
+
+pub fn solve_arcs_from(supplies: &[i64], arcs: &[Arc], choice: &Choice, flow: &mut [i64], prices: &mut [i64], told: &mut Told) -> u32 {
+    let problem = FlowProblem::of(supplies, arcs);
+    unsafe { exports::mcf_solve_arcs_from(&problem, choice, flow.as_mut_ptr(), flow.len(), prices.as_mut_ptr(), prices.len(), told) }
 }
 
 pub fn check_arcs(supplies: &[i64], arcs: &[Arc], flow: &[i64], prices: &[i64], told: &mut Told) -> u32 {

@@ -1,4 +1,4 @@
-use mcf::{assign_doubles, assign_matrix, check, check_arcs, plan_flow, plan_pairs, solve, solve_arcs, solve_pairs, transport};
+use mcf::{assign_doubles, assign_matrix, check, check_arcs, plan_flow, plan_pairs, solve, solve_arcs, solve_arcs_from, solve_pairs, transport};
 use mcf::{Answer, Arc, Assigned, AssignedDoubles, Choice, Decimal, Each, Error, Kind, Pair, PairOptions, PlanOptions, Planned, Shipment, Side};
 
 const TEXT: &[u8] = b"p min 3 3\nn 1 4\nn 3 -4\na 1 2 0 3 1\na 2 3 0 3 -1\na 1 3 0 9 5\n";
@@ -64,6 +64,9 @@ fn arrays() {
         let Ok(Answer::Flow { cost, flow, prices }) = solve_arcs(&[4, 0, -4], &ARCS, engine(number)) else { panic!() };
         assert_eq!((cost, &flow[..]), (5, &[3, 3, 1][..]));
         assert!(check_arcs(&[4, 0, -4], &ARCS, &flow, &prices, 5).unwrap().unwrap().accepted);
+        let more = solve_arcs_from(&[5, 0, -5], &ARCS, engine(number), flow.clone(), prices.clone());
+        assert!(matches!(more, Ok(Answer::Flow { cost: 10, flow, .. }) if flow == [3, 3, 2]));
+        assert_eq!(solve_arcs_from(&[4, 0, -4], &ARCS, engine(number), vec![], vec![]), Ok(Answer::Flow { cost, flow: flow.clone(), prices: prices.clone() }));
         assert!(!check_arcs(&[4, 0, -4], &ARCS, &flow, &prices, 6).unwrap().unwrap().accepted);
         assert_eq!(check_arcs(&[4, 0, -4], &ARCS, &flow, &prices[1..], 5), Ok(None));
     }
