@@ -83,6 +83,7 @@ for python in $(interpreters); do
     version=$("$python" -V)
     step "$version" env MCF_LIBRARY="$top/bin/libmcf.so" "$python" python/tests/library.py
     step "$version, arrays" env MCF_LIBRARY="$top/bin/libmcf.so" "$python" python/tests/arrays.py
+    step "$version, problems solved again" env MCF_LIBRARY="$top/bin/libmcf.so" "$python" python/tests/problems.py
     step "$version, hostile arguments" env MCF_LIBRARY="$top/bin/libmcf.so" "$python" python/tests/hostile.py
 done
 python=$(having "mypy, numpy" "types of the module") && {

@@ -1,6 +1,7 @@
 """Minimum-cost flow with proved answers.
 
-`solve` takes supplies and arcs, and `solve_arrays` columns of them. `linear_sum_assignment` and
+`solve` takes supplies and arcs, and `solve_arrays` columns of them; a `Problem` of such columns is
+changed and solved again. `linear_sum_assignment` and
 `assign` take a cost matrix, `transport` one with supplies and demands, and `emd` and `emd2`
 histograms, as POT's functions of these names do. `SimpleMinCostFlow`, `SimpleMaxFlow` and
 `SimpleLinearSumAssignment` have the methods of OR-tools' classes, and `mcf.nx` takes networkx
@@ -22,6 +23,7 @@ from ._waiting import time_limit
 from .assigning import Assignment, assign
 from .assignment import linear_sum_assignment
 from .earth_mover import emd, emd2
+from .problem import Problem
 from .simple import SimpleLinearSumAssignment, SimpleMaxFlow, SimpleMinCostFlow
 from .tables import PlanAnswer, plan_flow, plan_pairs
 from .transportation import Plan, transport
@@ -35,6 +37,7 @@ __all__ = [
     "NotAccepted",
     "Plan",
     "PlanAnswer",
+    "Problem",
     "Refused",
     "SimpleLinearSumAssignment",
     "SimpleMaxFlow",

@@ -177,17 +177,24 @@ def _solve_whole(
         raise OverflowError
     rows = kind.rows((src, dst), (low, cap, cost))
     problem = ArcArrays(amounts, len(amounts), rows, len(src))
-    status = problem.solve(choice, check)
+    named = {"src": src, "dst": dst, "low": low, "cap": cap, "cost": cost}
+    return problem, answered(problem, problem.solve(choice, check), amounts, named, check)
+
+
+def answered(
+    problem: ArcArrays, status: int, amounts: Values, columns: Mapping[str, Any], check: bool
+) -> Optional[Verdict]:
+    """The checker's verdict on the flow of a problem that was solved, or None if it wasn't asked.
+    It raises the exception of another status."""
     if status in (INVALID_INPUT, BLOCKED):
-        lows = repeat(0) if low is None else values_of(low)
-        arcs: List[Arc] = list(
-            zip(values_of(src), values_of(dst), lows, values_of(cap), values_of(cost))
-        )
+        lows = repeat(0) if columns["low"] is None else values_of(columns["low"])
+        src, dst, cap, cost = (values_of(columns[name]) for name in ("src", "dst", "cap", "cost"))
+        arcs: List[Arc] = list(zip(src, dst, lows, cap, cost))
         limits = Limits(arcs, [], set())  # type: ignore[arg-type]
         if status == INVALID_INPUT:
             raise refused_by(problem, values_of(amounts), limits)
         raise blocked_by(problem, values_of(amounts), arcs, limits, check)
-    return problem, problem.accepted() if check else None
+    return problem.accepted() if check else None
 
 
 def solve_arrays(

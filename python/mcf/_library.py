@@ -272,6 +272,7 @@ def _load() -> ctypes.CDLL:
         "mcf_plan_flow": [*text, *text, by(PlanOptions), *written],
         "mcf_plan_pairs": [*text, by(PairOptions), *written],
         "mcf_solve_arcs": [flow_problem, by(Choice), *rooms, by(Told)],
+        "mcf_solve_arcs_from": [flow_problem, by(Choice), *rooms, by(Told)],
         "mcf_check_arcs": [flow_problem, *rooms, by(Told)],
         "mcf_solve_pairs": [assignment, by(Choice), *rooms, by(Told)],
         "mcf_check_pairs": [assignment, *rooms, by(Told)],
@@ -457,6 +458,14 @@ class ArcArrays(Arrays):
         self.problem = FlowProblem(at(supplies), nodes, at(arcs), arc_count)
         self._solve, self._check = _lib.mcf_solve_arcs, _lib.mcf_check_arcs
         self._room(arc_count, nodes)
+
+    def solve_from(
+        self, flow: "array[int]", prices: "array[int]", choice: Choice, check: bool
+    ) -> int:
+        """The same as `solve`, from the flow and the prices of the answer to a similar problem."""
+        self.flow[:], self.prices[:] = flow, prices
+        self._solve = _lib.mcf_solve_arcs_from
+        return self.solve(choice, check)
 
     def ranges(self, arcs: "array[int]") -> Tuple[int, Told, Any]:
         """The status of the call for the ranges of the costs of some arcs, numbered from 1, what it
