@@ -8,3 +8,4 @@ pub mod Placing
 pub mod Growing
 pub mod ToldAnswers
 pub mod Made
+pub mod CutGroups

@@ -20,3 +20,4 @@ pub mod GroupModels
 pub mod GroupLaws
 pub mod LinkRows
 pub mod GroupAnswers
+pub mod Crossings

@@ -1,4 +1,5 @@
 //! Laws. Each is the contract of a function with an empty body.
+ghost use Rattle.mcf_groups.specs.Crossings.{CrossingsAreCut};
 ghost use Rattle.mcf_groups.specs.GroupLaws.{GroupsAreModels, LeastPlansAreLeastGroupChoices};
 ghost use Rattle.mcf_groups.specs.SplitLaws.{SplitsKeepPlans};
 
@@ -17,4 +18,10 @@ pub fn groups_are_models()
 /// A least plan of the model is a least choice that keeps to all groups.
 pub fn least_plans_are_least_group_choices()
     ensures { LeastPlansAreLeastGroupChoices }
+{}
+
+/// Where a group crosses, there is an earlier group of the same kind that has some of its members,
+/// and not all.
+pub fn crossings_are_cut()
+    ensures { CrossingsAreCut }
 {}

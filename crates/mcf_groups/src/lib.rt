@@ -9,10 +9,11 @@
 //! range. So groups of one kind must be nested or disjoint, and an outer one comes before an inner
 //! one. The definitions are in `specs/`: `Splits` and `SplitLaws` have the splitting of places, for
 //! any model, `Groups` groups and choices that keep to them, `Nests` where pairs stand,
-//! `GroupModels` the models, `GroupLaws` the laws between both, `GroupFaults` the faults, and
-//! `GroupAnswers` the answers.
+//! `GroupModels` the models, `GroupLaws` the laws between both, `GroupFaults` the faults,
+//! `Crossings` which group a group crosses, and `GroupAnswers` the answers.
 
 mod answering;
+mod crossings;
 mod faults;
 mod groups;
 mod laws;
@@ -22,7 +23,10 @@ mod nesting;
 mod nests;
 
 pub use answering::{GroupAnswer, GroupCompetition, least};
+pub use crossings::crossed_by;
 pub use faults::{GroupFault, GroupFaultKind, PLACE_LIMIT};
 pub use groups::{Group, Members};
-pub use laws::{groups_are_models, least_plans_are_least_group_choices, splits_keep_plans};
+pub use laws::{
+    crossings_are_cut, groups_are_models, least_plans_are_least_group_choices, splits_keep_plans,
+};
 pub use making::group_model;

@@ -2,7 +2,8 @@
 //! suite.
 use mcf_choice::Choice;
 use mcf_groups::{
-    Group, GroupAnswer, GroupCompetition, GroupFault, GroupFaultKind, Members, group_model, least,
+    Group, GroupAnswer, GroupCompetition, GroupFault, GroupFaultKind, Members, crossed_by,
+    group_model, least,
 };
 use mcf_planner::Planner as Engine;
 use mcf_roster::{LeastChoice, Pair, Range, Roster};
@@ -157,6 +158,7 @@ fn groups_that_cross(rt: HostRuntime) -> Result<(), Fail> {
         what: GroupFaultKind::Crossing,
     };
     assert!(rt; fault_in(&answer) == Some(crossing));
+    assert!(rt; crossed_by(&groups, 2) == Some(1));
     Ok(())
 }
 
