@@ -55,8 +55,10 @@ export class Faults {
     }
   }
 
-  end() {
-    if (this.kinds.size) throw new BadTable([...this.kinds.values()].map(told));
+  // This method throws a BadTable if there was a fault, with notes on how the tables were read.
+  /** @param {string[]} [notes] */
+  end(notes = []) {
+    if (this.kinds.size) throw new BadTable([...[...this.kinds.values()].map(told), ...notes]);
   }
 }
 

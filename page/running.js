@@ -62,7 +62,7 @@ async function untold(solver, texts, reading, options) {
 async function answered(solver, texts, reading, options, faults) {
   const answer = await untold(solver, Object.values(texts), reading, options);
   new Teller(texts, reading, faults, options.penalty).tell(answer.found);
-  faults.end();
+  faults.end(Object.values(texts).flatMap(({ notes }) => notes));
   return answer;
 }
 

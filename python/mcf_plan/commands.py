@@ -49,7 +49,7 @@ class Asking:
         """The answer to the tables with further options. Ends the run if they have faults."""
         found = self.untold(*more)
         Teller(self.words, self.tables, self.options, self.faults).tell(found)
-        self.faults.end()
+        self.faults.end(notes.prepared_lines(self.tables))
         return found
 
     def planned(self):

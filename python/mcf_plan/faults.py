@@ -67,7 +67,7 @@ class Faults:
         where += f", column {at.column}" if at.column else ""
         self.kinds.setdefault(key, Kind(f"{where}: {text}")).add(at.line, cell)
 
-    def end(self):
-        """Ends the run if there was a fault."""
+    def end(self, notes=()):
+        """Ends the run if there was a fault, with notes on how the tables were read."""
         if self.kinds:
-            raise bad_table("\n".join(kind.told() for kind in self.kinds.values()))
+            raise bad_table("\n".join([*(kind.told() for kind in self.kinds.values()), *notes]))
