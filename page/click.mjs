@@ -265,6 +265,13 @@ async function planner(page, { set, act, go, kind, example, ended }) {
     'a file of heads, and a workbook, which is told at once'
   );
   await set('heads', '');
+  await page.run(`(() => {
+    const data = new DataTransfer();
+    data.items.add(${dropped('x.csv', 'Standort;Menge\nA;3\nB;-3\n')});
+    dispatchEvent(new DragEvent('drop', { dataTransfer: data }));
+  })()`);
+  await page.until("document.getElementById('places').value.startsWith('Standort')", 10);
+  expect(true, 'a table with demands is one of places, whatever its heads are');
   await kind('pairs');
   await set('costs', 'who,what,cost\nAnna,Früh,1\nBert,Früh,2\n');
   ({ text } = await go());

@@ -36,6 +36,8 @@ const WHY = {
 };
 // A file longer than this isn't shown in its field.
 const FIELD = 400000;
+// A number below 0, as places that take have it, and hardly any costs of pairs.
+const DEMAND = /[;,\t]"?[-\u2212][0-9]/;
 /** @type {Record<string, string>} */
 const FIELDS = { places: 'Places', routes: 'Routes', costs: 'Costs', dimacs: 'Instance' };
 
@@ -147,7 +149,8 @@ async function take(list) {
     else if (!/\b(name|supply|ort|angebot)\b/i.test(first)) {
       id = kindOf() === 'flow' && /route|strecke|lane|kante/i.test(file.name)
         ? 'routes'
-        : kindOf() === 'flow' && /place|ort|node/i.test(file.name) ? 'places' : 'costs';
+        : kindOf() === 'flow' && (/place|ort|node/i.test(file.name) || DEMAND.test(begin))
+          ? 'places' : 'costs';
     }
     let text = `(${file.name}, ${grouped(String(bytes.length))} bytes)`;
     try {
