@@ -22,7 +22,8 @@ SIZES, JUDGED = (14, 16, 17), 16
 LIMITS = {"netgen": 0.9, "gridgen": 1.1, "road": 1.0, "goto": 0.7}
 # for the engine `fast`: the families, the sizes, and the greatest ratios by size and family
 FAST_FAMILIES = ("netgen", "gridgen", "goto", "road", "plan", "star", "geo", "long")
-FAST_SIZES = (10, 11, 12, 13, 14, 15, 16, 17)
+FAST_FAMILIES += ("few", "many", "large", "small", "thin", "dense", "assignment")
+FAST_SIZES = (10, 11, 12, 13, 14, 15, 16, 17, 18)
 # the ranges of sizes over which means are printed, and the seconds after which no further run of a
 # case starts
 FAST_MEANS = ((10, 15), (16, 18))

@@ -5,7 +5,7 @@
 
 PART
   answer    parses an answer of a million arcs and writes it again
-  fast      solves nets of eight families and of rising size by the engine `fast`, beside the
+  fast      solves nets of fifteen families and of rising size by the engine `fast`, beside the
             better of LEMON's network simplex and cost scaling, as whole processes with their peak
             memory; prints a table for each of `--seeds` (skipped without LEMON)
   assign    solves assignments by the engine `sap`, beside dlib and LEMON, as whole processes; the
