@@ -1,16 +1,5 @@
 // PROGRAM ENGINE FILE solves the instance in a file by an engine, and writes the answer in the second form.
-macro_rules! vec {
-    (in $alloc:expr; $value:expr; $count:expr) => {{
-        let mut made = crate::kit::prelude::Vec::new($alloc);
-        match made.resize($count, $value) {
-            Ok(()) => Ok(made),
-            Err(error) => Err(error),
-        }
-    }};
-}
-macro_rules! format {
-    (in $alloc:expr; $($rest:tt)*) => { Ok::<crate::kit::prelude::String, crate::kit::std::alloc::AllocError>(crate::kit::prelude::String::new()) };
-}
+#[macro_use]
 mod kit;
 
 fn main() {

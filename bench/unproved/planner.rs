@@ -1,23 +1,5 @@
 // PROGRAM flow|pairs OPTIONS TABLES plans tables, as `mcfplan` does with these words.
-macro_rules! vec {
-    (in $alloc:expr; $value:expr) => {{
-        let mut made = crate::kit::prelude::Vec::new($alloc);
-        match made.push($value) {
-            Ok(()) => Ok(made),
-            Err(_) => Err(crate::kit::std::alloc::AllocError),
-        }
-    }};
-    (in $alloc:expr; $value:expr; $count:expr) => {{
-        let mut made = crate::kit::prelude::Vec::new($alloc);
-        match made.resize($count, $value) {
-            Ok(()) => Ok(made),
-            Err(error) => Err(error),
-        }
-    }};
-}
-macro_rules! format {
-    (in $alloc:expr; $($rest:tt)*) => { Ok::<crate::kit::prelude::String, crate::kit::std::alloc::AllocError>(crate::kit::prelude::String::new()) };
-}
+#[macro_use]
 mod kit;
 
 use kit::prelude::{Global, Vec};
