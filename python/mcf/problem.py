@@ -144,9 +144,9 @@ class Problem:
         column = self._columns[name]
         for place, value in zip(places, values_of(new)):
             column[place] = value
-        if name not in BOUNDS or isinstance(column, list):
-            self._rows = None if isinstance(column, list) else self._rows
-        elif self._rows is not None:
+        if isinstance(column, list):
+            self._rows = None
+        elif name in BOUNDS and self._rows is not None:
             # A row of numpy has fields, and is seen as four words.
             words = self._rows if self._kind.numpy is None else self._rows.view("i8")
             for place, value in zip(places, values_of(new)):
