@@ -1,5 +1,8 @@
 pub mod Labels
 pub mod TreePrices
+pub mod Gaps
+pub mod GapTables
+pub mod Spreads
 pub mod LeastFound
 pub mod Offers
 pub mod Views
@@ -36,6 +39,7 @@ pub mod Pivoted
 pub mod TurnedAmounts
 pub mod TurnedOffers
 pub mod TurnedStart
+pub mod TurnedPrices
 pub mod TurnedLayout
 pub mod Cuts
 pub mod LastFlows

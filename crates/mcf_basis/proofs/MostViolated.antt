@@ -4,10 +4,10 @@ use Rattle.std.proofs.lemmas.Int.{ints}
 use Rattle.mcf_flows.specs.Network.{IsArcNumber, node_count}
 use Rattle.mcf_basis.specs.Pivots.{IsEligible}
 use Rattle.mcf_basis.specs.Private.Layouts.{Layout, IsLaidOut, basis_in, no_offer, offer_at}
-use Rattle.mcf_basis.specs.Private.Offered.{CanCompare, HasPricedEnds, IsFirstLeast, IsLeastOffer, reduced_of}
+use Rattle.mcf_basis.specs.Private.Offered.{CanCompare, CanCompareIn, HasOwnEnds, HasPricedEnds, IsFirstLeast, IsLeastOffer, reduced_of}
 use Rattle.mcf_basis.specs.Violations.{IsMostViolated, IsMostViolatedPick, violation}
-use Rattle.mcf_basis.proofs.Offers.{IsReadOffer, read_offer}
-use Rattle.mcf_basis.proofs.Views.{price_fits}
+use Rattle.mcf_basis.proofs.Offers.{IsReadOffer, own_nodes_of, read_offer}
+use Rattle.mcf_basis.proofs.Views.{price_fits, price_spread}
 
 -- an offer by its place
 pub record IsPlacedOffer (l : Layout) (k i : ℕ) : Type 0 where
@@ -37,7 +37,7 @@ module _ (l : Layout) (ok : IsLaidOut l) where
       subst (IsPlacedOffer l (i + 1)) back (placed (i + 1) h)
 
   module _ (first end : ℕ) (low : 1 ≤ first) (order : first ≤ end) (high : end ≤ length l.net.arcs + 1) where
-    pub can_compare : CanCompare l.table.prices l.table.limit l.offers (first - 1) (end - 1)
+    can_compare : CanCompare l.table.prices l.table.limit l.offers (first - 1) (end - 1)
     unfolding basis_in
     can_compare =
         let size = ok.offers_size in
@@ -48,6 +48,18 @@ module _ (l : Layout) (ok : IsLaidOut l) where
           ends = λ i from to. (let back : i + 1 - 1 ≡ i = omega arith in
               subst (λ j. HasPricedEnds (length l.table.prices) (get_or l.offers j no_offer)) back (placed (i + 1) (omega arith, omega (arith, to))).ends);
           small = λ v h. price_fits l ok v (omega (arith, h, count));
+        }
+
+    -- the same as a table stores the prices
+    pub can_compare_in : CanCompareIn l.table l.offers (first - 1) (end - 1)
+    unfolding basis_in
+    can_compare_in =
+        let count : length l.table.prices ≡ node_count l.net + 1 = ok.basis.prices.one_per_node in
+        record {
+          compared = can_compare;
+          spread = λ v up h. price_spread l ok v up (omega (arith, h, count));
+          own = λ i from to. (let back : i + 1 - 1 ≡ i = omega arith in
+              subst (λ j. HasOwnEnds (get_or l.offers j no_offer)) back (own_nodes_of l (i + 1) ok (omega arith, omega (arith, to))));
         }
 
     pub most_violated_some : (i : ℕ) → IsFirstLeast l.table.prices l.offers (first - 1) (end - 1) i → IsMostViolated (basis_in l) first end (i + 1)

@@ -13,7 +13,8 @@ use Rattle.mcf_network.proofs.ArcLaws.{ends_at, net_arc_at}
 use Rattle.mcf_basis.specs.declared.offer.ArcOffer.{ArcOffer}
 use Rattle.mcf_basis.specs.Bases.{IsBasis}
 use Rattle.mcf_basis.specs.Private.Layouts.{Layout, IsLaidOut, basis_in, forward_offer, no_offer, offer_at, turned_offer}
-use Rattle.mcf_basis.specs.Private.Offered.{CanReduce, reduced_by}
+use Rattle.mcf_basis.specs.Private.Offered.{CanReduce, HasOwnEnds, reduced_by}
+use Rattle.mcf_basis.specs.Private.Offered.HasOwnEnds.{nodes, nothing}
 use Rattle.mcf_basis.specs.Private.Layouts.IsOffer.{closed, forward, turned}
 use Rattle.mcf_basis.specs.Pivots.{IsEligible}
 use Rattle.mcf_basis.specs.Structures.{TreeStructure, IsInTree, carried, price_at, reduced_at}
@@ -132,6 +133,16 @@ module _ (l : Layout) (k : ℕ) (ok : IsLaidOut l) (h : IsArcNumber l.net k) whe
     | forward wide e ↦ read_forward wide e
     | turned wide e ↦ read_turned wide e
   ]
+
+  -- its ends are nodes of the net, unless the arc can carry nothing
+  pub own_nodes_of : HasOwnEnds (offer_at l k)
+  own_nodes_of =
+      let n = ends_ok in
+      elim (ok.offers k h) [
+        | closed cap e ↦ nothing e
+        | forward wide e ↦ rw e (nodes n.src_is_node.0 n.dst_is_node.0)
+        | turned wide e ↦ rw e (nodes n.dst_is_node.0 n.src_is_node.0)
+      ]
 
   -- and its reduced cost can be computed
   pub can_reduce : CanReduce l.table.prices (offer_at l k)

@@ -224,6 +224,7 @@ module _ (l : Layout) (s : IsStarStored l) where
         ∙ ap (λ x. artificial_residuals (is_sender l.net v) (unsigned_abs x))
         (sym (ap (λ xs. get_or xs v (pos 0)) s.artificial ∙ behind (pos 0) (pos 0) (star_amount l.net) (node_count l.net) v h)));
     fits = s.table.fits;
+    gap = s.table.gap;
     wide = λ v h le. absurd (not_own v h le);
   }
 

@@ -1,5 +1,5 @@
--- How far from 0 the prices of a basis lie.
-use Rattle.std.proofs.Common.{◌≡◌, ℕ, zero, suc, ◌+◌, ◌-◌, ◌*◌, ◌<◌, ◌≤◌, inl, inr, List, [], ◌∷◌, length, map, sum, ap, ◌∙◌, arith, subst, get_or, pos}
+-- Where the prices of a basis lie.
+use Rattle.std.proofs.Common.{◌≡◌, ℕ, zero, suc, ◌+◌, ◌-◌, ◌*◌, ◌<◌, ◌≤◌, ◌⊎◌, inl, inr, List, [], ◌∷◌, length, map, sum, ap, ◌∙◌, arith, subst, sym, get_or, ℤ, pos}
 use Rattle.std.proofs.Common.{◌+ℤ◌, ◌-ℤ◌}
 use Rattle.std.specs.Prelude.{unsigned_abs}
 use Rattle.std.specs.List.{All}
@@ -14,7 +14,9 @@ use Rattle.mcf_flows.proofs.Bounds.{size_up_to, up_to_size}
 use Rattle.mcf_network.specs.Nets.{IsNet, IsNetArc, net_total_limit}
 use Rattle.mcf_network.specs.Residual.{no_arc, arc_at}
 use Rattle.mcf_tree.specs.SpanningTree.{depth_of, label_of, parent_of, size_of}
-use Rattle.mcf_links.proofs.Paths.{above_root, root_from_depth}
+use Rattle.mcf_tree.proofs.Meeting.{path_place}
+use Rattle.mcf_links.specs.Rooted.{climb, IsOnPath}
+use Rattle.mcf_links.proofs.Paths.{above_root, climb-root, climb-within, depth-climb, root_from_depth}
 use Rattle.mcf_links.proofs.Depths.{depth-lt}
 use Rattle.mcf_basis.specs.Artificial.{artificial_cost, with_artificial}
 use Rattle.mcf_basis.specs.Bases.{HasTreeArc, IsBasis}
@@ -40,15 +42,29 @@ greatest_small (a ∷ arcs) each =
 le_refl_of : (n : ℕ) → n ≤ n
 le_refl_of n = omega arith
 
--- one step away from a node of known price
-one_step : (b : TreeStructure) (label u v near far : ℕ) → Joins b.net label u v → reduced_at b label ≡ pos 0
-    → IsUpTo near (arc_at (with_artificial b.net) label).cost → IsUpTo far (price_at b v) → IsUpTo (near + far) (price_at b u)
-one_step b label u v near far (out_of s d) r c p =
+-- one step away from a node whose price lies near a number
+one_step : (b : TreeStructure) (label u v near far : ℕ) (z : ℤ) → Joins b.net label u v → reduced_at b label ≡ pos 0
+    → IsUpTo near (arc_at (with_artificial b.net) label).cost → IsUpTo far (price_at b v -ℤ z) → IsUpTo (near + far) (price_at b u -ℤ z)
+one_step b label u v near far z (out_of s d) r c p =
     let e : ((arc_at (with_artificial b.net) label).cost -ℤ price_at b u) +ℤ price_at b v ≡ pos 0 = rw (s, d) at r in
     (omega (arith, ints), omega (arith, ints))
-one_step b label u v near far (into s d) r c p =
+one_step b label u v near far z (into s d) r c p =
     let e : ((arc_at (with_artificial b.net) label).cost -ℤ price_at b v) +ℤ price_at b u ≡ pos 0 = rw (s, d) at r in
     (omega (arith, ints), omega (arith, ints))
+
+-- a price near the artificial cost, or near its opposite
+abbrev pub IsNear : ℕ → ℕ → ℤ → Type 0
+IsNear cost far p = IsUpTo far (p -ℤ pos cost) ⊎ IsUpTo far (p +ℤ pos cost)
+
+-- the price of a child of the root
+root_step : (b : TreeStructure) (label u : ℕ) → Joins b.net label u 0 → reduced_at b label ≡ pos 0 → price_at b 0 ≡ pos 0 →
+    (arc_at (with_artificial b.net) label).cost ≡ pos (artificial_cost b.net) → IsNear (artificial_cost b.net) 0 (price_at b u)
+root_step b label u (out_of s d) r p c =
+    let e : ((arc_at (with_artificial b.net) label).cost -ℤ price_at b u) +ℤ price_at b 0 ≡ pos 0 = rw (s, d) at r in
+    inl (omega (arith, ints), omega (arith, ints))
+root_step b label u (into s d) r p c =
+    let e : ((arc_at (with_artificial b.net) label).cost -ℤ price_at b 0) +ℤ price_at b u ≡ pos 0 = rw (s, d) at r in
+    inr (omega (arith, ints), omega (arith, ints))
 
 module _ (b : TreeStructure) (ok : IsBasis b) where
   pub in_tree : (v : ℕ) → v ≤ node_count b.net → v < size_of b.tree
@@ -59,25 +75,10 @@ module _ (b : TreeStructure) (ok : IsBasis b) where
       let size : size_of b.tree ≡ node_count b.net + 1 = ok.size in
       let p : parent_of b.tree v < size_of b.tree = ok.spanning.rooted.within v (in_tree v h) in omega arith
 
-  pub tree_price : (k v : ℕ) → depth_of b.tree v ≡ k + 1 → v ≤ node_count b.net → IsUpTo (artificial_cost b.net + k * greatest_cost b.net.arcs) (price_at b v)
-  tree_price zero v e h =
-      let inside : v < size_of b.tree = in_tree v h in
-      let up : 0 < v = above_root b.tree.parents (depth_of b.tree) ok.spanning.rooted v (omega arith) in
-      let f : depth_of b.tree v ≡ depth_of b.tree (parent_of b.tree v) + 1 = ok.spanning.rooted.falls v up inside in
-      let z : parent_of b.tree v ≡ 0 = root_from_depth b.tree.parents (depth_of b.tree) ok.spanning.rooted (parent_of b.tree v)
-      (ok.spanning.rooted.within v inside) (omega arith) in
-      let arc : HasTreeArc b v = ok.tree_arcs v (omega arith, h) in
-      let joins : Joins b.net (label_of b.tree v) v 0 = subst (Joins b.net (label_of b.tree v) v) z arc.joins in
-      let cost : (arc_at (with_artificial b.net) (label_of b.tree v)).cost ≡ pos (artificial_cost b.net) =
-      root_arc b.net (label_of b.tree v) v ok.of_net arc.label up joins in
-      let n : artificial_cost b.net + 0 * greatest_cost b.net.arcs ≡ artificial_cost b.net + 0 = omega arith in
-      rw n (one_step b (label_of b.tree v) v 0 (artificial_cost b.net) 0 joins (ok.prices.balanced v (omega arith, h))
-      (omega (arith, ints), omega (arith, ints)) (let p : price_at b 0 ≡ pos 0 = ok.prices.root in (omega (arith, ints), omega (arith, ints))))
-  tree_price (suc k) v e h =
-      let inside : v < size_of b.tree = in_tree v h in
-      let up : 0 < v = above_root b.tree.parents (depth_of b.tree) ok.spanning.rooted v (omega arith) in
-      let f : depth_of b.tree v ≡ depth_of b.tree (parent_of b.tree v) + 1 = ok.spanning.rooted.falls v up inside in
-      let high : 0 < parent_of b.tree v = above_root b.tree.parents (depth_of b.tree) ok.spanning.rooted (parent_of b.tree v) (omega arith) in
+  -- the arc above a node whose parent isn't the root
+  inner_step : (v far : ℕ) (z : ℤ) → 0 < v → v ≤ node_count b.net → 0 < parent_of b.tree v → IsUpTo far (price_at b (parent_of b.tree v) -ℤ z)
+      → IsUpTo (greatest_cost b.net.arcs + far) (price_at b v -ℤ z)
+  inner_step v far z up h high p =
       let arc : HasTreeArc b v = ok.tree_arcs v (omega arith, h) in
       let own : IsArcNumber b.net (label_of b.tree v) = inner_arc b.net (label_of b.tree v) v (parent_of b.tree v) arc.label up high arc.joins in
       let same : (arc_at (with_artificial b.net) (label_of b.tree v)).cost ≡ (arc_at b.net (label_of b.tree v)).cost =
@@ -86,28 +87,84 @@ module _ (b : TreeStructure) (ok : IsBasis b) where
       cost_within b.net.arcs (label_of b.tree v - 1) no_arc (omega arith) in
       let near : IsUpTo (unsigned_abs (arc_at b.net (label_of b.tree v)).cost) (arc_at b.net (label_of b.tree v)).cost =
       up_to_size (arc_at b.net (label_of b.tree v)).cost in
-      let n : artificial_cost b.net + suc k * greatest_cost b.net.arcs ≡ greatest_cost b.net.arcs + (artificial_cost b.net + k * greatest_cost b.net.arcs) =
-      omega arith in
-      rw n (one_step b (label_of b.tree v) v (parent_of b.tree v) (greatest_cost b.net.arcs) (artificial_cost b.net + k * greatest_cost b.net.arcs) arc.joins
-      (ok.prices.balanced v (omega arith, h))
-      (omega (arith, ints), omega (arith, ints))
-      (tree_price k (parent_of b.tree v) (omega arith) (parent_in v h)))
+      one_step b (label_of b.tree v) v (parent_of b.tree v) (greatest_cost b.net.arcs) far z arc.joins (ok.prices.balanced v (omega arith, h))
+      (omega (arith, ints), omega (arith, ints)) p
+
+  -- along a path toward the root, short of it, a price changes by at most the greatest cost a step
+  climb_price : (k v : ℕ) → v ≤ node_count b.net → 0 < climb b.tree.parents k v
+      → IsUpTo (k * greatest_cost b.net.arcs) (price_at b v -ℤ price_at b (climb b.tree.parents k v))
+  climb_price zero v h low = (omega (arith, ints), omega (arith, ints))
+  climb_price (suc k) v h low =
+      let top : climb b.tree.parents k 0 ≡ 0 = climb-root b.tree.parents (depth_of b.tree) ok.spanning.rooted k in
+      let high : 0 < parent_of b.tree v = elim (cases_eq (parent_of b.tree v) 0) [
+        | inl z ↦ absurd (let e : climb b.tree.parents k (parent_of b.tree v) ≡ climb b.tree.parents k 0 = ap (climb b.tree.parents k) z in
+            omega (arith, e, top, low))
+        | inr nz ↦ omega (arith, nz)
+      ] in
+      let up : 0 < v = elim (cases_eq v 0) [
+        | inl z ↦ absurd (let e : parent_of b.tree v ≡ 0 = ap (parent_of b.tree) z ∙ ok.spanning.rooted.top in omega (arith, e, high))
+        | inr nz ↦ omega (arith, nz)
+      ] in
+      let n : suc k * greatest_cost b.net.arcs ≡ greatest_cost b.net.arcs + k * greatest_cost b.net.arcs = omega arith in
+      rw n (inner_step v (k * greatest_cost b.net.arcs) (price_at b (climb b.tree.parents k (parent_of b.tree v))) up h high
+      (climb_price k (parent_of b.tree v) (parent_in v h) low))
+
+  short : (k v : ℕ) → v ≤ node_count b.net → k ≤ depth_of b.tree v → k * greatest_cost b.net.arcs ≤ node_count b.net * greatest_cost b.net.arcs
+  short k v h le =
+      let size : size_of b.tree ≡ node_count b.net + 1 = ok.size in
+      let deep : depth_of b.tree v < size_of b.tree = depth-lt b.tree.parents (depth_of b.tree) ok.spanning.rooted v (in_tree v h) in
+      mul-le-mul (omega (arith, size, deep, le)) (le_refl_of (greatest_cost b.net.arcs))
+
+  -- below a node other than the root, prices lie near its price
+  pub below_price : (out v : ℕ) → 0 < out → v ≤ node_count b.net → IsOnPath b.tree.parents v out
+      → IsUpTo (node_count b.net * greatest_cost b.net.arcs) (price_at b v -ℤ price_at b out)
+  below_price out v up h on =
+      let p = path_place b.tree.parents (depth_of b.tree) ok.spanning.rooted v out (in_tree v h) on in
+      let low : 0 < climb b.tree.parents (depth_of b.tree v - depth_of b.tree out) v = subst (λ w. 0 < w) (sym p.1) up in
+      let c = climb_price (depth_of b.tree v - depth_of b.tree out) v h low in
+      let q : IsUpTo ((depth_of b.tree v - depth_of b.tree out) * greatest_cost b.net.arcs) (price_at b v -ℤ price_at b out) = rw p.1 at c in
+      let le = short (depth_of b.tree v - depth_of b.tree out) v h (omega arith) in
+      (omega (arith, ints, q, le), omega (arith, ints, q, le))
+
+  -- the price of a child of the root
+  top_price : (v : ℕ) → 0 < v → v ≤ node_count b.net → parent_of b.tree v ≡ 0 → IsNear (artificial_cost b.net) 0 (price_at b v)
+  top_price v up h z =
+      let arc : HasTreeArc b v = ok.tree_arcs v (omega arith, h) in
+      let joins : Joins b.net (label_of b.tree v) v 0 = subst (Joins b.net (label_of b.tree v) v) z arc.joins in
+      root_step b (label_of b.tree v) v joins (ok.prices.balanced v (omega arith, h)) ok.prices.root
+      (root_arc b.net (label_of b.tree v) v ok.of_net arc.label up joins)
+
+  -- each price but that of the root lies near the artificial cost, or near its opposite
+  pub near_price : (v : ℕ) → 0 < v → v ≤ node_count b.net → IsNear (artificial_cost b.net) (node_count b.net * greatest_cost b.net.arcs) (price_at b v)
+  near_price v up h =
+      let ps = b.tree.parents in
+      let inside : v < size_of b.tree = in_tree v h in
+      let f : depth_of b.tree v ≡ depth_of b.tree (parent_of b.tree v) + 1 = ok.spanning.rooted.falls v up inside in
+      let top = climb ps (depth_of b.tree v - 1) v in
+      let top_in : top < size_of b.tree = climb-within ps (depth_of b.tree) ok.spanning.rooted (depth_of b.tree v - 1) v inside in
+      let deep : depth_of b.tree top + (depth_of b.tree v - 1) ≡ depth_of b.tree v =
+      depth-climb ps (depth_of b.tree) ok.spanning.rooted (depth_of b.tree v - 1) v inside (omega arith) in
+      let low : 0 < top = above_root ps (depth_of b.tree) ok.spanning.rooted top (omega arith) in
+      let g : depth_of b.tree top ≡ depth_of b.tree (parent_of b.tree top) + 1 = ok.spanning.rooted.falls top low top_in in
+      let z : parent_of b.tree top ≡ 0 = root_from_depth ps (depth_of b.tree) ok.spanning.rooted (parent_of b.tree top)
+      (ok.spanning.rooted.within top top_in) (omega arith) in
+      let size : size_of b.tree ≡ node_count b.net + 1 = ok.size in
+      let c = climb_price (depth_of b.tree v - 1) v h low in
+      let le = short (depth_of b.tree v - 1) v h (omega arith) in
+      elim (top_price top low (omega arith) z) [
+        | inl t ↦ inl (omega (arith, ints, c, le, t), omega (arith, ints, c, le, t))
+        | inr t ↦ inr (omega (arith, ints, c, le, t), omega (arith, ints, c, le, t))
+      ]
 
   -- the bound that the ranks count with
   pub price_reached : (v : ℕ) → v ≤ node_count b.net → IsUpTo (price_reach b.net) (price_at b v)
   price_reached v h =
-      let root : price_at b 0 ≡ pos 0 = ok.prices.root in
-      let inside : v < size_of b.tree = in_tree v h in
-      let size : size_of b.tree ≡ node_count b.net + 1 = ok.size in
-      let deep : depth_of b.tree v < size_of b.tree = depth-lt b.tree.parents (depth_of b.tree) ok.spanning.rooted v inside in
-      elim (cases_eq (depth_of b.tree v) 0) [
-        | inl z ↦ (let at_root : v ≡ 0 = root_from_depth b.tree.parents (depth_of b.tree) ok.spanning.rooted v inside z in
-            let p : price_at b v ≡ pos 0 = ap (price_at b) at_root ∙ root in (omega (arith, ints), omega (arith, ints)))
-        | inr nz ↦ (let p : IsUpTo (artificial_cost b.net + (depth_of b.tree v - 1) * greatest_cost b.net.arcs) (price_at b v) =
-            tree_price (depth_of b.tree v - 1) v (omega arith) h in
-            let le : (depth_of b.tree v - 1) * greatest_cost b.net.arcs ≤ node_count b.net * greatest_cost b.net.arcs =
-            mul-le-mul (omega arith) (le_refl_of (greatest_cost b.net.arcs)) in
-            (omega (arith, ints), omega (arith, ints)))
+      elim (cases_eq v 0) [
+        | inl z ↦ (let p : price_at b v ≡ pos 0 = ap (price_at b) z ∙ ok.prices.root in (omega (arith, ints), omega (arith, ints)))
+        | inr nz ↦ elim (near_price v (omega (arith, nz)) h) [
+          | inl p ↦ (omega (arith, ints, p), omega (arith, ints, p))
+          | inr p ↦ (omega (arith, ints, p), omega (arith, ints, p))
+        ]
       ]
 
 -- within the limits of nets a price fits 128 bits, with much to spare

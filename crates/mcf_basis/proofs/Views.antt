@@ -1,5 +1,5 @@
 -- What is read of a basis that is stored.
-use Rattle.std.proofs.Common.{◌≡◌, ℕ, ◌+◌, ◌-◌, ◌<◌, ◌≤◌, eqb, length, get_or, None, ap, ◌∙◌, arith, subst, pos}
+use Rattle.std.proofs.Common.{◌≡◌, ℕ, ◌+◌, ◌-◌, ◌*◌, ◌<◌, ◌≤◌, eqb, length, get_or, None, ap, ◌∙◌, arith, subst, pos}
 use Rattle.std.proofs.lemmas.Bool.{cond-true, ne_eqb, le-leb}
 use Rattle.std.proofs.lemmas.Int.{ints}
 use Rattle.std.proofs.lemmas.List.FromFn.{get_or-map-range_with_len}
@@ -8,10 +8,12 @@ use Rattle.mcf_flows.specs.WellFormed.{IsUpTo}
 use Rattle.mcf_tree.specs.SpanningTree.{label_of}
 use Rattle.mcf_basis.specs.Bases.{IsBasis}
 use Rattle.mcf_basis.specs.Private.Layouts.{Layout, IsLaidOut, amount_by, amount_in, amount_outside, basis_in, node_below}
-use Rattle.mcf_basis.specs.Ranks.{price_reach}
+use Rattle.mcf_basis.specs.Private.Gaps.{IsSpread}
+use Rattle.mcf_basis.specs.Ranks.{greatest_cost, price_reach}
 use Rattle.mcf_basis.specs.Structures.{TreeStructure, IsInTree, carried, price_at, price_limit}
 use Rattle.mcf_basis.proofs.LeastFound.{found_nowhere}
-use Rattle.mcf_basis.proofs.TreePrices.{price_reached, price_small}
+use Rattle.mcf_basis.proofs.Spreads.{near_spread}
+use Rattle.mcf_basis.proofs.TreePrices.{near_price, price_reached, price_small}
 
 pub view_net : (l : Layout) (b : TreeStructure) → basis_in l ≡ b → l.net ≡ b.net
 unfolding basis_in
@@ -51,6 +53,12 @@ price_fits l ok v h =
     let p : IsUpTo (price_reach l.net) (price_at (basis_in l) v) = price_reached (basis_in l) ok.basis v h in
     let fits = ok.fits in
     (omega (arith, ints, p, fits), omega (arith, ints, p, fits))
+
+-- each price but that of the root can be stored
+pub price_spread : (l : Layout) → IsLaidOut l → (v : ℕ) → 0 < v → v ≤ node_count l.net → IsSpread l.table.gap (price_at (basis_in l) v)
+unfolding basis_in
+price_spread l ok v up h = near_spread l.net l.table.gap (node_count l.net * greatest_cost l.net.arcs) (price_at (basis_in l) v) ok.gap
+    (λ short. omega (arith, short)) (near_price (basis_in l) ok.basis v up h)
 
 -- what the arc of a label carries, by how it is stored
 pub carried_in : (l : Layout) (label : ℕ) → 1 ≤ label → label ≤ length l.net.arcs + node_count l.net → carried (basis_in l) label ≡ amount_in l label

@@ -1,19 +1,19 @@
 //! The initial basis of the simplex.
-ghost use Rattle.std.specs.Prelude.{◌≡◌, ◌∷◌, ◌≤ℤ◌, IfOk, if◌then◌else◌, int_le, int_lt, length, map, max, min, neg_ℤ, pos, unsigned_abs};
+ghost use Rattle.std.specs.Prelude.{◌≡◌, ℕ, Some, ◌∷◌, ◌≤ℤ◌, IfOk, if◌then◌else◌, int_le, int_lt, length, map, max, min, neg_ℤ, pos, unsigned_abs};
 ghost use Rattle.std.specs.List.{range_with_len};
 ghost use Rattle.mcf_flows.specs.Network.{IsArcNumber, IsNode, at_node, node_count};
 ghost use Rattle.mcf_flows.specs.WellFormed.{weight};
 ghost use Rattle.mcf_network.specs.Nets.{IsNet};
 ghost use Rattle.mcf_network.specs.Residual.{arc_at};
 ghost use Rattle.mcf_basis.specs.Artificial.{artificial_cost, is_sender};
-ghost use Rattle.mcf_basis.specs.Private.Layouts.{IsStarTable, artificial_residuals, forward_offer, no_offer, no_residuals};
+ghost use Rattle.mcf_basis.specs.Private.Layouts.{FitsWith, IsStarTable, artificial_residuals, forward_offer, no_offer, no_residuals, prices_of_star};
 ghost use Rattle.mcf_basis.specs.Ranks.{greatest_cost, price_reach};
-ghost use Rattle.mcf_basis.specs.Starts.{IsStart, start_prices};
+ghost use Rattle.mcf_basis.specs.Starts.{IsStart};
 
 use crate::basis::Basis;
 use crate::offer::ArcOffer;
 use crate::price::Price;
-use crate::price_table::PriceTable;
+use crate::price_table::{PriceTable, STAND_IN};
 use crate::residuals::{Residuals, artificial_residuals};
 use mcf_counts::Count;
 use mcf_network::Net;
@@ -23,6 +23,9 @@ use std::alloc::Global;
 
 // The greatest absolute value of a price for which 64 bits hold a reduced cost, too.
 const NARROW_LIMIT: u128 = 3_000_000_000_000_000_000;
+
+// How far from the artificial cost, or from its opposite, a price may lie for which there is a gap.
+const PATH_LIMIT: u128 = 200_000_000_000_000_000;
 
 impl<'n> Basis<'n> {
     /// The initial basis of the simplex: each node is a child of the root by its artificial arc,
@@ -122,20 +125,40 @@ fn star_table(alloc: Global, net: &Net, cost: i128) -> Result<PriceTable, NoMemo
     requires { cost ≡ pos (artificial_cost net.now) }
     ensures { IfOk result (IsStarTable net.now) }
 {
-    let reach = price_reach(net, cost);
-    if reach <= NARROW_LIMIT {
-        let prices = star_prices(alloc, net, cost)?;
-        return Ok(PriceTable::narrow(prices));
+    match price_gap(net, cost) {
+        Some(gap) => {
+            let prices = star_prices(alloc, net, cost - gap as i128)?;
+            Ok(PriceTable::narrow(prices, gap))
+        }
+        None => {
+            let prices = star_prices(alloc, net, cost)?;
+            Ok(PriceTable::wide(prices))
+        }
     }
-    let prices = star_prices(alloc, net, cost)?;
-    Ok(PriceTable::wide(prices))
 }
 
-// The prices of that tree, which fit.
+// By how much prices in 64 bits are nearer to 0, if they fit: not at all if each price of each
+// basis fits as it is; otherwise by what the artificial cost has more than its stand-in.
+fn price_gap(net: &Net, cost: i128) -> Option<u128>
+    requires { cost ≡ pos (artificial_cost net.now) }
+    ensures value { (gap : ℕ) → result ≡ Some gap → FitsWith net.now gap }
+    ensures net { IsNet net.now }
+{
+    let reach = price_reach(net, cost);
+    if reach <= NARROW_LIMIT {
+        Some(0)
+    } else if reach - cost.unsigned_abs() <= PATH_LIMIT {
+        Some((cost - STAND_IN) as u128)
+    } else {
+        None
+    }
+}
+
+// The prices of that tree if its arcs have this cost.
 fn star_prices<P: Price>(alloc: Global, net: &Net, cost: i128) -> Result<Vec<P>, NoMemory>
-    requires cost { cost ≡ pos (artificial_cost net.now) }
+    requires cost { pos 0 ≤ℤ cost }
     requires room { cost ≤ℤ pos P.limit }
-    ensures { IfOk result (λ made. P.values made.items ≡ start_prices net.now) }
+    ensures { IfOk result (λ made. P.values made.items ≡ prices_of_star net.now cost) }
 {
     let count = net.node_count();
     let mut made = Vec::with_capacity(alloc, count as usize + 1)?;

@@ -1,5 +1,4 @@
-//! Prices in 64 bits and in 128: nets on both sides of the reach of prices from which on a basis
-//! keeps them in 128.
+//! Prices in 64 bits and in 128: nets whose prices fit 64 bits, fit them with a gap, or don't fit.
 
 use crate::fixtures::{Costed, finds_all};
 use crate::simplex::{finds_by_each, step};
@@ -19,18 +18,25 @@ use std::test::Fail;
 const WITHIN: &[u8] =
     b"p min 4 7\nn 1 4\nn 4 -4\na 1 2 0 4 2\na 1 3 0 2 2\na 2 3 0 2 1\na 2 4 0 3 3\na 3 4 0 5 1\na 1 4 0 2999995 1000000000000\na 4 1 0 999999999971 1\n";
 
-// The arc back is wider by 1, and prices reach as much further.
+// The arc back is wider by 1, and prices reach as much further: a basis keeps them in 64 bits with
+// a gap.
 const BEYOND: &[u8] =
     b"p min 4 7\nn 1 4\nn 4 -4\na 1 2 0 4 2\na 1 3 0 2 2\na 2 3 0 2 1\na 2 4 0 3 3\na 3 4 0 5 1\na 1 4 0 2999995 1000000000000\na 4 1 0 999999999972 1\n";
 
-// A reduced cost has no room in 64 bits.
+// The gap is greater than 64 bits.
 const FAR_BEYOND: &[u8] =
     b"p min 4 7\nn 1 4\nn 4 -4\na 1 2 0 4 2\na 1 3 0 2 2\na 2 3 0 2 1\na 2 4 0 3 3\na 3 4 0 5 1\na 1 4 0 1000000000000000 1000000000000\na 4 1 0 999999999972 1\n";
 
-static ROWS: [Costed; 3] = [
+// The number of nodes times the greatest cost is beyond 2 * 10^17: a basis keeps prices in 128
+// bits.
+const WIDE: &[u8] =
+    b"p min 201 7\nn 1 4\nn 4 -4\na 1 2 0 4 2\na 1 3 0 2 2\na 2 3 0 2 1\na 2 4 0 3 3\na 3 4 0 5 1\na 1 4 0 1000000000000000 1000000000000000\na 4 1 0 999999999972 1\n";
+
+static ROWS: [Costed; 4] = [
     (WITHIN, Some(14)),
     (BEYOND, Some(14)),
     (FAR_BEYOND, Some(14)),
+    (WIDE, Some(14)),
 ];
 
 // Whether the nets are answered with the same cost by the simplex, by cost scaling and by
@@ -62,9 +68,11 @@ fn starts_at(alloc: Global, text: &[u8], price: i128) -> Result<bool, NoMemory> 
     Ok(is_first_price(&basis, price))
 }
 
-static FIRST_PRICES: [(&[u8], i128); 2] = [
+static FIRST_PRICES: [(&[u8], i128); 4] = [
     (WITHIN, 2_999_996_000_000_000_000),
     (BEYOND, 2_999_996_000_000_000_001),
+    (FAR_BEYOND, 1_000_000_000_000_001_000_000_000_001),
+    (WIDE, 1_000_000_000_000_000_001_000_000_000_001),
 ];
 
 #[test]
@@ -137,7 +145,7 @@ fn picks_as_within(alloc: Global, text: &[u8]) -> Result<bool, NoMemory> {
 
 #[test]
 fn either_size_of_prices_picks_the_same_arcs(rt: HostRuntime) -> Result<(), Fail> {
-    for text in [BEYOND, FAR_BEYOND] {
+    for text in [BEYOND, FAR_BEYOND, WIDE] {
         assert!(rt; picks_as_within(rt.alloc(), text)?);
     }
     Ok(())

@@ -1,9 +1,10 @@
 -- The least of some offers, by the prices of their ends: places of offers count from 0.
-use Rattle.std.specs.Prelude.{ℕ, ◌<◌, ◌≤◌, List, length, ℤ, pos, ◌+ℤ◌, ◌-ℤ◌, ◌<ℤ◌, ◌≤ℤ◌, Option, Some, None, slice_index_or}
+use Rattle.std.specs.Prelude.{◌≡◌, ℕ, ◌<◌, ◌≤◌, List, length, ℤ, pos, ◌+ℤ◌, ◌-ℤ◌, ◌<ℤ◌, ◌≤ℤ◌, Option, Some, None, slice_index_or}
 use Rattle.mcf_flows.specs.Limits.{limits}
 use Rattle.mcf_flows.specs.WellFormed.{IsUpTo}
 use Rattle.mcf_basis.specs.declared.offer.ArcOffer.{ArcOffer}
-use Rattle.mcf_basis.specs.Private.Layouts.{no_offer}
+use Rattle.mcf_basis.specs.Private.Gaps.{IsSpread}
+use Rattle.mcf_basis.specs.Private.Layouts.{Prices, no_offer}
 use Rattle.mcf_basis.specs.Structures.{price_limit}
 
 -- what a unit along an offer costs, by the prices of its ends
@@ -33,6 +34,17 @@ pub record CanCompare (prices : List ℤ) (limit : ℕ) (offers : List ArcOffer)
   pub high : end ≤ length offers
   pub ends : (i : ℕ) → begin ≤ i → i < end → HasPricedEnds (length prices) (slice_index_or offers i no_offer)
   pub small : (v : ℕ) → v < length prices → IsUpTo limit (slice_index_or prices v (pos 0))
+
+-- both ends are nodes of the net, or it is the offer of an arc that can carry nothing
+pub data HasOwnEnds (o : ArcOffer) : Type 0 where
+  nodes : 0 < o.from → 0 < o.to → HasOwnEnds o
+  nothing : o ≡ no_offer → HasOwnEnds o
+
+-- the offers can be compared as a table stores the prices
+pub record CanCompareIn (table : Prices) (offers : List ArcOffer) (begin end : ℕ) : Type 0 where
+  pub compared : CanCompare table.prices table.limit offers begin end
+  pub spread : (v : ℕ) → 0 < v → v < length table.prices → IsSpread table.gap (slice_index_or table.prices v (pos 0))
+  pub own : (i : ℕ) → begin ≤ i → i < end → HasOwnEnds (slice_index_or offers i no_offer)
 
 -- of these offers the first of least reduced cost, which is below 0
 pub record IsFirstLeast (prices : List ℤ) (offers : List ArcOffer) (begin end i : ℕ) : Type 0 where

@@ -3,8 +3,7 @@ use Rattle.std.specs.Prelude.{if◌then◌else◌, int_le}
 use mir.Syntax.{w128}
 use Rattle.std.proofs.lemmas.Int.{to_z-of_z}
 use Rattle.mcf_flows.specs.Network.{at_node}
-use Rattle.mcf_basis.specs.Artificial.{artificial_cost}
-use Rattle.mcf_basis.specs.Starts.{start_price}
+use Rattle.mcf_basis.specs.Artificial.{is_sender}
 use Rattle.mcf_basis.proofs.PriceLists.{values_push}
 use Rattle.mcf_basis.proofs.StartLayouts.{made_behind}
 use Rattle.mcf_basis.proofs.starting.star_prices.Goals as goal
@@ -19,13 +18,10 @@ loop-i-preserved g c =
     let read : to_z w128 (of_z w128 c.supply.result) ≡ c.supply.result = search (rules, to_z-of_z) in
     let supply : to_z w128 (of_z w128 c.supply.result) ≡ at_node net.supplies (c.loop-i.i + 1) =
     read ∙ (c.supply.ensures.value ∙ ap (at_node net.supplies) c.at.ensures) in
-    let given : to_z w128 (of_z w128 c.args.cost) ≡ c.args.cost = search (rules, to_z-of_z) in
-    let cost : to_z w128 (of_z w128 c.args.cost) ≡ pos (artificial_cost net) = given ∙ c.requires.cost in
     record {
-      prices = made_behind (pos 0) (start_price net) c.loop-i.i (P.values c.loop-i.made.items) (P.values c.push_reserved-in-loop-i.new.self.items) _
+      prices = made_behind (pos 0) (λ v. if is_sender net v then to_z w128 (of_z w128 c.args.cost) else neg_ℤ (to_z w128 (of_z w128 c.args.cost))) c.loop-i.i (P.values c.loop-i.made.items) (P.values c.push_reserved-in-loop-i.new.self.items) _
           c.loop-i.invariant.prices (c.of-in-loop-i.ensures ∙ (price ∙ (c.star_price-price.ensures.value
-          ∙ (ap (λ x. if int_le (pos 0) x then to_z w128 (of_z w128 c.args.cost) else neg_ℤ (to_z w128 (of_z w128 c.args.cost))) supply
-          ∙ ap (λ y. if int_le (pos 0) (at_node net.supplies (c.loop-i.i + 1)) then y else neg_ℤ y) cost)))) made;
+          ∙ ap (λ x. if int_le (pos 0) x then to_z w128 (of_z w128 c.args.cost) else neg_ℤ (to_z w128 (of_z w128 c.args.cost))) supply))) made;
       size = omega (arith, c.push_reserved-in-loop-i.ensures.len, c.loop-i.invariant.size);
       room = omega (arith, c.push_reserved-in-loop-i.ensures.capacity, c.loop-i.invariant.room);
     }

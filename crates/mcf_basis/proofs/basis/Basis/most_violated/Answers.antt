@@ -2,7 +2,7 @@ use Rattle.std.proofs.Common.{◌≡◌, ◌+◌, ◌≤◌, None, ap, arith, le
 use Rattle.mcf_flows.specs.Network.{Network}
 use Rattle.mcf_basis.specs.Private.Layouts.{Layout}
 use Rattle.mcf_basis.specs.Violations.{IsMostViolated, IsMostViolatedPick}
-use Rattle.mcf_basis.proofs.MostViolated.{can_compare, most_violated_none, most_violated_some}
+use Rattle.mcf_basis.proofs.MostViolated.{can_compare_in, most_violated_none, most_violated_some}
 use Rattle.mcf_basis.proofs.Views.{view_net}
 use Rattle.mcf_basis.proofs.basis.Basis.most_violated.Goals as goal
 
@@ -20,7 +20,7 @@ least_offer-requires c =
     let arcs : length l.net.arcs ≡ length c.args.self.now.net.arcs =
     ap (λ (g : Network). length g.arcs) (view_net l c.args.self.now c.self.view_is) in
     let high : c.args.end ≤ length l.net.arcs + 1 = omega (arith, arcs, c.requires.high) in
-    rw c.deref.ensures.value (can_compare l c.self.invariant c.args.first c.args.end c.requires.low c.requires.order high)
+    rw c.deref.ensures.value (can_compare_in l c.self.invariant c.args.first c.args.end c.requires.low c.requires.order high)
 
 pub returns-in_err-place-clause-value : goal.returns-in_err-place-clause-value
 returns-in_err-place-clause-value c =
