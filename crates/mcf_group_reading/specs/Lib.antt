@@ -1,0 +1,19 @@
+pub use Rattle.mcf_names.specs.NameFaults
+pub use Rattle.mcf_names.specs.Names
+pub use Rattle.mcf_roster_reading.specs.Cells
+pub use Rattle.mcf_roster_reading.specs.Columns
+pub use Rattle.mcf_roster_reading.specs.Naming
+pub use Rattle.mcf_roster_reading.specs.Pairs
+pub use Rattle.mcf_roster_reading.specs.Repeated
+pub use Rattle.mcf_roster_reading.specs.Sayings
+pub use Rattle.mcf_table.specs.Heads
+pub use Rattle.mcf_table.specs.NearHeads as NearWords
+pub use Rattle.mcf_table.specs.Texts
+pub mod Bounds
+pub mod Faults
+pub mod GroupHeads
+pub mod GroupReading
+pub mod GroupRows
+pub mod Limits
+pub mod NearHeads
+pub mod RowFaults
