@@ -9,3 +9,6 @@ pub mod Growing
 pub mod ToldAnswers
 pub mod Made
 pub mod CutGroups
+mod Listing
+mod Orderings
+mod Tallies

@@ -1,3 +1,4 @@
+pub use Rattle.mcf_roster.specs.Amounts
 pub use Rattle.mcf_roster.specs.Rosters
 pub use Rattle.mcf_roster.specs.Models
 pub use Rattle.mcf_roster.specs.RosterFaults
@@ -21,3 +22,6 @@ pub mod GroupLaws
 pub mod LinkRows
 pub mod GroupAnswers
 pub mod Crossings
+pub mod Orders
+pub mod Counts
+pub mod MarkedPlaces

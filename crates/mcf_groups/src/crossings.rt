@@ -17,7 +17,7 @@ fn is_same(one: Members, other: Members) -> bool
 }
 
 // Returns whether a number is in a list.
-fn is_in(list: &[u32], number: u32) -> bool
+pub(crate) fn is_in(list: &[u32], number: u32) -> bool
     ensures { result ≡ in_list list.now number }
 {
     list.iter().any(|one| *one == number)
@@ -38,7 +38,7 @@ fn lacks_some(list: &[u32], members: &[u32]) -> bool
 }
 
 // Returns whether another group of the same kind has some members of a group, and not all.
-fn is_cut_by(group: &Group, other: &Group) -> bool
+pub(crate) fn is_cut_by(group: &Group, other: &Group) -> bool
     ensures { result ≡ is_cut_by group.now other.now }
 {
     let same = is_same(group.of, other.of);

@@ -1,6 +1,8 @@
 //! Laws. Each is the contract of a function with an empty body.
+ghost use Rattle.mcf_groups.specs.Counts.{CountsAreOfChoices};
 ghost use Rattle.mcf_groups.specs.Crossings.{CrossingsAreCut};
 ghost use Rattle.mcf_groups.specs.GroupLaws.{GroupsAreModels, LeastPlansAreLeastGroupChoices};
+ghost use Rattle.mcf_groups.specs.Orders.{OrdersHaveAll, OrdersKeepChoices};
 ghost use Rattle.mcf_groups.specs.SplitLaws.{SplitsKeepPlans};
 
 /// The plans of a model after places are split are just its plans before in which each new place
@@ -24,4 +26,19 @@ pub fn least_plans_are_least_group_choices()
 /// and not all.
 pub fn crossings_are_cut()
     ensures { CrossingsAreCut }
+{}
+
+/// The order of groups has each of them once.
+pub fn orders_have_all()
+    ensures { OrdersHaveAll }
+{}
+
+/// A least choice that keeps to groups in one order is a least one that keeps to them in another.
+pub fn orders_keep_choices()
+    ensures { OrdersKeepChoices }
+{}
+
+/// The numbers that are told with groups are those that their ranges are about.
+pub fn counts_are_of_choices()
+    ensures { CountsAreOfChoices }
 {}

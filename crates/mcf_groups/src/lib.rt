@@ -10,9 +10,12 @@
 //! one. The definitions are in `specs/`: `Splits` and `SplitLaws` have the splitting of places, for
 //! any model, `Groups` groups and choices that keep to them, `Nests` where pairs stand,
 //! `GroupModels` the models, `GroupLaws` the laws between both, `GroupFaults` the faults,
-//! `Crossings` which group a group crosses, and `GroupAnswers` the answers.
+//! `Crossings` which group a group crosses, `Orders` which order puts outer groups first and which
+//! groups cross then, `GroupAnswers` the answers, `MarkedPlaces` what marked places are told by,
+//! and `Counts` how many members of a group anyone has.
 
 mod answering;
+mod counting;
 mod crossings;
 mod faults;
 mod groups;
@@ -21,12 +24,18 @@ mod linking;
 mod making;
 mod nesting;
 mod nests;
+mod ordering;
+mod telling;
 
 pub use answering::{GroupAnswer, GroupCompetition, least};
+pub use counting::{GroupCount, broken_of, counts_of};
 pub use crossings::crossed_by;
 pub use faults::{GroupFault, GroupFaultKind, PLACE_LIMIT};
 pub use groups::{Group, Members};
 pub use laws::{
-    crossings_are_cut, groups_are_models, least_plans_are_least_group_choices, splits_keep_plans,
+    counts_are_of_choices, crossings_are_cut, groups_are_models,
+    least_plans_are_least_group_choices, orders_have_all, orders_keep_choices, splits_keep_plans,
 };
 pub use making::group_model;
+pub use ordering::{Arrangement, Crossing, arranged, order_of};
+pub use telling::{GroupPlace, competition_of, marked_places};

@@ -18,6 +18,8 @@ mod figures;
 #[cfg(test)]
 mod flow_tables;
 #[cfg(test)]
+mod group_order;
+#[cfg(test)]
 mod groups;
 #[cfg(test)]
 mod pair_tables;
