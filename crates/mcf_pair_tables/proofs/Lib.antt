@@ -1,1 +1,2 @@
 pub mod MadeRosters
+pub mod Groupings

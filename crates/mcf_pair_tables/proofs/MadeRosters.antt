@@ -1,6 +1,6 @@
 -- The roster of a table, from its parts.
 use Rattle.std.proofs.Common.{◌≡◌, ℕ, Bool, List, [], map, sym, ap, ap₂, ◌∙◌}
-use Rattle.std.specs.Prelude.{Option, Result, Err}
+use Rattle.std.specs.Prelude.{Option, Result, Ok, Err}
 use Rattle.mcf_roster.specs.RosterFaults.{made_of_lists}
 use Rattle.mcf_roster.specs.Rosters.{Roster}
 use Rattle.mcf_roster.specs.declared.faults.RosterFault.{RosterFault}
@@ -41,4 +41,14 @@ improper said options scale great p q made fault great_is none scale_is p_is q_i
     let unit : scale ≡ scale_of_pairs said.pairs = scale_is ∙ ap scale_of_pairs p_is in (
       sym (ap₂ (λ (n : ℕ) (ps : List PairEntry). great_cells options.maximise n ps) unit q_is) ∙ sym great_is ∙ none,
       sym (ap (λ (n : ℕ). made_in n said options) unit) ∙ sym is ∙ err,
+    )
+
+pub proper : (said : Entries) (options : Options) (scale : ℕ) (great : List CellPlace) (p q : List PairEntry) (made : Result Roster RosterFault) (R : Roster)
+    → great ≡ great_cells options.maximise scale q → great ≡ [] → scale ≡ scale_of_pairs p → p ≡ said.pairs → q ≡ said.pairs
+    → made ≡ made_in scale said options → made ≡ Ok R
+    → (great_in said options ≡ []) × (made_in (scale_of_pairs said.pairs) said options ≡ Ok R)
+proper said options scale great p q made R great_is none scale_is p_is q_is is ok =
+    let unit : scale ≡ scale_of_pairs said.pairs = scale_is ∙ ap scale_of_pairs p_is in (
+      sym (ap₂ (λ (n : ℕ) (ps : List PairEntry). great_cells options.maximise n ps) unit q_is) ∙ sym great_is ∙ none,
+      sym (ap (λ (n : ℕ). made_in n said options) unit) ∙ sym is ∙ ok,
     )

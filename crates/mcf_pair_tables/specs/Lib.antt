@@ -1,3 +1,8 @@
+pub use Rattle.mcf_group_reading.specs.GroupReading
+pub use Rattle.mcf_groups.specs.GroupAnswers as Groups
+pub use Rattle.mcf_groups.specs.Counts
+pub use Rattle.mcf_groups.specs.MarkedPlaces
+pub use Rattle.mcf_groups.specs.Orders
 pub use Rattle.mcf_flow_tables.specs.TableTexts
 pub use Rattle.mcf_roster.specs.Origins
 pub use Rattle.mcf_roster.specs.RosterAnswers
@@ -11,3 +16,7 @@ pub mod PairAnswers
 pub mod PairCosts
 pub mod PairRanges
 pub mod PairRosters
+pub mod PairGroups
+pub mod GroupSets
+pub mod GroupedAnswers
+pub mod GroupAnswers

@@ -65,7 +65,7 @@ fn cost_in(maximise: bool, scale: u32, number: Decimal) -> i64
 }
 
 // The number of a person or a thing in 32 bits; 0, which is no number of one, if it doesn't fit.
-fn number_in(number: usize) -> u32
+pub(crate) fn number_in(number: usize) -> u32
     ensures { result ≡ place_number number }
 {
     u32::try_from(number).unwrap_or(0)

@@ -11,7 +11,7 @@ use mcf_text::NoMemory;
 use std::alloc::Global;
 
 // A number, or the greatest of 32 bits if it is greater.
-fn capped(number: u64) -> u32
+pub(crate) fn capped(number: u64) -> u32
     ensures { result ≡ capped number }
 {
     u32::try_from(number).unwrap_or(4_294_967_295)
