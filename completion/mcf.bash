@@ -12,7 +12,9 @@ _mcf_values()
         *:--unused | *:--short) echo allow refuse ;;
         mcfplan:--each) echo auto who what both ;;
         *:--each) echo who what both ;;
+        mcf_plan:--crossing) echo check refuse ;;
         mcfplan:--maximise | mcfplan:--ranges) echo no yes ;;
+        mcfplan:--crossing) echo refuse check ;;
         mcfplan:--decimal) echo auto . , ;;
         *:--decimal) echo , . ;;
     esac
@@ -27,11 +29,11 @@ _mcf_options()
         mcf:solve) echo -h --help "$solve" ;;
         mcf:*) echo -h --help -V --version ;;
         mcfplan:flow) echo -h --help --decimal --unused --short --penalty --ranges ;;
-        mcfplan:pairs) echo -h --help --decimal --each --maximise ;;
+        mcfplan:pairs) echo -h --help --decimal --each --maximise --groups --crossing ;;
         mcfplan:*) echo -h --help -V --version ;;
         mcf_one:*) echo "$solve" ;;
         mcf_plan:flow) echo -h --help "$plan" --unused --short --most-flow --penalty --ranges --no-picture ;;
-        mcf_plan:pairs) echo -h --help "$plan" --each --maximise --maximize ;;
+        mcf_plan:pairs) echo -h --help "$plan" --groups --crossing --each --maximise --maximize ;;
         mcf_plan:diff) echo -h --help --all ;;
         mcf_plan:compare) echo -h --help -o --output ;;
         mcf_plan:verify) echo -h --help --programs ;;

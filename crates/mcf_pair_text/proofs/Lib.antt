@@ -1,3 +1,4 @@
 pub mod ChoiceTexts
 pub mod MemberTexts
 pub mod ListTexts
+pub mod GroupChoiceTexts

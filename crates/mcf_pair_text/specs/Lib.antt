@@ -2,6 +2,8 @@ pub use Rattle.mcf_answer_rows.specs.AnswerRows
 pub use Rattle.mcf_answer_rows.specs.FaultWords
 pub use Rattle.mcf_answer_rows.specs.Lines
 pub use Rattle.mcf_answer_rows.specs.TableRows
+pub use Rattle.mcf_pair_tables.specs.GroupAnswers
+pub use Rattle.mcf_pair_tables.specs.GroupedAnswers
 pub use Rattle.mcf_pair_tables.specs.PairAnswers
 pub use Rattle.mcf_table.specs.Written
 pub mod MemberRows
@@ -9,3 +11,6 @@ pub mod PairFaultRows
 pub mod PairPlaces
 pub mod PairRows
 pub mod PairTexts
+pub mod GroupFaultRows
+pub mod GroupRows
+pub mod GroupTexts

@@ -10,7 +10,7 @@ use Rattle.clap.specs.declared.error.kind.ErrorKind.TheVariants.{OutOfMemory}
 use Rattle.clap.specs.declared.parser.matches.ArgMatches.TheViews.{out-SubCommand}
 use Rattle.clap.specs.declared.parser.matches.SubCommand.{SubCommand}
 use Rattle.mcf_plan_asking.specs.declared.asking.AskedPlan.{AskedPlan}
-use Rattle.mcf_plan_asking.specs.PlanAsking.{IsFlow, IsMcfplan, IsPairs, IsPlanReading, answer_names, each_names, flow_shape, leave_names, mark_names, mcfplan_app, pairs_shape}
+use Rattle.mcf_plan_asking.specs.PlanAsking.{IsFlow, IsMcfplan, IsPairs, IsPlanReading, answer_names, crossing_names, each_names, flow_shape, leave_names, mark_names, mcfplan_app, pairs_shape}
 
 -- some names that a parse may have read
 abbrev lent : List Text → Bor (List (Bor Text))
@@ -24,7 +24,7 @@ unfoldable pub some_flow : Shape
 some_flow = flow_shape (lent mark_names) (lent leave_names) (lent leave_names) (lent answer_names)
 
 unfoldable pub some_pairs : Shape
-some_pairs = pairs_shape (lent mark_names) (lent each_names) (lent answer_names)
+some_pairs = pairs_shape (lent mark_names) (lent each_names) (lent answer_names) (lent crossing_names)
 
 unfoldable pub some_app : App
 some_app = mcfplan_app some_flow some_pairs
@@ -49,9 +49,11 @@ pairs_are = record {
   marks = lent mark_names;
   each = lent each_names;
   maximise = lent answer_names;
+  crossing = lent crossing_names;
   marks_spelled = refl;
   each_spelled = refl;
   maximise_spelled = refl;
+  crossing_spelled = refl;
   reads = refl;
 }
 
@@ -61,7 +63,7 @@ some_mcfplan = record { flow = some_flow; pairs = some_pairs; is_flow = flow_is;
 
 -- a command, by what a parse reads of it
 app_is : (app : App) (m : IsMcfplan app)
-    → app ≡ mcfplan_app (flow_shape m.is_flow.marks m.is_flow.unused m.is_flow.short m.is_flow.ranges) (pairs_shape m.is_pairs.marks m.is_pairs.each m.is_pairs.maximise)
+    → app ≡ mcfplan_app (flow_shape m.is_flow.marks m.is_flow.unused m.is_flow.short m.is_flow.ranges) (pairs_shape m.is_pairs.marks m.is_pairs.each m.is_pairs.maximise m.is_pairs.crossing)
 app_is app m = m.reads ∙ ap₂ mcfplan_app m.is_flow.reads m.is_pairs.reads
 
 pub mcfplan_is_simple : (app : App) → IsMcfplan app → is_simple app ≡ true

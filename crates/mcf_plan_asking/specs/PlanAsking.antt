@@ -48,6 +48,14 @@ answer_words = (codes "no", false) ∷ (codes "yes", true) ∷ []
 abbrev pub answer_names : List Text
 answer_names = map (λ (row : Text × Bool). row.0) answer_words
 
+-- the words for groups that cross, and whether each asks to check them
+abbrev pub crossing_words : List (Text × Bool)
+crossing_words = (codes "refuse", false) ∷ (codes "check", true) ∷ []
+
+-- the words alone
+abbrev pub crossing_names : List Text
+crossing_names = map (λ (row : Text × Bool). row.0) crossing_words
+
 -- `--decimal MARK`, one of these words, and `auto` where it is left out
 abbrev pub mark_rule : Bor (List (Bor Text)) → Rule
 mark_rule names = word_rule (codes "decimal") names (codes "auto")
@@ -68,6 +76,14 @@ answer_rule name names = word_rule name names (codes "no")
 abbrev pub penalty_rule : Rule
 penalty_rule = record (new_rule (codes "penalty")) { long = Some (codes "penalty"); value_names = 1 }
 
+-- `--groups GROUPS`, which may be left out
+abbrev pub groups_rule : Rule
+groups_rule = record (new_rule (codes "groups")) { long = Some (codes "groups"); value_names = 1 }
+
+-- `--crossing WORD`, one of these words, and `refuse` where it is left out
+abbrev pub crossing_rule : Bor (List (Bor Text)) → Rule
+crossing_rule names = word_rule (codes "crossing") names (codes "refuse")
+
 -- the file of a table, which may be left out
 abbrev pub table_rule : Text → Rule
 table_rule name = record (new_rule name) { value_names = 1 }
@@ -84,15 +100,16 @@ flow_rules marks unused short ranges =
 abbrev pub flow_shape : Bor (List (Bor Text)) → Bor (List (Bor Text)) → Bor (List (Bor Text)) → Bor (List (Bor Text)) → Shape
 flow_shape marks unused short ranges = record (new_app (codes "flow")).top { rules = flow_rules marks unused short ranges }
 
--- the arguments of `pairs`, with these words for marks, for who gets just one and for whether costs
--- are values
-abbrev pub pairs_rules : Bor (List (Bor Text)) → Bor (List (Bor Text)) → Bor (List (Bor Text)) → List Rule
-pairs_rules marks each maximise =
-    mark_rule marks ∷ each_rule each ∷ answer_rule (codes "maximise") maximise ∷ table_rule (codes "costs") ∷ []
+-- the arguments of `pairs`, with these words for marks, for who gets just one, for whether costs
+-- are values and for groups that cross
+abbrev pub pairs_rules : Bor (List (Bor Text)) → Bor (List (Bor Text)) → Bor (List (Bor Text)) → Bor (List (Bor Text)) → List Rule
+pairs_rules marks each maximise crossing =
+    mark_rule marks ∷ each_rule each ∷ answer_rule (codes "maximise") maximise ∷ groups_rule ∷ crossing_rule crossing ∷ table_rule (codes "costs") ∷ []
 
--- `pairs [--decimal MARK] [--each WORD] [--maximise WORD] [COSTS]`
-abbrev pub pairs_shape : Bor (List (Bor Text)) → Bor (List (Bor Text)) → Bor (List (Bor Text)) → Shape
-pairs_shape marks each maximise = record (new_app (codes "pairs")).top { rules = pairs_rules marks each maximise }
+-- `pairs [--decimal MARK] [--each WORD] [--maximise WORD] [--groups GROUPS] [--crossing WORD]
+-- [COSTS]`
+abbrev pub pairs_shape : Bor (List (Bor Text)) → Bor (List (Bor Text)) → Bor (List (Bor Text)) → Bor (List (Bor Text)) → Shape
+pairs_shape marks each maximise crossing = record (new_app (codes "pairs")).top { rules = pairs_rules marks each maximise crossing }
 
 -- `mcfplan`, which wants a subcommand, and has a version
 abbrev pub mcfplan_top : App
@@ -119,10 +136,12 @@ pub record IsPairs (shape : Shape) : Type 0 where
   pub marks : Bor (List (Bor Text))
   pub each : Bor (List (Bor Text))
   pub maximise : Bor (List (Bor Text))
+  pub crossing : Bor (List (Bor Text))
   pub marks_spelled : texts marks.now ≡ mark_names
   pub each_spelled : texts each.now ≡ each_names
   pub maximise_spelled : texts maximise.now ≡ answer_names
-  pub reads : shape ≡ pairs_shape marks each maximise
+  pub crossing_spelled : texts crossing.now ≡ crossing_names
+  pub reads : shape ≡ pairs_shape marks each maximise crossing
 
 -- what a parse reads of the command `mcfplan`
 pub record IsMcfplan (app : App) : Type 0 where
@@ -148,6 +167,10 @@ each_by name = choice_by each_words None name
 abbrev pub answer_by : Option Text → Bool
 answer_by name = choice_by answer_words false name
 
+-- whether a word asks to check groups that cross
+abbrev pub crossing_by : Option Text → Bool
+crossing_by name = choice_by crossing_words false name
+
 -- the texts of words
 abbrev pub word_text : Option (Bor Text) → Option Text
 word_text word = option_map (λ (w : Bor Text). w.now) word
@@ -167,6 +190,8 @@ pub record IsAskedPairs (rows : List Row) (asked : AskedPairs) : Type 0 where
   pub mark : asked.mark ≡ mark_by (first_of (codes "decimal") rows)
   pub each : asked.each ≡ each_by (first_of (codes "each") rows)
   pub maximise : asked.maximise ≡ answer_by (first_of (codes "maximise") rows)
+  pub groups : word_text asked.groups ≡ first_of (codes "groups") rows
+  pub check : asked.check ≡ crossing_by (first_of (codes "crossing") rows)
   pub costs : word_text asked.costs ≡ first_of (codes "costs") rows
 
 -- what is asked is what the matches of the subcommand with this name hold

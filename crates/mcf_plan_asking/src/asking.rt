@@ -3,7 +3,7 @@ ghost use Rattle.std.specs.Prelude.{◌≡◌, IfOk, codes, false, map, option_m
 ghost use Rattle.clap.specs.Words.{app_of, found_of, rows_of, rule_of, shape_of};
 ghost use Rattle.clap.specs.declared.builder.command.Command.TheViews.{out-Command};
 ghost use Rattle.mcf_asking.specs.Asking.{Offers, word_rule};
-ghost use Rattle.mcf_plan_asking.specs.PlanAsking.{IsAskedBy, IsAskedFlow, IsAskedPairs, IsFlow, IsMcfplan, IsPairs, IsPlanReading, answer_by, answer_names, answer_rule, each_by, each_names, each_rule, leave_by, leave_names, leave_rule, mark_by, mark_names, mark_rule, penalty_rule, table_rule};
+ghost use Rattle.mcf_plan_asking.specs.PlanAsking.{IsAskedBy, IsAskedFlow, IsAskedPairs, IsFlow, IsMcfplan, IsPairs, IsPlanReading, answer_by, answer_names, answer_rule, crossing_by, crossing_names, crossing_rule, each_by, each_names, each_rule, groups_rule, leave_by, leave_names, leave_rule, mark_by, mark_names, mark_rule, penalty_rule, table_rule};
 
 use clap::{Arg, ArgMatches, Command, Error};
 use mcf_asking::word_option;
@@ -50,6 +50,10 @@ pub struct AskedPairs<'a> {
     pub each: Option<AskedEach>,
     /// Whether costs are values.
     pub maximise: bool,
+    /// The file of the table of groups, if it is named.
+    pub groups: Option<&'a str>,
+    /// Whether groups that cross others are checked, and not refused.
+    pub check: bool,
     /// The file of the table, if it is named.
     pub costs: Option<&'a str>,
 }
@@ -72,14 +76,17 @@ static LEAVES: [&str; 2] = ["refuse", "allow"];
 // The words for who gets just one.
 static EACHES: [&str; 4] = ["auto", "who", "what", "both"];
 
+// The words for groups that cross.
+static CROSSINGS: [&str; 2] = ["refuse", "check"];
+
 // The words for no and yes.
 static ANSWERS: [&str; 2] = ["no", "yes"];
 
 /// Parses the words of a command line: `mcfplan flow [--decimal auto|.|,] [--unused refuse|allow]
 /// [--short refuse|allow] [--penalty N] [--ranges no|yes] PLACES ROUTES`, or `mcfplan pairs
-/// [--decimal auto|.|,] [--each auto|who|what|both] [--maximise no|yes] COSTS`. The defaults are
-/// `auto`, `refuse` and `no`. PLACES, ROUTES and COSTS may be left out here; it is for the caller
-/// to want them, and to read N.
+/// [--decimal auto|.|,] [--each auto|who|what|both] [--maximise no|yes] [--groups GROUPS]
+/// [--crossing refuse|check] COSTS`. The defaults are `auto`, `refuse` and `no`. PLACES, ROUTES and
+/// COSTS may be left out here; it is for the caller to want them, and to read N.
 ///
 /// The words begin with the name of the program, which isn't read.
 ///
@@ -129,6 +136,8 @@ fn pairs_in<'a>(found: &ArgMatches<'a>) -> AskedPairs<'a>
         mark: mark_of(found.get_str("decimal")),
         each: each_of(found.get_str("each")),
         maximise: answer_of(found.get_str("maximise")),
+        groups: found.get_str("groups"),
+        check: crossing_of(found.get_str("crossing")),
         costs: found.get_str("costs"),
     }
 }
@@ -186,6 +195,8 @@ fn pairs<'a>(alloc: Global) -> Result<Command<'a>, AllocError>
             "maximise",
             "Whether costs are values, of which the pairs have as much as possible",
         ))?
+        .arg(groups_option(alloc))?
+        .arg(crossing_option(alloc))?
         .arg(table_argument(alloc, "costs", "COSTS"))
 }
 
@@ -236,6 +247,27 @@ fn penalty_option<'a>(alloc: Global) -> Arg<'a>
         .help("The cost of each missing unit; without it, as little as possible is missing")
 }
 
+// The option `--groups`.
+fn groups_option<'a>(alloc: Global) -> Arg<'a>
+    ensures rule { rule_of result ≡ groups_rule }
+    ensures local { result.global ≡ false }
+{
+    Arg::new(alloc, "groups")
+        .long("groups")
+        .value_name("GROUPS")
+        .help("The table of groups: the columns group, who or what, and perhaps least and most")
+}
+
+// The option `--crossing`.
+fn crossing_option<'a>(alloc: Global) -> Arg<'a>
+    ensures rule { Offers crossing_rule crossing_names (rule_of result) }
+    ensures local { result.global ≡ false }
+{
+    word_option(alloc, "crossing", "WORD", CROSSINGS.as_slice(), "refuse").help(
+        "Whether a group that crosses another is a fault, or is left out and checked afterwards",
+    )
+}
+
 // The argument of a table.
 fn table_argument<'a>(alloc: Global, name: &'a str, value: &'a str) -> Arg<'a>
     ensures rule { rule_of result ≡ table_rule name.entry.now }
@@ -274,6 +306,16 @@ fn each_of(name: Option<&str>) -> Option<AskedEach>
         Some("what") => Some(AskedEach::What),
         Some("both") => Some(AskedEach::Both),
         _ => None,
+    }
+}
+
+// Whether a word asks to check groups that cross.
+fn crossing_of(name: Option<&str>) -> bool
+    ensures { result ≡ crossing_by (option_map (λ n. n.now) name.entry) }
+{
+    match name {
+        Some("check") => true,
+        _ => false,
     }
 }
 

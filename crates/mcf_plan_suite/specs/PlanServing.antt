@@ -1,6 +1,6 @@
 -- What the command `mcfplan` does.
 -- Source: own
-use Rattle.std.specs.Prelude.{◌≡◌, ◌⊎◌, ℕ, List, [], Option, Some, None, option_map, Result, Ok, codes}
+use Rattle.std.specs.Prelude.{◌≡◌, ◌⊎◌, ℕ, Bool, true, false, List, [], Option, Some, None, option_map, Result, Ok, codes}
 use Rattle.std.specs.Borrow.{Bor}
 use Rattle.std.specs.Fn.{CalledAt, Mut}
 use Rattle.std.specs.Io.KnownBytes.{Appends}
@@ -12,9 +12,12 @@ use Rattle.mcf_decimal.specs.declared.decimal.Decimal.{Decimal}
 use Rattle.mcf_decimal.specs.declared.fault.NumberFault.{NumberFault}
 use Rattle.mcf_decimal.specs.declared.mark.Mark.{Mark}
 use Rattle.mcf_flow_tables.specs.declared.options.Options.{Options}
+use Rattle.mcf_pair_tables.specs.declared.group_options.AtCrossing.{AtCrossing}
+use Rattle.mcf_pair_tables.specs.declared.group_options.AtCrossing.TheVariants.{Check, Refuse}
 use Rattle.mcf_pair_tables.specs.declared.options.Each.{Each}
 use Rattle.mcf_pair_tables.specs.declared.options.Each.TheVariants as each
 use Rattle.mcf_pair_tables.specs.declared.options.Options.{Options as PairOptions}
+use Rattle.mcf_pair_text.specs.GroupTexts.{IsGroupText}
 use Rattle.mcf_pair_text.specs.PairTexts.{IsPairText}
 use Rattle.mcf_plan_asking.specs.PlanAsking.{AsksPlan, IsMcfplan, word_text}
 use Rattle.mcf_plan_asking.specs.declared.asking.AskedEach.{AskedEach}
@@ -76,15 +79,43 @@ each_in asked.Both = each.Both
 abbrev pub pair_options_in : AskedPairs → PairOptions
 pair_options_in asked = record { mark = asked.mark; each = option_map each_in asked.each; maximise = asked.maximise }
 
+-- what happens to groups that cross others
+abbrev pub crossing_in : Bool → AtCrossing
+crossing_in true = Check
+crossing_in false = Refuse
+
 -- the text is an answer to the table that is named, whose bytes the reader gave, under the options
 -- that are asked
-pub record TellsPairs {F V E : Type 0} (calls : Mut F (Bor (List ℕ) × Unit {0}) (Result V E)) (bytes : V → List ℕ) (read after : F) (asked : AskedPairs)
+pub record TellsOnePairs {F V E : Type 0} (calls : Mut F (Bor (List ℕ) × Unit {0}) (Result V E)) (bytes : V → List ℕ) (read after : F) (asked : AskedPairs)
     (text : PlanText) : Type 0 where
   pub file : Text
   pub costs : V
   pub names_costs : word_text asked.costs ≡ Some file
   pub costs_read : CalledAt calls read file (Ok costs) after
   pub answers : IsPairText (bytes costs) (pair_options_in asked) text
+
+-- the text is an answer to the table and the groups that are named, whose bytes the reader gave, in
+-- this order, under the options that are asked
+pub record TellsGroups {F V E : Type 0} (calls : Mut F (Bor (List ℕ) × Unit {0}) (Result V E)) (bytes : V → List ℕ) (read after : F) (asked : AskedPairs)
+    (group_file : Text) (text : PlanText) : Type 0 where
+  pub file : Text
+  pub costs : V
+  pub groups : V
+  pub between : F
+  pub names_costs : word_text asked.costs ≡ Some file
+  pub costs_read : CalledAt calls read file (Ok costs) between
+  pub groups_read : CalledAt calls between group_file (Ok groups) after
+  pub answers : IsGroupText (bytes costs) (bytes groups) (record { options = pair_options_in asked; crossing = crossing_in asked.check }) text
+
+-- the same with a table of groups, if one is named
+abbrev pub TellsPairsBy : {F V E : Type 0} → Mut F (Bor (List ℕ) × Unit {0}) (Result V E) → (V → List ℕ) → F → F → AskedPairs → Option Text
+    → PlanText → Type 0
+TellsPairsBy calls bytes read after asked None text = TellsOnePairs calls bytes read after asked text
+TellsPairsBy calls bytes read after asked (Some group_file) text = TellsGroups calls bytes read after asked group_file text
+
+-- the text is an answer to what is asked of persons and things
+abbrev pub TellsPairs : {F V E : Type 0} → Mut F (Bor (List ℕ) × Unit {0}) (Result V E) → (V → List ℕ) → F → F → AskedPairs → PlanText → Type 0
+TellsPairs calls bytes read after asked text = TellsPairsBy calls bytes read after asked (word_text asked.groups) text
 
 -- the text is an answer to what is asked
 abbrev pub Tells : {F V E : Type 0} → Mut F (Bor (List ℕ) × Unit {0}) (Result V E) → (V → List ℕ) → F → F → AskedPlan → PlanText → Type 0

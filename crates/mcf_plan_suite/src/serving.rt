@@ -2,7 +2,7 @@
 ghost use Rattle.std.specs.Prelude.{◌≡◌, ◌≢◌, ◌≤◌, ◌⊎◌, IfOk, Ok, OnOk, map, option_map};
 ghost use Rattle.std.specs.Fn.{CalledAt};
 ghost use Rattle.clap.specs.Words.{kind_of};
-ghost use Rattle.mcf_plan_suite.specs.PlanServing.{IsShownPlan, ServesPlan, Tells, TellsFlow, TellsPairs, each_in, penalty_in, status_of};
+ghost use Rattle.mcf_plan_suite.specs.PlanServing.{IsShownPlan, ServesPlan, Tells, TellsFlow, TellsGroups, TellsOnePairs, TellsPairs, crossing_in, each_in, pair_options_in, penalty_in, status_of};
 
 use crate::version::VERSION;
 use clap::Error;
@@ -11,8 +11,8 @@ use mcf_checker::FileFault;
 use mcf_decimal::{Decimal, Mark, number};
 use mcf_flow_tables::{Options, Texts};
 use mcf_model::Solves;
-use mcf_pair_tables::{Each, Options as PairOptions};
-use mcf_pair_text::pair_text;
+use mcf_pair_tables::{AtCrossing, Each, GroupTexts, Options as PairOptions};
+use mcf_pair_text::{group_text, pair_text};
 use mcf_plan_asking::{AskedEach, AskedFlow, AskedPairs, AskedPlan, plan_command};
 use mcf_plan_text::{PlanText, TextKind};
 use mcf_range_text::told_text;
@@ -39,6 +39,7 @@ enum Failure {
     Places,
     Routes,
     Costs,
+    Groups,
     // Writing failed.
     Write,
     // Memory ran out.
@@ -56,6 +57,7 @@ impl Failure {
             Failure::Places => "mcfplan: cannot read the table of places\n",
             Failure::Routes => "mcfplan: cannot read the table of routes\n",
             Failure::Costs => "mcfplan: cannot read the table of costs\n",
+            Failure::Groups => "mcfplan: cannot read the table of groups\n",
             Failure::Write => "mcfplan: write failed\n",
             Failure::NoMemory => "mcfplan: out of memory\n",
         }
@@ -174,7 +176,73 @@ fn each_of(asked: Option<AskedEach>) -> Option<Each>
     }
 }
 
+// How a table of persons and things is read, and which choice is the best.
+fn pair_options(asked: AskedPairs<'_>) -> PairOptions
+    ensures { result ≡ pair_options_in asked.entry }
+{
+    PairOptions {
+        mark: asked.mark,
+        each: each_of(asked.each),
+        maximise: asked.maximise,
+    }
+}
+
+// What happens to groups that cross others.
+fn crossing_in(check: bool) -> AtCrossing
+    ensures { result ≡ crossing_in check }
+{
+    if check {
+        AtCrossing::Check
+    } else {
+        AtCrossing::Refuse
+    }
+}
+
 // The answer to what is asked of a table of persons and things.
+fn one_pairs_text<S: Solves, R: FnMut(&str) -> Result<Vec<u8>, FileFault>>(
+    alloc: Global,
+    solver: &mut S,
+    read: &mut R,
+    asked: AskedPairs<'_>,
+) -> Result<PlanText, Failure>
+    requires { R.IsAlwaysCallable read.old }
+    ensures { IfOk result (TellsOnePairs R.FnMut (λ file. file.items) read.old read.new asked.entry) }
+{
+    let options = pair_options(asked);
+    let Some(file) = asked.costs else {
+        return Err(Failure::Table);
+    };
+    let costs = read_file(read, file, Failure::Costs)?;
+    let text = pair_text(alloc, solver, &costs, options)?;
+    Ok(text)
+}
+
+// The answer to what is asked of a table of persons and things and a table of groups.
+fn groups_text<S: Solves, R: FnMut(&str) -> Result<Vec<u8>, FileFault>>(
+    alloc: Global,
+    solver: &mut S,
+    read: &mut R,
+    asked: AskedPairs<'_>,
+    group_file: &str,
+) -> Result<PlanText, Failure>
+    requires { R.IsAlwaysCallable read.old }
+    ensures { IfOk result (TellsGroups R.FnMut (λ file. file.items) read.old read.new asked.entry group_file.now) }
+{
+    let options = pair_options(asked);
+    let Some(file) = asked.costs else {
+        return Err(Failure::Table);
+    };
+    let costs = read_file(read, file, Failure::Costs)?;
+    let groups = read_file(read, group_file, Failure::Groups)?;
+    let texts = GroupTexts {
+        costs: &costs,
+        groups: &groups,
+    };
+    let text = group_text(alloc, solver, texts, options, crossing_in(asked.check))?;
+    Ok(text)
+}
+
+// The answer to what is asked of persons and things.
 fn pairs_text<S: Solves, R: FnMut(&str) -> Result<Vec<u8>, FileFault>>(
     alloc: Global,
     solver: &mut S,
@@ -184,17 +252,10 @@ fn pairs_text<S: Solves, R: FnMut(&str) -> Result<Vec<u8>, FileFault>>(
     requires { R.IsAlwaysCallable read.old }
     ensures { IfOk result (TellsPairs R.FnMut (λ file. file.items) read.old read.new asked.entry) }
 {
-    let options = PairOptions {
-        mark: asked.mark,
-        each: each_of(asked.each),
-        maximise: asked.maximise,
-    };
-    let Some(file) = asked.costs else {
-        return Err(Failure::Table);
-    };
-    let costs = read_file(read, file, Failure::Costs)?;
-    let text = pair_text(alloc, solver, &costs, options)?;
-    Ok(text)
+    match asked.groups {
+        Some(file) => groups_text(alloc, solver, read, asked, file),
+        None => one_pairs_text(alloc, solver, read, asked),
+    }
 }
 
 // The answer to what is asked.
@@ -264,9 +325,10 @@ fn answer<W: AsStr, S: Solves, R: FnMut(&str) -> Result<Vec<u8>, FileFault>, O: 
 ///
 /// The words begin with the name of the program: `mcfplan flow [--decimal MARK] [--unused WORD]
 /// [--short WORD] [--penalty N] [--ranges WORD] PLACES ROUTES`, or `mcfplan pairs [--decimal MARK]
-/// [--each WORD] [--maximise WORD] COSTS`, as `plan_command` reads them, or `mcfplan --version`.
-/// `read` returns the bytes of a file; it is called for PLACES first. The answer goes to `out`, as
-/// the text of a table, which `told_text` and `pair_text` describe. Status 0 means a least plan or
+/// [--each WORD] [--maximise WORD] [--groups GROUPS] [--crossing WORD] COSTS`, as `plan_command`
+/// reads them, or `mcfplan --version`. `read` returns the bytes of a file; it is called for PLACES
+/// first, and for COSTS before GROUPS. The answer goes to `out`, as the text of a table, which
+/// `told_text`, `pair_text` and `group_text` describe. Status 0 means a least plan or
 /// choice, or the requested help or version on `out`; 1 that there is none; 2 faults. Status 3,
 /// with a line or the text of the usage fault on `err`, means that the words aren't a command of
 /// `mcfplan`, a file can't be read, writing fails, or memory runs out.

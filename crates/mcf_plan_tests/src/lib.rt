@@ -22,6 +22,8 @@ mod group_order;
 #[cfg(test)]
 mod groups;
 #[cfg(test)]
+mod pair_groups;
+#[cfg(test)]
 mod pair_tables;
 #[cfg(test)]
 mod pair_texts;

@@ -14,15 +14,20 @@ returns-clause-shape c =
     let one = c.in_ok-arg.ensures.shape mark.local ∙ ap₂ with_rule new_is mark.rule.2 in
     let two = c.in_ok-arg-2.ensures.shape each.local ∙ ap₂ with_rule one each.rule.2 in
     let three = c.in_ok-arg-3.ensures.shape maximise.local ∙ ap₂ with_rule two maximise.rule.2 in
-    IfOk-weaker c.arg-4.result _ _ (λ r h. record {
+    let four = c.in_ok-arg-4.ensures.shape c.groups_option.ensures.local ∙ ap₂ with_rule three c.groups_option.ensures.rule in
+    let crossing = c.crossing_option.ensures in
+    let five = c.in_ok-arg-5.ensures.shape crossing.local ∙ ap₂ with_rule four crossing.rule.2 in
+    IfOk-weaker c.arg-6.result _ _ (λ r h. record {
       marks = mark.rule.0;
       each = each.rule.0;
       maximise = maximise.rule.0;
+      crossing = crossing.rule.0;
       marks_spelled = mark.rule.1;
       each_spelled = each.rule.1;
       maximise_spelled = maximise.rule.1;
-      reads = ap (λ (a : App). a.top) (h.shape c.table_argument.ensures.local ∙ ap₂ with_rule three c.table_argument.ensures.rule);
-    }) c.arg-4.ensures
+      crossing_spelled = crossing.rule.1;
+      reads = ap (λ (a : App). a.top) (h.shape c.table_argument.ensures.local ∙ ap₂ with_rule five c.table_argument.ensures.rule);
+    }) c.arg-6.ensures
 
 pub returns-clause-local : goal.returns-clause-local
 returns-clause-local c =
@@ -30,4 +35,6 @@ returns-clause-local c =
     let one = c.in_ok-arg.ensures.globals ∙ ap₂ (λ x y. x || y) new_local c.mark_option.ensures.local in
     let two = c.in_ok-arg-2.ensures.globals ∙ ap₂ (λ x y. x || y) one c.each_option.ensures.local in
     let three = c.in_ok-arg-3.ensures.globals ∙ ap₂ (λ x y. x || y) two c.answer_option.ensures.local in
-    IfOk-weaker c.arg-4.result _ _ (λ r h. h.globals ∙ ap₂ (λ x y. x || y) three c.table_argument.ensures.local) c.arg-4.ensures
+    let four = c.in_ok-arg-4.ensures.globals ∙ ap₂ (λ x y. x || y) three c.groups_option.ensures.local in
+    let five = c.in_ok-arg-5.ensures.globals ∙ ap₂ (λ x y. x || y) four c.crossing_option.ensures.local in
+    IfOk-weaker c.arg-6.result _ _ (λ r h. h.globals ∙ ap₂ (λ x y. x || y) five c.table_argument.ensures.local) c.arg-6.ensures

@@ -1,6 +1,6 @@
 use Rattle.std.proofs.Common.{ap}
 use Rattle.mcf_plan_asking.specs.PlanAsking.{word_text}
-use Rattle.mcf_plan_suite.proofs.serving.pairs_text.Goals as goal
+use Rattle.mcf_plan_suite.proofs.serving.one_pairs_text.Goals as goal
 
 pub returns : goal.returns
 returns g c = record {
@@ -8,5 +8,5 @@ returns g c = record {
   costs = c.in_ok-costs.costs;
   names_costs = ap word_text c.in-Some.is;
   costs_read = c.in_ok-costs.ensures;
-  answers = rw (c.deref.ensures.value, c.each_of.ensures) at c.in_ok-text.ensures;
+  answers = rw (c.deref.ensures.value, c.pair_options-options.ensures) at c.in_ok-text.ensures;
 }

@@ -1,0 +1,15 @@
+use Rattle.std.proofs.Common.{ap}
+use Rattle.mcf_plan_asking.specs.PlanAsking.{word_text}
+use Rattle.mcf_plan_suite.proofs.serving.groups_text.Goals as goal
+
+pub returns : goal.returns
+returns g c = record {
+  file = c.in-Some.file.now;
+  costs = c.in_ok-costs.costs;
+  groups = c.in_ok-groups.groups;
+  between = c.read_file.new.read;
+  names_costs = ap word_text c.in-Some.is;
+  costs_read = c.in_ok-costs.ensures;
+  groups_read = c.in_ok-groups.ensures;
+  answers = rw (c.deref.ensures.value, c.deref-2.ensures.value, c.pair_options-options.ensures, c.crossing_in.ensures) at c.in_ok-text.ensures;
+}
