@@ -143,15 +143,24 @@ uint32_t mcf_plan_flow(const uint8_t *places, size_t places_length, const uint8_
                        size_t routes_length, const struct mcf_plan_options *options,
                        uint8_t *buffer, size_t buffer_length, size_t *used);
 
-/* How a table of persons and things is read, and which choice is the best. All zeros are the
-   defaults. */
+/* How a table of persons and things is read, which choice is the best, and a table of groups. All
+   zeros are the defaults. */
 struct mcf_pair_options {
-    uint32_t decimal;  /* the mark before decimals: MCF_SHOWN_MARK to MCF_COMMA */
-    uint32_t each;     /* who gets just one, where no cell says how many: MCF_EACH_AUTO to
-                          MCF_EACH_BOTH */
-    uint32_t maximise; /* 1: costs are values, and a choice is worth as much as possible; 0: it
-                          costs as little as possible */
+    uint32_t decimal;      /* the mark before decimals: MCF_SHOWN_MARK to MCF_COMMA */
+    uint32_t each;         /* who gets just one, where no cell says how many: MCF_EACH_AUTO to
+                              MCF_EACH_BOTH */
+    uint32_t maximise;     /* 1: costs are values, and a choice is worth as much as possible; 0: it
+                              costs as little as possible */
+    uint32_t crossing;     /* groups that cross an earlier one: MCF_REFUSE_CROSSING or
+                              MCF_CHECK_CROSSING */
+    const uint8_t *groups; /* the text of a table of groups in UTF-8, which `man mcfplan`
+                              describes; if it is empty, there are none */
+    size_t groups_length;
 };
+
+/* Groups that cross an earlier one are faults; or they are left out, and the answer says who breaks
+   them. */
+enum mcf_crossing { MCF_REFUSE_CROSSING = 0, MCF_CHECK_CROSSING = 1 };
 
 /* Each thing, if a cell says how many a person or a thing has, and otherwise each person; each
    person; each thing; or both. */

@@ -397,7 +397,8 @@ static int check_rosters(void) {
     static const uint8_t narrow[] = ",X\nA,1\nB,1\n";
     static const char pairs[] = "\"answer\",\"plan\"\n\"cost\",\"4.5\"\n";
     static const char values[] = "\"answer\",\"plan\"\n\"cost\",\"5.5\"\n";
-    struct mcf_pair_options options = {MCF_SHOWN_MARK, MCF_EACH_AUTO, 0};
+    static const uint8_t groups[] = "group,what,most\nboth,X,0\nboth,Y,\n";
+    struct mcf_pair_options options = {MCF_SHOWN_MARK, MCF_EACH_AUTO, 0, 0, NULL, 0};
     uint8_t room[1024];
     size_t used = 77, length = sizeof costs - 1;
     CHECK(71, mcf_plan_pairs(costs, length, &options, room, sizeof room, &used) == MCF_FLOW);
@@ -406,6 +407,10 @@ static int check_rosters(void) {
           mcf_plan_pairs(costs, length, &options, room, used - 1, &used) == MCF_BUFFER_TOO_SMALL);
     CHECK(74, mcf_plan_pairs(narrow, sizeof narrow - 1, &options, room, sizeof room, &used) ==
                   MCF_BLOCKED);
+    options.groups = groups;
+    options.groups_length = sizeof groups - 1;
+    CHECK(118, mcf_plan_pairs(costs, length, &options, room, sizeof room, &used) == MCF_BLOCKED);
+    options.groups_length = 0;
     options.each = MCF_EACH_WHAT;
     CHECK(75, mcf_plan_pairs(narrow, sizeof narrow - 1, &options, room, sizeof room, &used) ==
                   MCF_FLOW);

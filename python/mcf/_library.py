@@ -151,12 +151,15 @@ class PlanOptions(ctypes.Structure):
 
 
 class PairOptions(ctypes.Structure):
-    """How a table of persons and things is read, and which choice is the best."""
+    """How a table of persons and things is read, which choice is best, and a table of groups."""
 
     _fields_ = [
         ("decimal", ctypes.c_uint32),
         ("each", ctypes.c_uint32),
         ("maximise", ctypes.c_uint32),
+        ("crossing", ctypes.c_uint32),
+        ("groups", ctypes.c_char_p),
+        ("groups_length", ctypes.c_size_t),
     ]
 
 

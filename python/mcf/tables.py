@@ -8,6 +8,8 @@ from . import _library
 KINDS = ("plan", "no plan", "faults")
 MARKS = (None, ".", ",")
 EACH = (None, "who", "what", "both")
+# What happens to groups that cross an earlier one, by their numbers.
+CROSSING = ("refuse", "check")
 
 
 class PlanAnswer(NamedTuple):
@@ -103,6 +105,8 @@ def plan_pairs(
     decimal: Optional[str] = None,
     each: Optional[str] = None,
     maximise: bool = False,
+    groups: Union[bytes, str, None] = None,
+    crossing: str = "refuse",
 ) -> PlanAnswer:
     """Pairs persons with things at the least cost, from the text of a table.
 
@@ -120,17 +124,24 @@ def plan_pairs(
         each thing if the table has a number in takes or needs, and otherwise each person.
     maximise : bool
         Costs are values, and the pairs are worth as much as possible.
+    groups : bytes or str, optional
+        The text of a table with the columns group, who or what, and optionally least and most: each
+        row puts a person or a thing into a group. Each thing gets so many persons of a group, or
+        each person so many things. Without this text, there are no groups.
+    crossing : {'refuse', 'check'}
+        Groups that cross an earlier one, that is, have some of its members and not all, are faults;
+        or they are left out, and the answer says who breaks them.
 
     Returns
     -------
     PlanAnswer
         A choice of pairs that none undercuts, or persons and things that show why there is none, or
-        all faults of the table.
+        all faults of the tables.
 
     Raises
     ------
     ValueError
-        `decimal` is no mark, or `each` is none of these words.
+        `decimal` is no mark, `each` or `crossing` is none of these words, or `groups` is empty.
     MemoryError
         Memory runs out.
 
@@ -143,7 +154,13 @@ def plan_pairs(
         raise ValueError("the decimal mark is '.' or ',', or None")
     if each not in EACH:
         raise ValueError("each is 'who', 'what', 'both' or None, not %r" % each)
-    options = _library.PairOptions(MARKS.index(decimal), EACH.index(each), maximise)
+    if crossing not in CROSSING:
+        raise ValueError("crossing is 'refuse' or 'check', not %r" % crossing)
+    named = b"" if groups is None else _text_of(groups)
+    if groups is not None and not named:
+        raise ValueError("the table of groups is empty")
+    numbers = MARKS.index(decimal), EACH.index(each), maximise, CROSSING.index(crossing)
+    options = _library.PairOptions(*numbers, named, len(named))
     status, text = _library.plan_pairs(_text_of(costs), options)
     if status > _library.INVALID_INPUT:
         raise _library.failed(status)

@@ -220,6 +220,7 @@ class Rosters(unittest.TestCase):
     """Pairs of persons and things, from the text of a table."""
 
     COSTS = ";Früh;Spät\nAda;1;2,5\nBen;3;3,5\n"
+    NARROW = "who,what,cost\nAda,day,1\nBen,day,1\n"
 
     def test_pairs(self):
         answer = mcf.plan_pairs(memoryview(self.COSTS.encode()))
@@ -231,15 +232,29 @@ class Rosters(unittest.TestCase):
     def test_options(self):
         answer = mcf.plan_pairs(self.COSTS, decimal=",", each="both", maximise=True)
         self.assertEqual(answer.rows()[1], ["cost", "5.5"])
-        narrow = "who,what,cost\nAda,day,1\nBen,day,1\n"
-        answer = mcf.plan_pairs(narrow)
+        answer = mcf.plan_pairs(self.NARROW)
         self.assertEqual(answer.kind, "no plan")
         self.assertIn(["person", "3", "Ben", "1"], answer.rows())
-        self.assertEqual(mcf.plan_pairs(narrow, each="what").kind, "plan")
-        self.assertEqual(mcf.plan_pairs(narrow, each="who"), answer)
+        self.assertEqual(mcf.plan_pairs(self.NARROW, each="what").kind, "plan")
+        self.assertEqual(mcf.plan_pairs(self.NARROW, each="who"), answer)
+
+    def test_groups(self):
+        for least, kind in ((1, "plan"), (2, "no plan")):
+            groups = f"group,who,least\nboth,Ada,{least}\nboth,Ben,\n"
+            answer = mcf.plan_pairs(self.NARROW, each="what", groups=groups)
+            self.assertEqual(answer.kind, kind)
+        crossing = "group,who,most\nsome,Ada,1\nsome,Ben,\nothers,Ben,1\nothers,Cy,\n"
+        costs = self.NARROW + "Cy,day,1\n"
+        told = {
+            how: mcf.plan_pairs(costs, each="what", groups=crossing, crossing=how).kind
+            for how in ("refuse", "check")
+        }
+        self.assertEqual(told, {"refuse": "faults", "check": "plan"})
 
     def test_faults(self):
         self.assertEqual(mcf.plan_pairs(self.COSTS, decimal=".").kind, "faults")
+        groups = "group,who,most\nboth,Ada,1\nboth,Cy,\n"
+        self.assertEqual(mcf.plan_pairs(self.NARROW, each="what", groups=groups).kind, "faults")
         for wrong in ({"decimal": ";"}, {"each": "all"}):
             with self.assertRaises(ValueError):
                 mcf.plan_pairs(self.COSTS, **wrong)

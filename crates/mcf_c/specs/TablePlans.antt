@@ -4,6 +4,7 @@ use Rattle.std.specs.Prelude.{◌≡◌, ℕ, ◌==◌, Bool, true, false, if◌
 use Rattle.mcf_answer_rows.specs.declared.texts.PlanText.{PlanText}
 use Rattle.mcf_answer_rows.specs.declared.texts.TextKind.{TextKind}
 use Rattle.mcf_answer_rows.specs.declared.texts.TextKind.TheVariants.{Plan, NoPlan, Faults}
+use Rattle.mcf_c.specs.declared.table_plans.AskedPairs.{AskedPairs}
 use Rattle.mcf_c.specs.declared.table_plans.AskedTables.{AskedTables}
 use Rattle.mcf_c.specs.declared.table_plans.McfPairOptions.{McfPairOptions}
 use Rattle.mcf_c.specs.declared.table_plans.McfPlanOptions.{McfPlanOptions}
@@ -13,9 +14,12 @@ use Rattle.mcf_decimal.specs.declared.fault.NumberFault.{NumberFault}
 use Rattle.mcf_decimal.specs.declared.mark.Mark.{Mark}
 use Rattle.mcf_decimal.specs.declared.mark.Mark.TheVariants.{Point, Comma}
 use Rattle.mcf_flow_tables.specs.declared.options.Options.{Options}
+use Rattle.mcf_pair_tables.specs.declared.group_options.AtCrossing.{AtCrossing}
+use Rattle.mcf_pair_tables.specs.declared.group_options.AtCrossing.TheVariants.{Check, Refuse}
 use Rattle.mcf_pair_tables.specs.declared.options.Each.{Each}
 use Rattle.mcf_pair_tables.specs.declared.options.Each.TheVariants.{Who, What, Both}
 use Rattle.mcf_pair_tables.specs.declared.options.Options.{Options as PairOptions}
+use Rattle.mcf_pair_text.specs.GroupTexts.{IsGroupText}
 use Rattle.mcf_pair_text.specs.PairTexts.{IsPairText}
 use Rattle.mcf_range_text.specs.RangeTexts.{IsFlowText}
 use Rattle.mcf_units.specs.declared.terms.Terms.{Terms}
@@ -33,12 +37,18 @@ pub record HandsPlanText (places routes : List ℕ) (asked : AskedTables) (statu
   pub is_text : text ≡ told.text.items
   pub answers : IsFlowText asked.ranges places routes asked.options told
 
--- a text of this status is an answer to a table of persons and things
-pub record HandsPairText (costs : List ℕ) (options : PairOptions) (status : ℕ) (text : List ℕ) : Type 0 where
+-- a text is an answer to a table of persons and things, and to one of groups, unless that is empty
+abbrev pub IsAskedText : List ℕ → List ℕ → AskedPairs → PlanText → Type 0
+IsAskedText costs [] asked told = IsPairText costs asked.options told
+IsAskedText costs (byte ∷ groups) asked told =
+    IsGroupText costs (byte ∷ groups) (record { options = asked.options; crossing = asked.crossing }) told
+
+-- a text of this status is such an answer
+pub record HandsPairText (costs groups : List ℕ) (asked : AskedPairs) (status : ℕ) (text : List ℕ) : Type 0 where
   pub told : PlanText
   pub is_status : status ≡ plan_status told.kind
   pub is_text : text ≡ told.text.items
-  pub answers : IsPairText costs options told
+  pub answers : IsAskedText costs groups asked told
 
 -- ---- what the numbers ask
 
@@ -103,3 +113,17 @@ pair_options_from (Some mark) (Some each) None = None
 -- what the numbers ask of a table of persons and things, if they have a meaning
 abbrev pub pair_options : McfPairOptions → Option PairOptions
 pair_options o = pair_options_from (asked_mark o.decimal) (asked_each o.each) (asked_yes o.maximise)
+
+-- what happens to groups that cross others: they are faults, or they are left out and checked
+abbrev pub asked_crossing : ℕ → Option AtCrossing
+asked_crossing n = if n == 0 then Some Refuse else (if n == 1 then Some Check else None)
+
+-- both, if each is there
+abbrev pub asked_both : Option PairOptions → Option AtCrossing → Option AskedPairs
+asked_both (Some options) (Some crossing) = Some (record { options = options; crossing = crossing })
+asked_both None crossing = None
+asked_both (Some options) None = None
+
+-- what the numbers ask of persons and things, if they have a meaning
+abbrev pub asked_pairs : McfPairOptions → Option AskedPairs
+asked_pairs o = asked_both (pair_options o) (asked_crossing o.crossing)

@@ -1,15 +1,15 @@
 //! Tables planned.
 ghost use Rattle.std.specs.Prelude.{◌≡◌, ◌↔◌, ◌≤◌, ◌⊎◌, IfOk, IfSome, None};
 ghost use Rattle.mcf_c.specs.Calls.{HandsInto, LacksRoomFor};
-ghost use Rattle.mcf_c.specs.TablePlans.{HandsPairText, HandsPlanText, asked_each, asked_mark, asked_penalty, asked_tables, asked_yes, options_under, pair_options, plan_options, plan_status};
+ghost use Rattle.mcf_c.specs.TablePlans.{HandsPairText, HandsPlanText, IsAskedText, asked_crossing, asked_each, asked_mark, asked_pairs, asked_penalty, asked_tables, asked_yes, options_under, pair_options, plan_options, plan_status};
 
 use crate::statuses::{BLOCKED, BUFFER_TOO_SMALL, FLOW, INVALID_CHOICE, INVALID_INPUT, NO_MEMORY};
-use mcf_answer_rows::TextKind;
+use mcf_answer_rows::{PlanText, TextKind};
 use mcf_choice::{Choice, EngineChoice};
 use mcf_decimal::{Decimal, Mark, number};
 use mcf_flow_tables::{Options, Texts};
-use mcf_pair_tables::{Each, Options as PairOptions};
-use mcf_pair_text::pair_text;
+use mcf_pair_tables::{AtCrossing, Each, GroupTexts, Options as PairOptions};
+use mcf_pair_text::{group_text, pair_text};
 use mcf_planner::Planner;
 use mcf_range_text::told_text;
 use mcf_text::NoMemory;
@@ -35,14 +35,24 @@ pub struct AskedTables {
     pub ranges: bool,
 }
 
-/// How a table of persons and things is read, and which choice is the best. All zeros are the
-/// defaults.
+/// How a table of persons and things is read, which choice is the best, and the text of a table of
+/// groups. All zeros, with an empty text, are the defaults.
 #[repr(C)]
 #[derive(Clone, Copy)]
-pub struct McfPairOptions {
+pub struct McfPairOptions<'a> {
     pub decimal: u32,
     pub each: u32,
     pub maximise: u32,
+    pub crossing: u32,
+    pub groups: &'a [u8],
+}
+
+/// What the numbers ask: how a table of persons and things is read, which choice is the best, and
+/// what happens to groups that cross others.
+#[derive(Clone, Copy)]
+pub struct AskedPairs {
+    pub options: PairOptions,
+    pub crossing: AtCrossing,
 }
 
 // The status of an answer of a kind.
@@ -141,7 +151,7 @@ fn asked_each(number: u32) -> Option<Option<Each>>
 }
 
 // What numbers ask of a table of persons and things, if they have a meaning.
-fn pair_options(numbers: &McfPairOptions) -> Option<PairOptions>
+fn pair_options(numbers: &McfPairOptions<'_>) -> Option<PairOptions>
     ensures { result ≡ pair_options numbers.now }
 {
     let mark = asked_mark(numbers.decimal)?;
@@ -152,6 +162,26 @@ fn pair_options(numbers: &McfPairOptions) -> Option<PairOptions>
         each,
         maximise,
     })
+}
+
+// What happens to groups that cross others, by a number.
+fn asked_crossing(number: u32) -> Option<AtCrossing>
+    ensures { result ≡ asked_crossing number }
+{
+    match number {
+        0 => Some(AtCrossing::Refuse),
+        1 => Some(AtCrossing::Check),
+        _ => None,
+    }
+}
+
+// What numbers ask of persons and things, if they have a meaning.
+fn asked_pairs(numbers: &McfPairOptions<'_>) -> Option<AskedPairs>
+    ensures { result ≡ asked_pairs numbers.now }
+{
+    let options = pair_options(numbers)?;
+    let crossing = asked_crossing(numbers.crossing)?;
+    Some(AskedPairs { options, crossing })
 }
 
 // What solves the networks of tables.
@@ -217,22 +247,34 @@ pub extern "C" fn mcf_plan_flow(
     status
 }
 
-// The answer to a table of persons and things, with its status.
-fn pairs_answer(
-    alloc: Global,
-    costs: &[u8],
-    options: PairOptions,
-) -> Result<(u32, Vec<u8>), NoMemory>
-    ensures text { IfOk result (λ r. HandsPairText costs.now options r.0 r.1.items) }
-    ensures few { IfOk result (λ r. r.0 ≤ 2) }
+// The answer to a table of persons and things, and to one of groups, unless that is empty.
+fn asked_text(alloc: Global, texts: GroupTexts<'_>, asked: AskedPairs) -> Result<PlanText, NoMemory>
+    ensures { IfOk result (IsAskedText texts.entry.costs.now texts.entry.groups.now asked) }
 {
     let mut engine = fast_engine();
-    let told = pair_text(alloc, &mut engine, costs, options)?;
+    if texts.groups.is_empty() {
+        pair_text(alloc, &mut engine, texts.costs, asked.options)
+    } else {
+        group_text(alloc, &mut engine, texts, asked.options, asked.crossing)
+    }
+}
+
+// The same with its status.
+fn pairs_answer(
+    alloc: Global,
+    texts: GroupTexts<'_>,
+    asked: AskedPairs,
+) -> Result<(u32, Vec<u8>), NoMemory>
+    ensures text { IfOk result (λ r. HandsPairText texts.entry.costs.now texts.entry.groups.now asked r.0 r.1.items) }
+    ensures few { IfOk result (λ r. r.0 ≤ 2) }
+{
+    let told = asked_text(alloc, texts, asked)?;
     Ok((plan_status(told.kind), told.text))
 }
 
 /// Pairs persons and things by a table in UTF-8, and writes the answer, as the text of a table, to
-/// the beginning of a buffer of the caller's, as `pair_text` writes it.
+/// the beginning of a buffer of the caller's, as `pair_text` writes it; or, if the options have a
+/// text of groups that isn't empty, as `group_text` does, for choices that keep to these groups.
 ///
 /// The status is 0 for a best choice, 1 if there is none, 2 for faults, 3 if memory runs out, also
 /// for the answer before it is copied to the buffer, 4 if the buffer is too short, and 5 if the
@@ -242,22 +284,26 @@ fn pairs_answer(
 pub extern "C" fn mcf_plan_pairs(
     alloc: Global,
     costs: &[u8],
-    options: &McfPairOptions,
+    options: &McfPairOptions<'_>,
     room: &mut [u8],
     used: &mut usize,
 ) -> u32
     ensures statuses { result ≤ 5 }
-    ensures answer { result ≤ 2 → IfSome (pair_options options.now) (λ o. HandsInto (HandsPairText costs.now o) result room.old room.new used.new) }
-    ensures room { result ≡ 4 → IfSome (pair_options options.now) (λ o. LacksRoomFor (HandsPairText costs.now o) room.old used.new) }
-    ensures options { (result ≡ 5) ↔ (pair_options options.now ≡ None) }
+    ensures answer { result ≤ 2 → IfSome (asked_pairs options.now) (λ o. HandsInto (HandsPairText costs.now options.now.groups.now o) result room.old room.new used.new) }
+    ensures room { result ≡ 4 → IfSome (asked_pairs options.now) (λ o. LacksRoomFor (HandsPairText costs.now options.now.groups.now o) room.old used.new) }
+    ensures options { (result ≡ 5) ↔ (asked_pairs options.now ≡ None) }
     ensures untouched { 3 ≤ result → room.new ≡ room.old }
     ensures unused { (result ≡ 3) ⊎ (result ≡ 5) → used.new ≡ 0 }
 {
     *used = 0;
-    let Some(options) = pair_options(options) else {
+    let Some(asked) = asked_pairs(options) else {
         return INVALID_CHOICE;
     };
-    let Ok((status, answer)) = pairs_answer(alloc, costs, options) else {
+    let texts = GroupTexts {
+        costs,
+        groups: options.groups,
+    };
+    let Ok((status, answer)) = pairs_answer(alloc, texts, asked) else {
         return NO_MEMORY;
     };
     *used = answer.len();

@@ -135,9 +135,10 @@ pub fn plan_flow(places: &[u8], routes: &[u8], options: PlanOptions) -> Result<(
 
 /// Pairs persons with things by a table in UTF-8, and returns the answer as the text of another
 /// table, which the manual page of `mcfplan` describes. Its kind is `Flow` for a best choice,
-/// `Blocked` if there is none, and `Refused` for faults of the table.
+/// `Blocked` if there is none, and `Refused` for faults of the tables.
 pub fn plan_pairs(costs: &[u8], options: PairOptions) -> Result<(Kind, Vec<u8>), Error> {
-    written(4096 + 12 * costs.len(), |room| raw::plan_pairs(costs, options, room))
+    let length = 4096 + 12 * (costs.len() + options.groups.len());
+    written(length, |room| raw::plan_pairs(costs, options, room))
 }
 
 /// The verdict on an answer text for an instance text.

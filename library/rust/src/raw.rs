@@ -65,13 +65,17 @@ pub enum Each {
     Both = 3,
 }
 
-/// How a table of persons and things is read, and which choice is the best.
+/// How a table of persons and things is read, which choice is the best, and a table of groups.
 #[derive(Clone, Copy, Debug, Default)]
-pub struct PairOptions {
+pub struct PairOptions<'t> {
     pub decimal: Decimal,
     pub each: Each,
     /// Costs are values, and a choice is worth as much as possible.
     pub maximise: bool,
+    /// Groups that cross an earlier one are left out and checked; otherwise they are faults.
+    pub check_crossing: bool,
+    /// The text of a table of groups, in UTF-8; if it is empty, there are none.
+    pub groups: &'t [u8],
 }
 
 /// The same in numbers, as `mcf.h` has it.
@@ -80,6 +84,9 @@ pub struct PairNumbers {
     decimal: u32,
     each: u32,
     maximise: u32,
+    crossing: u32,
+    groups: *const u8,
+    groups_length: usize,
 }
 
 /// An arc, with nodes from 1.
@@ -302,6 +309,9 @@ pub fn plan_pairs(costs: &[u8], options: PairOptions, room: &mut [u8]) -> (u32, 
         decimal: options.decimal as u32,
         each: options.each as u32,
         maximise: options.maximise.into(),
+        crossing: options.check_crossing.into(),
+        groups: options.groups.as_ptr(),
+        groups_length: options.groups.len(),
     };
     let mut used = 0;
     let status = unsafe { exports::mcf_plan_pairs(costs.as_ptr(), costs.len(), &numbers, room.as_mut_ptr(), room.len(), &mut used) };

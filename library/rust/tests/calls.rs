@@ -54,6 +54,8 @@ fn rosters() {
     assert!(answer.starts_with(b"\"answer\",\"plan\"\n\"cost\",\"5.5\"\n"));
     let narrow = b"who,what,cost\nA,X,1\nB,X,1\n";
     assert_eq!(plan_pairs(narrow, PairOptions::default()).unwrap().0, Kind::Blocked);
+    let groups = PairOptions { groups: b"group,what,most\nboth,X,0\nboth,Y,", ..PairOptions::default() };
+    assert_eq!(plan_pairs(costs, groups).unwrap().0, Kind::Blocked);
     assert_eq!(plan_pairs(narrow, PairOptions { each: Each::What, ..PairOptions::default() }).unwrap().0, Kind::Flow);
     assert_eq!(plan_pairs(costs, PairOptions { decimal: Decimal::Comma, ..values }).unwrap().0, Kind::Refused);
 }
