@@ -1,1 +1,2 @@
+pub mod FirstRows
 mod SpotsRead

@@ -6,7 +6,7 @@ use Rattle.mcf_table.specs.Texts.{Record}
 use Rattle.mcf_period_reading.specs.PeriodCells.{cells_under}
 use Rattle.mcf_period_reading.specs.PeriodReading.{spots_in}
 use Rattle.mcf_period_reading.specs.PlaceTimes.{periods_in, spots, time_columns}
-use Rattle.mcf_period_reading.specs.declared.place_times.Spot.{Spot}
+use Rattle.mcf_period_reading.specs.declared.spots.Spot.{Spot}
 use Rattle.mcf_period_reading.specs.declared.place_times.TimeColumns.{TimeColumns}
 
 spots_same : (places : List Record) (columns : TimeColumns) (names cells periods : List (List ℕ)) → columns ≡ time_columns places → names ≡ cells

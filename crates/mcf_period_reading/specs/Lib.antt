@@ -10,6 +10,7 @@ pub use Rattle.mcf_table.specs.Texts
 pub mod PeriodFaults
 pub mod PeriodHeads
 pub mod PeriodCells
+pub mod Spots
 pub mod PlaceTimes
 pub mod RouteTimes
 pub mod PeriodReading

@@ -1,9 +1,9 @@
 -- The heads of the columns that say something about periods.
 -- Source: own
-use Rattle.std.specs.Prelude.{ℕ, Bool, not, List, [], ◌∷◌, ◌++◌, codes, Option, Some, None}
-use Rattle.std.specs.List.{flat_map}
+use Rattle.std.specs.Prelude.{ℕ, Bool, not, ◌||◌, List, [], ◌∷◌, ◌++◌, codes, Option, Some, None}
+use Rattle.std.specs.List.{flat_map, list_any}
 use Rattle.mcf_reading.specs.Columns.{only_place}
-use Rattle.mcf_reading.specs.HeadTexts.{is_there}
+use Rattle.mcf_reading.specs.HeadTexts.{has_periods, is_there}
 use Rattle.mcf_reading.specs.declared.locations.Table.{Table}
 use Rattle.mcf_reading.specs.declared.locations.Table.TheVariants.{Places, Routes}
 use Rattle.mcf_table.specs.Heads.{column_of}
@@ -39,9 +39,13 @@ column_under records head = column_of (head_text head) records
 abbrev pub place_under : List Record → PeriodHead → Option ℕ
 place_under records head = only_place (column_under records head)
 
--- the table of places has a column of periods
-abbrev pub has_periods : List Record → Bool
-has_periods places = is_there (column_under places Period)
+-- a table has a column with one of these heads
+abbrev pub has_any : List Record → List PeriodHead → Bool
+has_any records heads = list_any (λ head. is_there (column_under records head)) heads
+
+-- a column of the tables says something about periods
+abbrev pub tells_periods : List Record → List Record → Bool
+tells_periods places routes = has_any places (heads_of Places) || has_any routes (heads_of Routes)
 
 -- what is wrong with a column, if the table of places has a column of periods, or if it has none
 abbrev pub column_kind : Bool → Column → Option PeriodKind

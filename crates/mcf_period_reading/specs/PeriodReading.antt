@@ -1,16 +1,22 @@
 -- What both tables say about periods.
 -- Source: own
-use Rattle.std.specs.Prelude.{◌≡◌, ◌⊎◌, List, [], ◌++◌, length, Option, Result, Ok, Err}
+use Rattle.std.specs.Prelude.{◌≡◌, ◌==◌, ◌&&◌, ◌⊎◌, List, [], ◌++◌, length, Option, Result, Ok, Err}
 use Rattle.std.specs.Global.{Vec}
 use Rattle.mcf_decimal.specs.declared.mark.Mark.{Mark}
 use Rattle.mcf_table.specs.Texts.{Record}
 use Rattle.mcf_period_reading.specs.PeriodCells.{cells_under}
+use Rattle.mcf_reading.specs.HeadTexts.{has_periods}
+use Rattle.mcf_reading.specs.declared.locations.Table.TheVariants.{Places}
+use Rattle.mcf_period_reading.specs.PeriodFaults.{if_kind, told}
 use Rattle.mcf_period_reading.specs.PeriodHeads.{head_faults}
 use Rattle.mcf_period_reading.specs.PlaceTimes.{all_place_faults, periods_in, place_times, spots, time_columns}
 use Rattle.mcf_period_reading.specs.RouteTimes.{all_route_faults, route_format, route_times}
+use Rattle.mcf_period_reading.specs.declared.heads.PeriodHead.TheVariants.{Period}
 use Rattle.mcf_period_reading.specs.declared.kinds.PeriodFault.{PeriodFault}
+use Rattle.mcf_period_reading.specs.declared.kinds.PeriodKind.{PeriodKind}
+use Rattle.mcf_period_reading.specs.declared.kinds.PeriodKind.TheVariants.{NoneNamed}
 use Rattle.mcf_period_reading.specs.declared.place_times.PlaceFormat.{PlaceFormat}
-use Rattle.mcf_period_reading.specs.declared.place_times.Spot.{Spot}
+use Rattle.mcf_period_reading.specs.declared.spots.Spot.{Spot}
 use Rattle.mcf_period_reading.specs.declared.reading.PeriodTables.{PeriodTables}
 
 -- how the rows of places are read
@@ -21,10 +27,16 @@ place_format mark places = record { mark = mark; columns = time_columns places; 
 abbrev pub spots_in : List Record → List Spot
 spots_in places = spots (time_columns places) (cells_under places ((time_columns places).name)) (periods_in places) places
 
--- the faults of the rows of both tables: of places, and then of routes
+-- there is a column of periods, and it names none
+abbrev pub empty_kind : List Record → Option PeriodKind
+empty_kind places = if_kind (has_periods places && length (periods_in places) == 0) NoneNamed
+
+-- the faults of the rows of both tables: that none names a period, those of places, and then those
+-- of routes
 abbrev pub row_faults : Option Mark → List Record → List Record → List PeriodFault
 row_faults mark places routes =
-    all_place_faults (place_format mark places) (spots_in places) places ++ all_route_faults (route_format mark routes) (periods_in places) routes
+    told Places 0 Period (empty_kind places)
+    ++ (all_place_faults (place_format mark places) (spots_in places) places ++ all_route_faults (route_format mark routes) (periods_in places) routes)
 
 -- what the rows say: the periods, and what each row says of them
 pub record SaysOf (mark : Option Mark) (places routes : List Record) (made : PeriodTables) : Type 0 where

@@ -1,6 +1,6 @@
 -- What rows of places say about periods.
 -- Source: own
-use Rattle.std.specs.Prelude.{ℕ, ◌-◌, ◌==◌, nat_lt, Bool, ◌&&◌, ◌||◌, if◌then◌else◌, List, [], ◌∷◌, ◌++◌, map, take, codes, slice_index_or, Option, Some, None, option_map}
+use Rattle.std.specs.Prelude.{ℕ, ◌-◌, ◌==◌, nat_lt, Bool, ◌&&◌, ◌||◌, if◌then◌else◌, List, [], ◌∷◌, ◌++◌, map, take, codes, Option, Some, None, option_map}
 use Rattle.std.specs.List.{flat_map, list_any}
 use Rattle.mcf_decimal.specs.declared.mark.Mark.{Mark}
 use Rattle.mcf_names.specs.NameFaults.{name_fault}
@@ -14,6 +14,7 @@ use Rattle.mcf_table.specs.Texts.{Record, is_filled}
 use Rattle.mcf_period_reading.specs.PeriodCells.{cells_under, limit_kind, number_kind, stock_kind}
 use Rattle.mcf_period_reading.specs.PeriodFaults.{if_kind, told}
 use Rattle.mcf_period_reading.specs.PeriodHeads.{place_under}
+use Rattle.mcf_period_reading.specs.Spots.{spot_at}
 use Rattle.mcf_period_reading.specs.declared.heads.PeriodHead.TheVariants.{Period, KeepMost, KeepCost, FirstStock, LastStock}
 use Rattle.mcf_period_reading.specs.declared.kinds.PeriodFault.{PeriodFault}
 use Rattle.mcf_period_reading.specs.declared.kinds.PeriodKind.{PeriodKind}
@@ -21,7 +22,7 @@ use Rattle.mcf_period_reading.specs.declared.kinds.PeriodKind.TheVariants.{Name,
 use Rattle.mcf_period_reading.specs.declared.place_times.KeepEntry.{KeepEntry}
 use Rattle.mcf_period_reading.specs.declared.place_times.PlaceFormat.{PlaceFormat}
 use Rattle.mcf_period_reading.specs.declared.place_times.PlaceTime.{PlaceTime}
-use Rattle.mcf_period_reading.specs.declared.place_times.Spot.{Spot}
+use Rattle.mcf_period_reading.specs.declared.spots.Spot.{Spot}
 use Rattle.mcf_period_reading.specs.declared.place_times.TimeColumns.{TimeColumns}
 
 -- the columns
@@ -63,10 +64,6 @@ spots columns names periods records =
 -- both are of one place, and hold in one period
 abbrev pub clashes : Spot → Spot → Bool
 clashes a b = a.place == b.place && (a.period == 0 || (b.period == 0 || a.period == b.period))
-
--- the place and the period of a row, from 1
-abbrev pub spot_at : List Spot → ℕ → Spot
-spot_at all row = slice_index_or all (row - 1) (record { place = 0; period = 0 })
 
 -- an earlier row is of the same place, and holds in one period with it
 abbrev pub is_taken : List Spot → ℕ → Bool
@@ -120,6 +117,7 @@ keep_of mark most cost =
 -- what a row says
 abbrev pub place_time : PlaceFormat → List Spot → ℕ → List (List ℕ) → PlaceTime
 place_time format all row cells = record {
+  place = (spot_at all row).place;
   period = (spot_at all row).period;
   keep = keep_of format.mark (cell_at cells format.columns.keep_most) (cell_at cells format.columns.keep_cost);
   first = amount (read_amount format.mark (cell_at cells format.columns.first_stock));

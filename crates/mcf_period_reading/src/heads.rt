@@ -3,10 +3,10 @@ ghost use Rattle.std.specs.Prelude.{◌≡◌, ◌++◌, IfOk, OnOk};
 ghost use Rattle.std.specs.List.{flat_map};
 ghost use Rattle.mcf_reading.specs.Columns.{only_place};
 ghost use Rattle.mcf_reading.specs.HeadTexts.{is_there};
-ghost use Rattle.mcf_period_reading.specs.PeriodHeads.{column_kind, column_under, has_periods, head_fault, head_faults, head_text, heads_of, place_under};
+ghost use Rattle.mcf_period_reading.specs.PeriodHeads.{column_kind, column_under, has_any, head_fault, head_faults, head_text, heads_of, place_under, tells_periods};
 
 use crate::kinds::{PeriodFault, PeriodKind, if_kind, push_told};
-use mcf_reading::Table;
+use mcf_reading::{Table, has_periods};
 use mcf_table::{Column, Records};
 use mcf_text::NoMemory;
 use std::alloc::Global;
@@ -98,11 +98,24 @@ fn is_there(column: Column) -> bool
     }
 }
 
-// Whether the table of places has a column of periods.
-fn has_periods(places: &Records) -> bool
-    ensures { result ≡ has_periods places.now }
+// Whether a table has a column with one of these heads.
+fn has_any(records: &Records, heads: &[PeriodHead]) -> bool
+    ensures { result ≡ has_any records.now heads.now }
 {
-    is_there(column_under(places, PeriodHead::Period))
+    for place in 0..heads.len() {
+        if is_there(column_under(records, heads[place])) {
+            return true;
+        }
+    }
+    false
+}
+
+/// Whether a column of the tables says something about periods. The first row of each table has its
+/// heads.
+pub fn tells_periods(places: &Records, routes: &Records) -> bool
+    ensures { result ≡ tells_periods places.now routes.now }
+{
+    has_any(places, heads_of(Table::Places)) || has_any(routes, heads_of(Table::Routes))
 }
 
 // What is wrong with a column.

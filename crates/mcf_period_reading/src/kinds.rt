@@ -15,6 +15,8 @@ pub enum PeriodKind {
     TwoColumns,
     /// The table of places has no column of periods.
     NoPeriods,
+    /// No row of places names a period.
+    NoneNamed,
     /// The cell isn't a name.
     Name(NameFault),
     /// An earlier row names this place, and holds in this period or in each.

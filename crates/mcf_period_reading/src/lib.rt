@@ -15,9 +15,11 @@ mod kinds;
 mod place_times;
 mod reading;
 mod route_times;
+mod spots;
 
-pub use heads::PeriodHead;
+pub use heads::{PeriodHead, tells_periods};
 pub use kinds::{PeriodFault, PeriodKind};
-pub use place_times::{KeepEntry, PlaceTime};
+pub use place_times::{KeepEntry, PlaceTime, periods_in};
 pub use reading::{PeriodTables, read_periods};
 pub use route_times::RouteTime;
+pub use spots::{Spot, first_rows, row_in};

@@ -4,7 +4,7 @@ ghost use Rattle.std.specs.List.{list_any};
 ghost use Rattle.mcf_names.specs.Names.{number_of};
 ghost use Rattle.mcf_reading.specs.RouteRows.{place_or_none};
 ghost use Rattle.mcf_table.specs.Heads.{cells_of};
-ghost use Rattle.mcf_period_reading.specs.PlaceTimes.{all_place_faults, clashes, filled, first_faults, is_taken, keep_faults, keep_of, last_faults, period_cells, period_faults, period_kind, period_number, periods_in, place_faults, place_time, place_times, spot_at, spot_of, spots, time_columns};
+ghost use Rattle.mcf_period_reading.specs.PlaceTimes.{all_place_faults, clashes, filled, first_faults, is_taken, keep_faults, keep_of, last_faults, period_cells, period_faults, period_kind, period_number, periods_in, place_faults, place_time, place_times, spot_of, spots, time_columns};
 
 use crate::cells::{
     amount, cell_at, is_filled, limit, limit_kind, number_kind, read_amount, read_limit, row_count,
@@ -12,6 +12,7 @@ use crate::cells::{
 };
 use crate::heads::{PeriodHead, only_place, place_under};
 use crate::kinds::{PeriodFault, PeriodKind, if_kind, push_told};
+use crate::spots::{Spot, spot_at};
 use mcf_decimal::{Decimal, Mark};
 use mcf_names::{Names, name_fault};
 use mcf_reading::Table;
@@ -31,6 +32,8 @@ pub struct KeepEntry {
 /// What a row of places says about periods, in the amounts of its table.
 #[derive(Clone, Copy, Debug, PartialEq, Eq)]
 pub struct PlaceTime {
+    /// The row that names the place first. Rows count from 1, below the heads.
+    pub place: usize,
     /// The number of the period in which the row holds, from 1, or 0 for each period.
     pub period: usize,
     /// What the place may keep, or `None` for nothing.
@@ -50,13 +53,6 @@ pub(crate) struct TimeColumns {
     pub(crate) keep_cost: Option<usize>,
     pub(crate) first_stock: Option<usize>,
     pub(crate) last_stock: Option<usize>,
-}
-
-// The first row that names a row's place, and the number of its period.
-#[derive(Clone, Copy)]
-pub(crate) struct Spot {
-    pub(crate) place: usize,
-    pub(crate) period: usize,
 }
 
 // How rows are read: the mark, the columns, and the count of periods.
@@ -106,8 +102,12 @@ fn period_cells<'t>(
     Ok(made)
 }
 
-// The periods that the table of places names.
-pub(crate) fn periods_in<'t>(alloc: Global, records: &'t Records) -> Result<Names<'t>, NoMemory>
+/// The periods that the table of places names, in the order in which they come first.
+///
+/// # Errors
+///
+/// `NoMemory` if an allocation is refused.
+pub fn periods_in<'t>(alloc: Global, records: &'t Records) -> Result<Names<'t>, NoMemory>
     ensures { IfOk result (λ made. made ≡ periods_in records.now) }
 {
     let column = place_under(records, PeriodHead::Period);
@@ -180,19 +180,6 @@ fn clash_among(spot: Spot, earlier: &[Spot]) -> bool
         }
     }
     false
-}
-
-// The place and the period of a row, from 1.
-fn spot_at(all: &[Spot], row: usize) -> Spot
-    ensures { result ≡ spot_at all.now row }
-{
-    match all.get(row.saturating_sub(1)) {
-        Some(spot) => *spot,
-        None => Spot {
-            place: 0,
-            period: 0,
-        },
-    }
 }
 
 // Those of the rows before a row.
@@ -342,8 +329,10 @@ fn place_time(format: PlaceFormat, all: &[Spot], records: &Records, row: usize) 
     let cost = cell_at(records, row, columns.keep_cost);
     let first = cell_at(records, row, columns.first_stock);
     let last = cell_at(records, row, columns.last_stock);
+    let spot = spot_at(all, row);
     PlaceTime {
-        period: spot_at(all, row).period,
+        place: spot.place,
+        period: spot.period,
         keep: keep_of(format.mark, most, cost),
         first: amount(read_amount(format.mark, first)),
         last: amount(read_amount(format.mark, last)),

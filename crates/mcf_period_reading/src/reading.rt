@@ -1,18 +1,18 @@
 //! What both tables say about periods.
 ghost use Rattle.std.specs.Prelude.{◌≡◌, [], IfOk};
 ghost use Rattle.mcf_period_reading.specs.PeriodHeads.{head_faults};
-ghost use Rattle.mcf_period_reading.specs.PeriodReading.{IsReadOf, place_format, spots_in};
+ghost use Rattle.mcf_period_reading.specs.PeriodReading.{IsReadOf, empty_kind, place_format, spots_in};
 ghost use Rattle.mcf_period_reading.specs.PlaceTimes.{periods_in};
 
 use crate::cells::cells_under;
-use crate::heads::head_faults;
-use crate::kinds::PeriodFault;
-use crate::place_times::{
-    PlaceFormat, PlaceTime, Spot, periods_in, read_places, spots, time_columns,
-};
+use crate::heads::{PeriodHead, head_faults};
+use crate::kinds::{PeriodFault, PeriodKind, if_kind, push_told};
+use crate::place_times::{PlaceFormat, PlaceTime, periods_in, read_places, spots, time_columns};
 use crate::route_times::{RouteTime, read_routes, route_format};
+use crate::spots::Spot;
 use mcf_decimal::Mark;
 use mcf_names::Names;
+use mcf_reading::{Table, has_periods};
 use mcf_table::Records;
 use mcf_text::NoMemory;
 use std::alloc::Global;
@@ -51,6 +51,15 @@ fn spots_in(alloc: Global, places: &Records, periods: &Names<'_>) -> Result<Vec<
     spots(alloc, columns, &names, periods, places)
 }
 
+// Whether there is a column of periods that names none, if these are the periods.
+fn empty_kind(places: &Records, periods: &Names<'_>) -> Option<PeriodKind>
+    requires { periods.now ≡ periods_in places.now }
+    ensures { result ≡ empty_kind places.now }
+{
+    let none = periods.len() == 0;
+    if_kind(has_periods(places) && none, PeriodKind::NoneNamed)
+}
+
 // What the rows of tables say whose heads have no fault.
 fn read_rows<'t>(
     alloc: Global,
@@ -65,6 +74,8 @@ fn read_rows<'t>(
     let all = spots_in(alloc, places, &periods)?;
     let format = place_format(mark, places, &periods);
     let mut faults = Vec::new(alloc);
+    let none = empty_kind(places, &periods);
+    push_told(&mut faults, Table::Places, 0, PeriodHead::Period, none)?;
     let times = read_places(alloc, format, &all, places, &mut faults)?;
     let leads = read_routes(
         alloc,

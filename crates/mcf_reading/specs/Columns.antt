@@ -4,7 +4,7 @@ use Rattle.std.specs.Prelude.{ℕ, List, map, Option, Some, None}
 use Rattle.mcf_table.specs.Texts.{Record}
 use Rattle.mcf_table.specs.declared.heads.Column.{Column}
 use Rattle.mcf_table.specs.declared.heads.Column.TheVariants.{Missing, Twice, At}
-use Rattle.mcf_reading.specs.HeadTexts.{all_steps, column_under}
+use Rattle.mcf_reading.specs.HeadTexts.{all_steps, column_under, has_periods}
 use Rattle.mcf_reading.specs.declared.columns.PlaceColumns.{PlaceColumns}
 use Rattle.mcf_reading.specs.declared.columns.RouteColumns.{RouteColumns}
 use Rattle.mcf_reading.specs.declared.columns.StepColumns.{StepColumns}
@@ -30,6 +30,7 @@ place_columns records = record {
   most = place_under records (Most 1);
   cost = place_under records (Cost 1);
   penalty = place_under records Penalty;
+  over_periods = has_periods records;
 }
 
 -- the columns of the table of routes, without those of steps

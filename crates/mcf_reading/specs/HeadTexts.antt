@@ -47,6 +47,10 @@ is_there Missing = false
 is_there Twice = true
 is_there (At place) = true
 
+-- the table of places has a column of periods, `period`
+unfoldable pub has_periods : List Record → Bool
+has_periods places = is_there (column_of (codes "period") places)
+
 -- How many steps follow the first: 2, 3 and so on, as long as a column has the head of their most.
 -- Four columns, at least, have other heads: those of the ends and of the first step.
 unfoldable pub further_count : List Record → ℕ

@@ -1,6 +1,6 @@
 -- The rows of the table of places.
 -- Source: own
-use Rattle.std.specs.Prelude.{ℕ, nat_lt, Bool, false, ◌&&◌, ◌||◌, if◌then◌else◌, List, [], ◌++◌, map, Option, Some, None, option_map}
+use Rattle.std.specs.Prelude.{ℕ, nat_lt, Bool, false, not, ◌&&◌, ◌||◌, if◌then◌else◌, List, [], ◌++◌, map, Option, Some, None, option_map}
 use Rattle.std.specs.List.{flat_map}
 use Rattle.std.specs.Result.{result_err}
 use Rattle.mcf_decimal.specs.declared.mark.Mark.{Mark}
@@ -34,9 +34,10 @@ abbrev pub is_before : Option ℕ → ℕ → Bool
 is_before None number = false
 is_before (Some first) number = nat_lt first number
 
--- an earlier place has the name, which isn't empty
-unfoldable pub twice_kind : List (List ℕ) → ℕ → List ℕ → Option FaultKind
-twice_kind names number cell = if is_filled cell && is_before (number_of cell names) number then Some Twice else None
+-- An earlier row has the name, which isn't empty. Over periods a place may have several rows.
+unfoldable pub twice_kind : Bool → List (List ℕ) → ℕ → List ℕ → Option FaultKind
+twice_kind over names number cell =
+    if not over && (is_filled cell && is_before (number_of cell names) number) then Some Twice else None
 
 -- a cell of a place's bounds isn't empty
 abbrev pub is_bounded : List ℕ → List ℕ → List ℕ → Bool
@@ -80,14 +81,14 @@ place_number_faults row read =
     ++ (bounds_faults row read.through ++ told (under Places row Penalty) (number_kind (result_err read.penalty)))
 
 -- the faults of a row's name
-unfoldable pub place_name_faults : List (List ℕ) → ℕ → List ℕ → List Fault
-place_name_faults names row cell =
-    told (under Places row Name) (name_kind cell) ++ told (under Places row Name) (twice_kind names row cell)
+unfoldable pub place_name_faults : Bool → List (List ℕ) → ℕ → List ℕ → List Fault
+place_name_faults over names row cell =
+    told (under Places row Name) (name_kind cell) ++ told (under Places row Name) (twice_kind over names row cell)
 
 -- the faults of a row
 unfoldable pub place_faults : Option Mark → PlaceColumns → List (List ℕ) → ℕ → List (List ℕ) → List Fault
 place_faults mark columns names row cells =
-    place_name_faults names row (cell_at cells columns.name) ++ place_number_faults row (read_place mark columns cells)
+    place_name_faults columns.over_periods names row (cell_at cells columns.name) ++ place_number_faults row (read_place mark columns cells)
 
 -- the places, in order
 abbrev pub place_entries : Option Mark → PlaceColumns → List Record → List PlaceEntry

@@ -3,7 +3,7 @@ ghost use Rattle.std.specs.Prelude.{◌≡◌, ◌+◌, IfOk, map};
 ghost use Rattle.mcf_reading.specs.Columns.{all_step_columns, only_place, place_columns, place_under, route_columns, step_columns};
 ghost use Rattle.mcf_reading.specs.ShownMarks.{number_column};
 
-use crate::heads::{column_under, further_count};
+use crate::heads::{column_under, further_count, has_periods};
 use crate::locations::Head;
 use mcf_table::{Column, Records};
 use mcf_text::NoMemory;
@@ -18,6 +18,8 @@ pub(crate) struct PlaceColumns {
     pub(crate) most: Option<usize>,
     pub(crate) cost: Option<usize>,
     pub(crate) penalty: Option<usize>,
+    // Whether there is a column of periods, so that a place may have several rows.
+    pub(crate) over_periods: bool,
 }
 
 // The places of the columns of the table of routes, without those of steps, from 0; `None` for a
@@ -81,6 +83,7 @@ pub(crate) fn place_columns(alloc: Global, records: &Records) -> Result<PlaceCol
         most,
         cost,
         penalty,
+        over_periods: has_periods(records),
     })
 }
 

@@ -1,7 +1,7 @@
 //! The heads of the columns that are read.
 ghost use Rattle.std.specs.Prelude.{◌≡◌, ◌+◌, ◌<◌, ◌^◌, ◌++◌, IfOk, OnOk};
 ghost use Rattle.std.specs.List.{flat_map, range_with_len};
-ghost use Rattle.mcf_reading.specs.HeadTexts.{column_under, first_heads, further_count, head_step, head_text, head_word, is_there, route_heads, step_heads, step_text};
+ghost use Rattle.mcf_reading.specs.HeadTexts.{column_under, first_heads, further_count, has_periods, head_step, head_text, head_word, is_there, route_heads, step_heads, step_text};
 ghost use Rattle.mcf_reading.specs.ShownMarks.{route_number_heads};
 
 use crate::locations::{Head, Table};
@@ -110,6 +110,15 @@ pub(crate) fn is_there(column: Column) -> bool
         Column::Missing => false,
         _ => true,
     }
+}
+
+/// Whether the table of places has a column of periods, `period`. Then a place may have several
+/// rows.
+#[tactic(auto, unfolding(crate::specs::HeadTexts::has_periods))]
+pub fn has_periods(places: &Records) -> bool
+    ensures { result ≡ has_periods places.now }
+{
+    is_there(places.column_of(b"period"))
 }
 
 // Whether a column has the head of a step's most.

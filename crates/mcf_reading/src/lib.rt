@@ -23,7 +23,7 @@ mod steps;
 mod tables;
 mod told;
 
-pub use heads::head_text;
+pub use heads::{has_periods, head_text};
 pub use kinds::{Fault, FaultKind};
 pub use locations::{ColumnAt, Head, Location, Table};
 pub use place_rows::{BoundsEntry, PlaceEntry};

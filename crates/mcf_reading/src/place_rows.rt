@@ -95,13 +95,13 @@ fn is_before(first: Option<usize>, number: usize) -> bool
     }
 }
 
-// Whether an earlier place has the name, which isn't empty.
+// Whether an earlier row has the name, which isn't empty, and a place may have but one row.
 #[tactic(auto, unfolding(crate::specs::PlaceRows::twice_kind))]
-fn twice_kind(names: &Names<'_>, number: usize, cell: &[u8]) -> Option<FaultKind>
-    ensures { result ≡ twice_kind names.now number cell.now }
+fn twice_kind(over: bool, names: &Names<'_>, number: usize, cell: &[u8]) -> Option<FaultKind>
+    ensures { result ≡ twice_kind over names.now number cell.now }
 {
     let first = names.number_of(cell);
-    if is_filled(cell) && is_before(first, number) {
+    if !over && (is_filled(cell) && is_before(first, number)) {
         Some(FaultKind::Twice)
     } else {
         None
@@ -211,15 +211,16 @@ fn push_number_faults(faults: &mut Vec<Fault>, row: usize, read: PlaceRead) -> R
 #[tactic(auto, unfolding(crate::specs::PlaceRows::place_name_faults))]
 fn push_name_faults(
     faults: &mut Vec<Fault>,
+    over: bool,
     names: &Names<'_>,
     row: usize,
     cell: &[u8],
 ) -> Result<(), NoMemory>
-    ensures { OnOk result (faults.new.items ≡ faults.old.items ++ place_name_faults names.now row cell.now) }
+    ensures { OnOk result (faults.new.items ≡ faults.old.items ++ place_name_faults over names.now row cell.now) }
 {
     let at = under(Table::Places, row, Head::Name);
     push_told(faults, at, name_kind(cell))?;
-    push_told(faults, at, twice_kind(names, row, cell))
+    push_told(faults, at, twice_kind(over, names, row, cell))
 }
 
 // Reads a row, and appends its faults.
@@ -236,7 +237,8 @@ fn read_row(
     ensures entry { IfOk result (λ entry. entry ≡ place_entry (read_place mark columns (cells_of records.now row))) }
     ensures faults { OnOk result (faults.new.items ≡ faults.old.items ++ place_faults mark columns names.now row (cells_of records.now row)) }
 {
-    push_name_faults(faults, names, row, cell_at(records, row, columns.name))?;
+    let name = cell_at(records, row, columns.name);
+    push_name_faults(faults, columns.over_periods, names, row, name)?;
     let read = read_place(mark, columns, records, row);
     push_number_faults(faults, row, read)?;
     Ok(place_entry(read))

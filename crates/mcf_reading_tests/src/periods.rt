@@ -2,10 +2,10 @@
 use mcf_decimal::{Decimal, NumberFault};
 use mcf_names::NameFault;
 use mcf_period_reading::{
-    KeepEntry, PeriodFault, PeriodHead, PeriodKind, PeriodTables, PlaceTime, RouteTime,
-    read_periods,
+    KeepEntry, PeriodFault, PeriodHead, PeriodKind, PeriodTables, PlaceTime, RouteTime, Spot,
+    first_rows, periods_in, read_periods, row_in, tells_periods,
 };
-use mcf_reading::Table;
+use mcf_reading::{Table, has_periods, read};
 use mcf_table::records_of;
 use mcf_text::NoMemory;
 use std::alloc::Global;
@@ -26,7 +26,7 @@ type FaultRow = (
     PeriodKind,
 );
 
-static ROWS: [FaultRow; 10] = [
+static ROWS: [FaultRow; 11] = [
     (
         b"name;period;period\n",
         b"from\n",
@@ -42,6 +42,14 @@ static ROWS: [FaultRow; 10] = [
         0,
         PeriodHead::Lead,
         PeriodKind::NoPeriods,
+    ),
+    (
+        b"name;period\nA;\n",
+        b"from\n",
+        Table::Places,
+        0,
+        PeriodHead::Period,
+        PeriodKind::NoneNamed,
     ),
     (
         b"name;period\nA;W\x01\n",
@@ -142,9 +150,10 @@ fn decimal(mantissa: i128, places: u32) -> Decimal {
     Decimal { mantissa, places }
 }
 
-// What a row says that names a period alone.
-fn plain(period: usize) -> PlaceTime {
+// What a row says that names a period alone; its place stands first in this row.
+fn plain(place: usize, period: usize) -> PlaceTime {
     PlaceTime {
+        place,
         period,
         keep: None,
         first: decimal(0, 0),
@@ -155,6 +164,7 @@ fn plain(period: usize) -> PlaceTime {
 // Whether the tables say what they say.
 fn has_rows(tables: &PeriodTables<'_>) -> bool {
     let depot = PlaceTime {
+        place: 2,
         period: 0,
         keep: Some(KeepEntry {
             most: Some(decimal(20, 0)),
@@ -163,7 +173,7 @@ fn has_rows(tables: &PeriodTables<'_>) -> bool {
         first: decimal(3, 0),
         last: decimal(1, 0),
     };
-    let places = [plain(1), depot, plain(2)];
+    let places = [plain(1, 1), depot, plain(3, 2)];
     let routes = [
         RouteTime {
             period: 0,
@@ -202,5 +212,49 @@ fn each_fault_of_periods_is_told(rt: HostRuntime) -> Result<(), Fail> {
         let fits = is_as_said(rt.alloc(), row)?;
         assert!(rt; fits);
     }
+    Ok(())
+}
+
+#[test]
+fn rows_are_found_by_place_and_period(rt: HostRuntime) -> Result<(), Fail> {
+    let spots = [
+        Spot {
+            place: 1,
+            period: 0,
+        },
+        Spot {
+            place: 2,
+            period: 1,
+        },
+        Spot {
+            place: 2,
+            period: 2,
+        },
+    ];
+    let rows = first_rows(rt.alloc(), &spots)?;
+    assert!(rt; row_in(&rows, 1, 2) == 1);
+    assert!(rt; row_in(&rows, 2, 2) == 3);
+    assert!(rt; row_in(&rows, 2, 3) == 0);
+    Ok(())
+}
+
+// A place may have several rows where the table of places has a column of periods, and only there.
+#[test]
+fn places_have_rows_for_periods(rt: HostRuntime) -> Result<(), Fail> {
+    let (Ok(places), Ok(plain), Ok(routes)) = (
+        records_of(rt.alloc(), b"name;supply;period\nA;1;W1\nA;-1;W2\n", b';')?,
+        records_of(rt.alloc(), b"name;supply\nA;1\nA;-1\n", b';')?,
+        records_of(rt.alloc(), b"from;to;most;cost\n", b';')?,
+    ) else {
+        assert!(rt; false);
+        return Ok(());
+    };
+    let periods = periods_in(rt.alloc(), &places)?;
+    let over = read(rt.alloc(), &places, &routes, None)?;
+    let once = read(rt.alloc(), &plain, &routes, None)?;
+    assert!(rt; has_periods(&places) && !has_periods(&plain));
+    assert!(rt; tells_periods(&places, &routes) && !tells_periods(&plain, &routes));
+    assert!(rt; periods.len() == 2);
+    assert!(rt; over.is_ok() && once.is_err());
     Ok(())
 }

@@ -3,7 +3,7 @@ use Rattle.mcf_table.specs.Heads.{cells_of}
 use Rattle.mcf_reading.specs.Cells.{cell_at}
 use Rattle.mcf_reading.proofs.Ranges.{made}
 use Rattle.mcf_period_reading.specs.PlaceTimes.{spot_of}
-use Rattle.mcf_period_reading.specs.declared.place_times.Spot.{Spot}
+use Rattle.mcf_period_reading.specs.declared.spots.Spot.{Spot}
 use Rattle.mcf_period_reading.proofs.place_times.spots.Goals as goal
 
 pub loop-place-preserved : goal.loop-place-preserved
