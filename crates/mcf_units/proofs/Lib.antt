@@ -1,3 +1,3 @@
 mod MadeProblems
-mod RowRoutes
-mod Scaling
+pub mod RowRoutes
+pub mod Scaling

@@ -204,8 +204,12 @@ fn great_numbers(
     Ok(found)
 }
 
-// That there are too many steps, or else all numbers that are too great.
-pub(crate) fn great_faults(
+/// That there are too many steps, or else all numbers that are too great.
+///
+/// # Errors
+///
+/// `NoMemory` if an allocation is refused.
+pub fn great_faults(
     alloc: Global,
     scales: Scales,
     tables: &Tables,

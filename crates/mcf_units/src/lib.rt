@@ -14,7 +14,9 @@ mod scales;
 mod terms;
 mod wholes;
 
-pub use great::{GreatFault, STEP_LIMIT};
+pub use great::{GreatFault, STEP_LIMIT, great_faults};
 pub use making::{Made, WholeProblem, problem};
-pub use scales::Scales;
+pub use rows::{RouteTables, routes_in};
+pub use scales::{Scales, scales_of};
 pub use terms::Terms;
+pub use wholes::{is_whole, place_in, place_number, policy_in, whole, whole_limit};

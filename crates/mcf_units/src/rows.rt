@@ -12,11 +12,13 @@ use mcf_reading::{PlaceEntry, StepEntry, Tables};
 use mcf_text::NoMemory;
 use std::alloc::Global;
 
-// The routes of a problem: the table of their steps, and their rows.
+/// The routes of a problem.
 #[derive(Drop)]
-pub(crate) struct RouteTables {
-    pub(crate) steps: Vec<Step>,
-    pub(crate) rows: Vec<RouteRow>,
+pub struct RouteTables {
+    /// The table of their steps.
+    pub steps: Vec<Step>,
+    /// Their rows.
+    pub rows: Vec<RouteRow>,
 }
 
 // The places in units.
@@ -44,12 +46,12 @@ fn push_steps(made: &mut Vec<Step>, scales: Scales, steps: &[StepEntry]) -> Resu
     Ok(())
 }
 
-// The routes in units.
-pub(crate) fn routes_in(
-    alloc: Global,
-    scales: Scales,
-    tables: &Tables,
-) -> Result<RouteTables, NoMemory>
+/// The routes in units.
+///
+/// # Errors
+///
+/// `NoMemory` if an allocation is refused.
+pub fn routes_in(alloc: Global, scales: Scales, tables: &Tables) -> Result<RouteTables, NoMemory>
     requires { step_total tables.now.routes ≤ STEP_LIMIT }
     ensures steps { IfOk result (λ made. made.steps.items ≡ steps_in scales tables.now.routes) }
     ensures rows { IfOk result (λ made. made.rows.items ≡ rows_in scales 0 tables.now.routes) }

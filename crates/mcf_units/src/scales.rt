@@ -117,8 +117,8 @@ fn with_routes(scales: Scales, tables: &Tables) -> Scales
     found
 }
 
-// The scales of tables and of a penalty.
-pub(crate) fn scales_of(tables: &Tables, penalty: Option<Decimal>) -> Scales
+/// The scales of tables and of a penalty.
+pub fn scales_of(tables: &Tables, penalty: Option<Decimal>) -> Scales
     ensures { result ≡ scales_of tables.now penalty }
 {
     let with_penalty = Scales {

@@ -11,22 +11,22 @@ use mcf_model::{RouteRow, Step};
 use mcf_places::{Bounds, Place, Policy};
 use mcf_reading::{BoundsEntry, PlaceEntry, StepEntry, Tables};
 
-// Whether a decimal is a whole number of units, which fits 64 bits.
-pub(crate) fn is_whole(scale: u32, number: Decimal) -> bool
+/// Whether a decimal is a whole number of units, which fits 64 bits.
+pub fn is_whole(scale: u32, number: Decimal) -> bool
     ensures { result ≡ is_whole scale number }
 {
     number.at_scale(scale).is_some()
 }
 
-// A decimal as a whole number of units; 0 if it isn't one that fits.
-fn whole(scale: u32, number: Decimal) -> i64
+/// A decimal as a whole number of units; 0 if it isn't one that fits.
+pub fn whole(scale: u32, number: Decimal) -> i64
     ensures { result ≡ whole scale number }
 {
     number.at_scale(scale).unwrap_or(0)
 }
 
-// A limit in units.
-fn whole_limit(scale: u32, most: Option<Decimal>) -> Option<i64>
+/// A limit in units.
+pub fn whole_limit(scale: u32, most: Option<Decimal>) -> Option<i64>
     ensures { result ≡ whole_limit scale most }
 {
     match most {
@@ -53,8 +53,8 @@ fn bounds_in(scales: Scales, entry: BoundsEntry) -> Bounds
     }
 }
 
-// A place in units.
-pub(crate) fn place_in(scales: Scales, entry: PlaceEntry) -> Place
+/// A place in units.
+pub fn place_in(scales: Scales, entry: PlaceEntry) -> Place
     ensures { result ≡ place_in scales entry }
 {
     let through = match entry.through {
@@ -95,8 +95,8 @@ fn last_step(steps: &[StepEntry]) -> StepEntry
     steps[steps.len() - 1]
 }
 
-// The number of a place in 32 bits; 0, which is no place's, if it doesn't fit.
-fn place_number(number: usize) -> u32
+/// The number of a place in 32 bits; 0, which is no place's, if it doesn't fit.
+pub fn place_number(number: usize) -> u32
     ensures { result ≡ place_number number }
 {
     u32::try_from(number).unwrap_or(0)
@@ -122,8 +122,8 @@ pub(crate) fn row_in(scales: Scales, first: u32, tables: &Tables, place: usize) 
     }
 }
 
-// Whether supplies may stay and demands may be missing, with the penalty in units.
-pub(crate) fn policy_in(scales: Scales, terms: Terms) -> Policy
+/// Whether supplies may stay and demands may be missing, with the penalty in units.
+pub fn policy_in(scales: Scales, terms: Terms) -> Policy
     ensures { result ≡ policy_in scales terms }
 {
     Policy {

@@ -1,0 +1,4 @@
+mod Pieces
+mod DeparturesMade
+mod Timed
+mod MadePeriods

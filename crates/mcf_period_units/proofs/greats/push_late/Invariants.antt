@@ -1,0 +1,8 @@
+use Rattle.std.proofs.Common.{◌≡◌, ◌++◌, length}
+use Rattle.std.specs.List.{flat_map, range_with_len}
+use Rattle.mcf_period_units.specs.PeriodGreats.{late_fault}
+use Rattle.mcf_period_units.proofs.greats.push_late.Given as goal
+
+abbrev pub invariant-loop-place : goal.invariant-loop-place
+invariant-loop-place l =
+    l.found.items ≡ l.initial.found.items ++ flat_map (late_fault l.last l.times.routes.items) (range_with_len 1 l.place)
