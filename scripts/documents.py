@@ -405,6 +405,7 @@ mcf_reading.name_kind no_place_kind mcf_reading.cell_faults
 scales_of great_faults planner_faults IsProperPlanner steps_in rows_in
 numbers_of is_bounded
 IsBeyond limited shortage_of IsShownIn mcf_places.origin_of
+tells_periods IsPeriodTableAnswer
 """
 
 # The content of a part: the definitions that these clauses cite, these definitions, and all that

@@ -6,4 +6,7 @@ pub use Rattle.mcf_reading.specs.Reading
 pub use Rattle.mcf_units.specs.Answers
 pub use Rattle.mcf_places.specs.Answers as PlannerAnswers
 pub mod TableTexts
+pub use Rattle.mcf_period_units.specs.Made
+pub mod PlannerOrigins
+pub mod PeriodTableAnswers
 pub mod TableAnswers

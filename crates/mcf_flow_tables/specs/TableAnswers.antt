@@ -1,14 +1,10 @@
 -- The answer to a table of places and a table of routes. No network is named here.
 -- Source: own
-use Rattle.std.specs.Prelude.{◌≡◌, ℕ, false, ◌&&◌, List, [], Option, Some, None, Ok, Err}
+use Rattle.std.specs.Prelude.{◌≡◌, ℕ, true, false, ◌&&◌, List, [], Option, Some, None, Ok, Err}
 use Rattle.std.specs.Option.{is_none}
-use Rattle.mcf_places.specs.declared.answering.PlannerAnswer.{PlannerAnswer}
-use Rattle.mcf_places.specs.declared.answering.PlannerAnswer.TheVariants.{Beyond, Least, NoPlan}
-use Rattle.mcf_places.specs.declared.origins.Origin.{Origin}
 use Rattle.mcf_places.specs.Answers.{IsPlannerAnswer}
-use Rattle.mcf_places.specs.Origins.{origin_of}
 use Rattle.mcf_places.specs.PlannerFaults.{IsProperPlanner}
-use Rattle.mcf_places.specs.Planners.{Planner}
+use Rattle.mcf_period_reading.specs.PeriodHeads.{tells_periods}
 use Rattle.mcf_reading.specs.Reading.{Entries, read_tables}
 use Rattle.mcf_table.specs.Texts.{Record}
 use Rattle.mcf_table.specs.declared.fault.TextFault.{TextFault}
@@ -21,17 +17,13 @@ use Rattle.mcf_units.specs.Wholes.{planner_in}
 use Rattle.mcf_flow_tables.specs.declared.answering.ProblemAnswer.{ProblemAnswer}
 use Rattle.mcf_flow_tables.specs.declared.answering.ProblemAnswer.TheVariants.{Improper, Solved, TooGreat}
 use Rattle.mcf_flow_tables.specs.declared.answering.TableAnswer.{TableAnswer}
-use Rattle.mcf_flow_tables.specs.declared.answering.TableAnswer.TheVariants.{Faults, Problem}
+use Rattle.mcf_flow_tables.specs.declared.answering.TableAnswer.TheVariants.{Faults, Periods, Problem}
 use Rattle.mcf_flow_tables.specs.declared.flow_answer.FlowAnswer.{FlowAnswer}
 use Rattle.mcf_flow_tables.specs.declared.flow_answer.FlowAnswer.TheVariants.{NoTables, Tables}
 use Rattle.mcf_flow_tables.specs.declared.options.Options.{Options}
+use Rattle.mcf_flow_tables.specs.PeriodTableAnswers.{IsPeriodTableAnswer}
+use Rattle.mcf_flow_tables.specs.PlannerOrigins.{origin_in}
 use Rattle.mcf_flow_tables.specs.TableTexts.{IsBrokenText, IsTableOf, place_wanted, route_wanted}
-
--- where a number beyond the limits comes from, if that is the answer
-abbrev pub origin_in : Planner → PlannerAnswer → Option Origin
-origin_in P (Beyond fault) = Some (origin_of P fault)
-origin_in P (Least plan) = None
-origin_in P (NoPlan bottleneck) = None
 
 -- The answer to what tables say: each number that is too great; or all faults of the problem; or,
 -- if there are none of either, a least plan of it, in the units of the tables, or a bottleneck, or
@@ -43,12 +35,16 @@ IsProblemAnswer said terms (Solved s) =
 IsProblemAnswer said terms (TooGreat faults) = IsMadeOf said terms (GreatNumbers faults)
 IsProblemAnswer said terms (Improper faults) = IsMadeOf said terms (ImproperProblem faults)
 
--- The answer to the rows of two tables: all faults of heads and cells; or, if there are none, the
--- answer to what they say.
+-- The answer to the rows of two tables, if no column says something about periods: all faults of
+-- heads and cells; or, if there are none, the answer to what they say. Otherwise their answer over
+-- periods.
 abbrev pub IsTableAnswer : List Record → List Record → Options → TableAnswer → Type 0
-IsTableAnswer places routes options (Faults faults) = read_tables options.mark places routes ≡ Err faults
+IsTableAnswer places routes options (Periods answer) =
+    (tells_periods places routes ≡ true) × IsPeriodTableAnswer places routes options answer
+IsTableAnswer places routes options (Faults faults) =
+    (tells_periods places routes ≡ false) × (read_tables options.mark places routes ≡ Err faults)
 IsTableAnswer places routes options (Problem answer) =
-    (said : Entries) × (read_tables options.mark places routes ≡ Ok said) × IsProblemAnswer said options.terms answer
+    (tells_periods places routes ≡ false) × (said : Entries) × (read_tables options.mark places routes ≡ Ok said) × IsProblemAnswer said options.terms answer
 
 -- the text is a table, or it is none for this reason
 abbrev pub IsBrokenBy : List (List ℕ) → List ℕ → Option TextFault → Type 0

@@ -1,10 +1,13 @@
 //! The answer to what two tables say.
 ghost use Rattle.std.specs.Prelude.{◌≡◌, IfOk};
-ghost use Rattle.mcf_flow_tables.specs.TableAnswers.{IsProblemAnswer, IsTableAnswer, origin_in};
+ghost use Rattle.mcf_flow_tables.specs.PlannerOrigins.{origin_in};
+ghost use Rattle.mcf_flow_tables.specs.TableAnswers.{IsProblemAnswer, IsTableAnswer};
 
 use crate::options::Options;
+use crate::period_answer::{PeriodAnswer, period_answer};
 use mcf_decimal::Mark;
 use mcf_model::Solves;
+use mcf_period_reading::tells_periods;
 use mcf_places::{Origin, Planner, PlannerAnswer, PlannerFault, least, origin_of};
 use mcf_reading::{Faults, Tables, read};
 use mcf_table::Records;
@@ -45,12 +48,14 @@ pub enum ProblemAnswer {
 pub enum TableAnswer {
     /// All faults of heads and cells.
     Faults(Faults),
-    /// The answer to what the tables say.
+    /// The answer to what the tables say, without periods.
     Problem(ProblemAnswer),
+    /// The answer to tables that have columns about periods.
+    Periods(PeriodAnswer),
 }
 
 // Where a number beyond the limits comes from, if that is the answer.
-fn origin_in(planner: &Planner, answer: &PlannerAnswer) -> Option<Origin>
+pub(crate) fn origin_in(planner: &Planner, answer: &PlannerAnswer) -> Option<Origin>
     ensures { result ≡ origin_in planner.now answer.now }
 {
     match answer {
@@ -97,6 +102,10 @@ pub(crate) fn table_answer<S: Solves>(
 ) -> Result<TableAnswer, NoMemory>
     ensures { IfOk result (IsTableAnswer places.now routes.now options) }
 {
+    if tells_periods(places, routes) {
+        let answer = period_answer(alloc, solver, places, routes, options)?;
+        return Ok(TableAnswer::Periods(answer));
+    }
     match read(alloc, places, routes, options.mark)? {
         Ok(tables) => {
             let answer = problem_answer(alloc, solver, &tables, options.terms)?;

@@ -10,9 +10,11 @@
 mod answering;
 mod flow_answer;
 mod options;
+mod period_answer;
 mod table_texts;
 
 pub use answering::{ProblemAnswer, SolvedProblem, TableAnswer};
 pub use flow_answer::{Broken, FlowAnswer, SaidTables, plan_tables};
 pub use options::{Options, Texts};
+pub use period_answer::{PeriodAnswer, PeriodTableFaults, SolvedPeriods};
 pub use table_texts::table_of;

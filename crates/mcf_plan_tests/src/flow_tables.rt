@@ -105,7 +105,7 @@ fn is_fault(answer: &FlowAnswer, fault: Fault) -> bool {
     match answer {
         FlowAnswer::Tables(said) => match &said.answer {
             TableAnswer::Faults(faults) => faults.list() == [fault].as_slice(),
-            TableAnswer::Problem(_) => false,
+            TableAnswer::Problem(_) | TableAnswer::Periods(_) => false,
         },
         FlowAnswer::NoTables(_) => false,
     }
