@@ -28,6 +28,8 @@ mod pair_tables;
 #[cfg(test)]
 mod pair_texts;
 #[cfg(test)]
+mod period_texts;
+#[cfg(test)]
 mod periods;
 #[cfg(test)]
 mod places;

@@ -1,12 +1,8 @@
-pub use Rattle.mcf_answer_rows.specs.AnswerRows
-pub use Rattle.mcf_answer_rows.specs.FaultWords
-pub use Rattle.mcf_answer_rows.specs.Lines
 pub use Rattle.mcf_answer_rows.specs.TableRows
 pub use Rattle.mcf_flow_tables.specs.TableAnswers
-pub use Rattle.mcf_plan_figures.specs.Told
+pub use Rattle.mcf_period_text.specs.PeriodAnswerRows
+pub use Rattle.mcf_plan_rows.specs.BottleneckRows
+pub use Rattle.mcf_plan_rows.specs.FaultRows
+pub use Rattle.mcf_plan_rows.specs.PlanRows
 pub use Rattle.mcf_table.specs.Written
-pub mod BottleneckRows
-pub mod Cells
-pub mod FaultRows
-pub mod PlanRows
 pub mod PlanTexts

@@ -2,7 +2,6 @@
 -- what it is.
 -- Source: own
 use Rattle.std.specs.Prelude.{◌≡◌, ℕ, List, [], ◌∷◌, ◌++◌, codes, map, Option, None}
-use Rattle.mcf_answer_rows.specs.AnswerRows.{answer_row}
 use Rattle.mcf_answer_rows.specs.Lines.{comma}
 use Rattle.mcf_answer_rows.specs.TableRows.{mark_row, repeated_rows}
 use Rattle.mcf_answer_rows.specs.declared.texts.PlanText.{PlanText}
@@ -14,22 +13,21 @@ use Rattle.mcf_flow_tables.specs.declared.answering.ProblemAnswer.{ProblemAnswer
 use Rattle.mcf_flow_tables.specs.declared.answering.ProblemAnswer.TheVariants.{TooGreat, Improper, Solved}
 use Rattle.mcf_flow_tables.specs.declared.answering.SolvedProblem.{SolvedProblem}
 use Rattle.mcf_flow_tables.specs.declared.answering.TableAnswer.{TableAnswer}
-use Rattle.mcf_flow_tables.specs.declared.answering.TableAnswer.TheVariants.{Faults, Problem}
+use Rattle.mcf_flow_tables.specs.declared.answering.TableAnswer.TheVariants.{Faults, Periods, Problem}
 use Rattle.mcf_flow_tables.specs.declared.flow_answer.FlowAnswer.{FlowAnswer}
 use Rattle.mcf_flow_tables.specs.declared.flow_answer.FlowAnswer.TheVariants.{NoTables, Tables}
 use Rattle.mcf_flow_tables.specs.declared.flow_answer.SaidTables.{SaidTables}
 use Rattle.mcf_flow_tables.specs.declared.options.Options.{Options}
+use Rattle.mcf_flow_tables.specs.declared.period_answer.PeriodAnswer.{PeriodAnswer}
+use Rattle.mcf_flow_tables.specs.declared.period_answer.PeriodAnswer.TheVariants as period
+use Rattle.mcf_period_text.specs.PeriodAnswerRows.{period_answer_rows, period_mark}
 use Rattle.mcf_places.specs.declared.answering.PlannerAnswer.{PlannerAnswer}
 use Rattle.mcf_places.specs.declared.answering.PlannerAnswer.TheVariants.{Beyond, Least, NoPlan}
 use Rattle.mcf_reading.specs.declared.locations.Table.TheVariants.{Places, Routes}
 use Rattle.mcf_table.specs.Written.{table_text}
-use Rattle.mcf_plan_text.specs.BottleneckRows.{bottleneck_rows}
-use Rattle.mcf_plan_text.specs.FaultRows.{TwoTables, beyond_row, cell_fault_row, great_row, planner_row, table_word, text_rows}
-use Rattle.mcf_plan_text.specs.PlanRows.{plan_rows}
-
--- the row that says that there are faults
-abbrev pub faults_row : List (List ℕ)
-faults_row = answer_row (codes "faults")
+use Rattle.mcf_plan_rows.specs.BottleneckRows.{bottleneck_rows}
+use Rattle.mcf_plan_rows.specs.FaultRows.{TwoTables, beyond_row, cell_fault_row, faults_row, great_row, planner_row, table_word, text_rows}
+use Rattle.mcf_plan_rows.specs.PlanRows.{plan_rows}
 
 -- ---- the rows of an answer
 
@@ -53,6 +51,7 @@ problem_rows two (Solved s) = solved_rows two s s.answer
 abbrev pub table_rows : TwoTables → TableAnswer → List (List (List ℕ))
 table_rows two (Faults faults) = faults_row ∷ map (cell_fault_row two) faults
 table_rows two (Problem answer) = problem_rows two answer
+table_rows two (Periods answer) = period_answer_rows two answer
 
 -- the mark that was settled, if the tables say a problem
 abbrev pub problem_mark : ProblemAnswer → Option Mark
@@ -64,6 +63,7 @@ problem_mark (Solved s) = s.mark
 abbrev pub table_mark : TableAnswer → Option Mark
 table_mark (Faults faults) = None
 table_mark (Problem answer) = problem_mark answer
+table_mark (Periods answer) = period_mark answer
 
 -- the rows of two tables
 abbrev pub said_tables : SaidTables → TwoTables
@@ -88,10 +88,18 @@ problem_kind (TooGreat faults) = told.Faults
 problem_kind (Improper faults) = told.Faults
 problem_kind (Solved s) = solved_kind s.answer
 
+-- that of the answer to tables over periods
+abbrev pub period_kind : PeriodAnswer → TextKind
+period_kind (period.Faults faults) = told.Faults
+period_kind (period.TooGreat faults) = told.Faults
+period_kind (period.Improper improper) = told.Faults
+period_kind (period.Solved s) = solved_kind s.answer
+
 -- that of the answer to the rows of two tables
 abbrev pub table_kind : TableAnswer → TextKind
 table_kind (Faults faults) = told.Faults
 table_kind (Problem answer) = problem_kind answer
+table_kind (Periods answer) = period_kind answer
 
 -- whether the answer is a plan, that there is none, or faults
 abbrev pub answer_kind : FlowAnswer → TextKind

@@ -1,22 +1,22 @@
 //! The answer to two tables as text.
 ghost use Rattle.std.specs.Prelude.{◌≡◌, ◌++◌, ◌∷◌, [], IfOk, OnOk};
 ghost use Rattle.mcf_answer_rows.specs.Lines.{rows_text};
-ghost use Rattle.mcf_plan_text.specs.FaultRows.{tables_in};
-ghost use Rattle.mcf_plan_text.specs.PlanTexts.{IsPlanText, answer_kind, answer_rows, closing_rows, problem_kind, problem_mark, problem_rows, solved_kind, solved_rows, table_kind, table_mark, table_rows};
+ghost use Rattle.mcf_plan_rows.specs.FaultRows.{tables_in};
+ghost use Rattle.mcf_plan_text.specs.PlanTexts.{IsPlanText, answer_kind, answer_rows, closing_rows, period_kind, problem_kind, problem_mark, problem_rows, solved_kind, solved_rows, table_kind, table_mark, table_rows};
 
-use crate::bottleneck_rows::{Blocked, put_bottleneck};
-use crate::fault_rows::{
-    Two, put_beyond, put_cell_faults, put_greats, put_planner_faults, put_text_fault,
-};
-use crate::plan_rows::put_plan;
-use crate::words::table_word;
 use mcf_answer_rows::{PlanText, TextKind, put_answer, put_mark, put_table};
 use mcf_decimal::Mark;
 use mcf_flow_tables::{
-    FlowAnswer, Options, ProblemAnswer, SolvedProblem, TableAnswer, Texts, plan_tables,
+    FlowAnswer, Options, PeriodAnswer, ProblemAnswer, SolvedProblem, TableAnswer, Texts,
+    plan_tables,
 };
 use mcf_model::Solves;
+use mcf_period_text::{period_mark, put_period_answer};
 use mcf_places::PlannerAnswer;
+use mcf_plan_rows::{
+    Blocked, Two, put_beyond, put_bottleneck, put_cell_faults, put_greats, put_plan,
+    put_planner_faults, put_text_fault, table_word,
+};
 use mcf_reading::Table;
 use mcf_text::NoMemory;
 use std::alloc::Global;
@@ -107,6 +107,16 @@ fn put_problem(
     }
 }
 
+// The kind of the answer to tables over periods.
+fn period_kind(answer: &PeriodAnswer) -> TextKind
+    ensures { result ≡ period_kind answer.now }
+{
+    match answer {
+        PeriodAnswer::Solved(solved) => solved_kind(&solved.answer),
+        _ => TextKind::Faults,
+    }
+}
+
 // The kind of the answer to the rows of two tables.
 fn table_kind(answer: &TableAnswer) -> TextKind
     ensures { result ≡ table_kind answer.now }
@@ -114,6 +124,7 @@ fn table_kind(answer: &TableAnswer) -> TextKind
     match answer {
         TableAnswer::Faults(_) => TextKind::Faults,
         TableAnswer::Problem(answer) => problem_kind(answer),
+        TableAnswer::Periods(answer) => period_kind(answer),
     }
 }
 
@@ -132,6 +143,7 @@ fn put_table_answer(
             put_cell_faults(alloc, out, two, faults.list())
         }
         TableAnswer::Problem(answer) => put_problem(alloc, out, two, answer),
+        TableAnswer::Periods(answer) => put_period_answer(alloc, out, two, answer),
     }
 }
 
@@ -152,6 +164,7 @@ fn table_mark(answer: &TableAnswer) -> Option<Mark>
     match answer {
         TableAnswer::Faults(_) => None,
         TableAnswer::Problem(answer) => problem_mark(answer),
+        TableAnswer::Periods(answer) => period_mark(answer),
     }
 }
 
@@ -216,7 +229,8 @@ pub fn answer_text(alloc: Global, answer: &FlowAnswer) -> Result<PlanText, NoMem
 /// fault `fault`, the table, the line, the column, what is wrong, and the cell. At the end, unless
 /// a text is no table, `mark` with the mark before decimals that was settled, and both tables:
 /// `heads` the row of the heads and `row` each further one, with the table, the line and all cells.
-/// The manual page `mcfplan(1)` has all rows.
+/// Over periods, `keep` for what each place keeps from a period to the next, and rows with their
+/// periods at the end. The manual page `mcfplan(1)` has all rows.
 ///
 /// # Errors
 ///

@@ -10,7 +10,7 @@ use Rattle.mcf_flow_tables.specs.TableAnswers.{IsFlowAnswer, IsProblemAnswer, Is
 use Rattle.mcf_flow_tables.specs.declared.answering.ProblemAnswer.{ProblemAnswer}
 use Rattle.mcf_flow_tables.specs.declared.answering.ProblemAnswer.TheVariants.{TooGreat, Improper, Solved}
 use Rattle.mcf_flow_tables.specs.declared.answering.TableAnswer.{TableAnswer}
-use Rattle.mcf_flow_tables.specs.declared.answering.TableAnswer.TheVariants.{Faults, Problem}
+use Rattle.mcf_flow_tables.specs.declared.answering.TableAnswer.TheVariants.{Faults, Periods, Problem}
 use Rattle.mcf_flow_tables.specs.declared.flow_answer.FlowAnswer.{FlowAnswer}
 use Rattle.mcf_flow_tables.specs.declared.flow_answer.FlowAnswer.TheVariants.{NoTables, Tables}
 use Rattle.mcf_flow_tables.specs.declared.options.Options.{Options}
@@ -37,7 +37,8 @@ solved_problem said terms (Solved s) h = h.5
 
 solved_table : (places routes : List Record) (options : Options) (answer : TableAnswer) → IsTableAnswer places routes options answer → IsSolvedTable answer
 solved_table places routes options (Faults faults) h = tt
-solved_table places routes options (Problem answer) h = solved_problem h.0 options.terms answer h.2
+solved_table places routes options (Problem answer) h = solved_problem h.1 options.terms answer h.3
+solved_table places routes options (Periods answer) h = tt
 
 pub solved_answer : (places routes : List ℕ) (options : Options) (answer : FlowAnswer) → IsFlowAnswer places routes options answer → IsSolvedAnswer answer
 solved_answer places routes options (NoTables broken) h = tt

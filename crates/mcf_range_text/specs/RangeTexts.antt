@@ -9,7 +9,7 @@ use Rattle.mcf_flow_tables.specs.TableAnswers.{IsFlowAnswer}
 use Rattle.mcf_flow_tables.specs.declared.answering.ProblemAnswer.{ProblemAnswer}
 use Rattle.mcf_flow_tables.specs.declared.answering.ProblemAnswer.TheVariants.{TooGreat, Improper, Solved}
 use Rattle.mcf_flow_tables.specs.declared.answering.TableAnswer.{TableAnswer}
-use Rattle.mcf_flow_tables.specs.declared.answering.TableAnswer.TheVariants.{Faults, Problem}
+use Rattle.mcf_flow_tables.specs.declared.answering.TableAnswer.TheVariants.{Faults, Periods, Problem}
 use Rattle.mcf_flow_tables.specs.declared.flow_answer.FlowAnswer.{FlowAnswer}
 use Rattle.mcf_flow_tables.specs.declared.flow_answer.FlowAnswer.TheVariants.{NoTables, Tables}
 use Rattle.mcf_flow_tables.specs.declared.options.Options.{Options}
@@ -19,7 +19,7 @@ use Rattle.mcf_places.specs.declared.answering.PlannerAnswer.TheVariants.{Beyond
 use Rattle.mcf_places.specs.Planners.{Planner, row_count}
 use Rattle.mcf_places.specs.Planning.{plan_in}
 use Rattle.mcf_plan_ranges.specs.PlanRanges.{AreWithinLimits}
-use Rattle.mcf_plan_text.specs.Cells.{rate_text, text_if}
+use Rattle.mcf_plan_rows.specs.Cells.{rate_text, text_if}
 use Rattle.mcf_plan_text.specs.PlanTexts.{IsPlanText, answer_kind, answer_rows}
 use Rattle.mcf_planner_ranges.specs.PlannerRanges.{IsPlannerRange}
 use Rattle.mcf_ranges.specs.declared.range.CostRange.{CostRange}
@@ -56,10 +56,11 @@ AreProblemRanges (TooGreat faults) ranges = ranges ≡ []
 AreProblemRanges (Improper faults) ranges = ranges ≡ []
 AreProblemRanges (Solved s) ranges = AreSolvedRanges s.planner s.answer ranges
 
--- of the answer to the rows of two tables
+-- of the answer to the rows of two tables; nothing is told over periods
 abbrev pub AreTableRanges : TableAnswer → List (Option CostRange) → Type 0
 AreTableRanges (Faults faults) ranges = ranges ≡ []
 AreTableRanges (Problem answer) ranges = AreProblemRanges answer ranges
+AreTableRanges (Periods answer) ranges = ranges ≡ []
 
 -- of the answer to two texts
 abbrev pub AreRanges : FlowAnswer → List (Option CostRange) → Type 0
@@ -91,6 +92,7 @@ problem_range_rows routes (Solved s) ranges = told_rows s.scales routes 1 ranges
 abbrev pub table_range_rows : List Record → TableAnswer → List (Option CostRange) → List (List (List ℕ))
 table_range_rows routes (Faults faults) ranges = []
 table_range_rows routes (Problem answer) ranges = problem_range_rows routes answer ranges
+table_range_rows routes (Periods answer) ranges = []
 
 -- of the answer to two texts
 abbrev pub range_rows : FlowAnswer → List (Option CostRange) → List (List (List ℕ))

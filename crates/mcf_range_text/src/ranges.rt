@@ -92,6 +92,7 @@ fn table_ranges(alloc: Global, answer: &TableAnswer) -> Result<Vec<Option<CostRa
     match answer {
         TableAnswer::Faults(_) => Ok(Vec::new(alloc)),
         TableAnswer::Problem(answer) => problem_ranges(alloc, answer),
+        TableAnswer::Periods(_) => Ok(Vec::new(alloc)),
     }
 }
 

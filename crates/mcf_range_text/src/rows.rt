@@ -1,7 +1,7 @@
 //! Ranges as rows of a table.
 ghost use Rattle.std.specs.Prelude.{◌≡◌, ◌∷◌, ◌++◌, [], IfOk, OnOk};
 ghost use Rattle.mcf_answer_rows.specs.Lines.{row_line, rows_text};
-ghost use Rattle.mcf_plan_text.specs.Cells.{rate_text, text_if};
+ghost use Rattle.mcf_plan_rows.specs.Cells.{rate_text, text_if};
 ghost use Rattle.mcf_range_text.specs.RangeTexts.{problem_range_rows, range_row, range_rows, table_range_rows, told_rows};
 
 use mcf_answer_rows::{cell_under, decimal_cell, line_cell, put_line};
@@ -103,6 +103,7 @@ fn put_table_ranges(
     match answer {
         TableAnswer::Faults(_) => Ok(()),
         TableAnswer::Problem(answer) => put_problem_ranges(alloc, out, routes, answer, ranges),
+        TableAnswer::Periods(_) => Ok(()),
     }
 }
 

@@ -45,9 +45,9 @@ fn ranged_text<S: Solves>(
 /// is told: `range`, its line, its ends, and by how much the cost of each unit on it may fall and
 /// may rise while the plan stays least, if all other costs stay as they are; a cell is empty
 /// without a limit. All steps of a route change by the same, and so do both directions of a route
-/// both ways, of which no cost may fall below 0. There is no row for a route both ways that has
-/// bounds at one of its ends, nor for any route if a number is beyond the limits of
-/// `planner_cost_range`. It then searches the network twice for each route.
+/// both ways, of which no cost may fall below 0. There is no row over periods, nor for a route
+/// both ways that has bounds at one of its ends, nor for any route if a number is beyond the limits
+/// of `planner_cost_range`. It then searches the network twice for each route.
 ///
 /// # Errors
 ///

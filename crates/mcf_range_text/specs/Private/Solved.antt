@@ -5,7 +5,7 @@ use Rattle.mcf_answer_rows.specs.declared.texts.PlanText.{PlanText}
 use Rattle.mcf_flow_tables.specs.declared.answering.ProblemAnswer.{ProblemAnswer}
 use Rattle.mcf_flow_tables.specs.declared.answering.ProblemAnswer.TheVariants.{TooGreat, Improper, Solved}
 use Rattle.mcf_flow_tables.specs.declared.answering.TableAnswer.{TableAnswer}
-use Rattle.mcf_flow_tables.specs.declared.answering.TableAnswer.TheVariants.{Faults, Problem}
+use Rattle.mcf_flow_tables.specs.declared.answering.TableAnswer.TheVariants.{Faults, Periods, Problem}
 use Rattle.mcf_flow_tables.specs.declared.flow_answer.FlowAnswer.{FlowAnswer}
 use Rattle.mcf_flow_tables.specs.declared.flow_answer.FlowAnswer.TheVariants.{NoTables, Tables}
 use Rattle.mcf_places.specs.Answers.{IsPlannerAnswer}
@@ -23,6 +23,7 @@ IsSolvedProblem (Solved s) = IsPlannerAnswer s.planner s.answer
 abbrev pub IsSolvedTable : TableAnswer → Type 0
 IsSolvedTable (Faults faults) = Unit {0}
 IsSolvedTable (Problem answer) = IsSolvedProblem answer
+IsSolvedTable (Periods answer) = Unit {0}
 
 -- the answer to two texts
 abbrev pub IsSolvedAnswer : FlowAnswer → Type 0

@@ -3,7 +3,7 @@ use Rattle.mcf_reading.specs.declared.locations.Table.TheVariants.{Places, Route
 use Rattle.mcf_answer_rows.proofs.RowTexts.{headed_put, two_put}
 use Rattle.mcf_answer_rows.specs.Lines.{rows_text}
 use Rattle.mcf_answer_rows.specs.TableRows.{mark_row, repeated_rows}
-use Rattle.mcf_plan_text.specs.FaultRows.{table_word}
+use Rattle.mcf_plan_rows.specs.FaultRows.{table_word}
 use Rattle.mcf_plan_text.proofs.telling.put_closing.Goals as goal
 
 pub returns : goal.returns

@@ -1,6 +1,6 @@
 use Rattle.std.proofs.Common.{rules}
 use Rattle.mcf_answer_rows.proofs.RowTexts.{two_put}
-use Rattle.mcf_plan_text.specs.FaultRows.{tables_in}
+use Rattle.mcf_plan_rows.specs.FaultRows.{tables_in}
 use Rattle.mcf_plan_text.specs.PlanTexts.{closing_rows, table_mark, table_rows}
 use Rattle.mcf_plan_text.proofs.telling.put_said.Goals as goal
 

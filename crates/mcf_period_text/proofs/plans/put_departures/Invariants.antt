@@ -1,0 +1,14 @@
+use Rattle.std.proofs.Common.{◌≡◌, ◌++◌, map, ◌-◌, drop, length}
+use Rattle.std.specs.List.{range_with_len}
+use Rattle.mcf_answer_rows.specs.Lines.{rows_text}
+use Rattle.mcf_period_text.specs.PeriodPlanRows.{departure_row_at, departure_rows}
+use Rattle.mcf_period_text.specs.TimedTables.{timed_in}
+use Rattle.mcf_period_text.proofs.plans.put_departures.Given as goal
+
+abbrev pub invariant-loop-place : goal.invariant-loop-place
+invariant-loop-place l =
+    let t = timed_in l.timed in
+    let stores = length t.origins.stores.items in
+    l.out.items
+    ++ rows_text (map (departure_row_at t l.scales (drop stores l.ways.carries.now) (drop stores l.ways.told.now)) (range_with_len l.place (length t.origins.departures.items - l.place)))
+    ≡ l.initial.out.items ++ rows_text (departure_rows t l.scales l.ways.carries.now l.ways.told.now)

@@ -1,0 +1,13 @@
+pub use Rattle.mcf_answer_rows.specs.Lines
+pub use Rattle.mcf_period_reading.specs.PeriodHeads
+pub use Rattle.mcf_period_reading.specs.PlaceTimes
+pub use Rattle.mcf_plan_figures.specs.Told
+pub use Rattle.mcf_plan_rows.specs.BottleneckRows
+pub use Rattle.mcf_plan_rows.specs.FaultRows
+pub use Rattle.mcf_plan_rows.specs.PlanRows
+pub mod TimedTables
+pub mod PeriodPlanRows
+pub mod PeriodBottleneckRows
+pub mod PeriodFaultRows
+pub mod PeriodAnswerRows
+pub mod Private

@@ -1,0 +1,165 @@
+-- Faults of tables over periods as rows of a table. Those of the problem without periods are told
+-- of the rows that its places and its routes come from, and have one cell more: the period.
+-- Source: own
+use Rattle.std.specs.Prelude.{ℕ, ◌-◌, nat_lt, Bool, if◌then◌else◌, List, [], ◌∷◌, ◌++◌, codes, decimal, length, Option, Some, None}
+use Rattle.mcf_answer_rows.specs.AnswerRows.{cell_under, line_at}
+use Rattle.mcf_answer_rows.specs.FaultWords.{fault_row, name_word, number_word, too_great}
+use Rattle.mcf_flows.specs.declared.code.Code.TheVariants as code
+use Rattle.mcf_instance.specs.declared.arrays.ArrayFault.{ArrayFault}
+use Rattle.mcf_instance.specs.declared.arrays.ArrayFault.TheVariants as number
+use Rattle.mcf_model.specs.declared.faults.RouteFault.{RouteFault}
+use Rattle.mcf_model.specs.declared.faults.RouteFault.TheVariants as route
+use Rattle.mcf_period_reading.specs.PeriodHeads.{head_text}
+use Rattle.mcf_period_reading.specs.declared.heads.PeriodHead.TheVariants.{KeepCost, KeepMost, Lead}
+use Rattle.mcf_period_reading.specs.declared.kinds.PeriodFault.{PeriodFault}
+use Rattle.mcf_period_reading.specs.declared.kinds.PeriodKind.{PeriodKind}
+use Rattle.mcf_period_reading.specs.declared.kinds.PeriodKind.TheVariants as kind
+use Rattle.mcf_period_units.specs.declared.faults.PeriodCell.{PeriodCell}
+use Rattle.mcf_period_units.specs.declared.faults.PeriodGreat.{PeriodGreat}
+use Rattle.mcf_period_units.specs.declared.faults.PeriodGreat.TheVariants as great
+use Rattle.mcf_places.specs.declared.faults.PlannerFault.{PlannerFault}
+use Rattle.mcf_places.specs.declared.faults.PlannerFault.TheVariants as planner
+use Rattle.mcf_places.specs.declared.origins.Origin.{Origin}
+use Rattle.mcf_places.specs.declared.origins.Origin.TheVariants.{OfPlace, OfPenalty, OfRoute, OfAll}
+use Rattle.mcf_plan_rows.specs.FaultRows.{TwoTables, beyond_column, beyond_word, great_row, planner_column, planner_table, planner_word, table_in, table_word}
+use Rattle.mcf_reading.specs.declared.locations.Table.TheVariants.{Places, Routes}
+use Rattle.mcf_period_text.specs.TimedTables.{TimedTables, departure_origin, period_name, place_origin, store_origin, told_row}
+
+-- ---- faults of heads and cells
+
+-- what is wrong with what a cell says of periods
+abbrev pub period_word : PeriodKind → List ℕ
+period_word kind.TwoColumns = codes "two such columns"
+period_word kind.NoPeriods = codes "not read without period"
+period_word kind.NoneNamed = codes "no period named"
+period_word (kind.Name fault) = name_word fault
+period_word kind.Twice = codes "named twice in a period"
+period_word kind.NoPeriod = codes "no such period"
+period_word (kind.Number fault) = number_word fault
+period_word kind.BelowZero = codes "below 0"
+period_word kind.NoLead = codes "no number of periods"
+period_word kind.NotFirst = codes "not in the first period"
+period_word kind.NotLast = codes "not in the last period"
+
+-- a fault of what a table says of periods
+abbrev pub period_fault_row : TwoTables → PeriodFault → List (List ℕ)
+period_fault_row two fault =
+    let records = table_in two fault.table in
+    fault_row (table_word fault.table) (decimal (line_at records fault.row)) (head_text fault.head) (period_word fault.kind)
+    (cell_under (head_text fault.head) records fault.row)
+
+-- ---- numbers that are too great, and rows that are too late
+
+-- that there are too many places
+unfoldable pub many_places : List ℕ
+many_places = codes "too many places in all periods"
+
+-- that a supply is too great with the stock beside it
+unfoldable pub great_sum : List ℕ
+great_sum = codes "too great with the supply"
+
+-- a cell about periods in the table of places, and what is wrong there
+abbrev pub period_cell_row : TwoTables → PeriodCell → List ℕ → List (List ℕ)
+period_cell_row two at what =
+    fault_row (table_word Places) (decimal (line_at two.places at.row)) (head_text at.head) what (cell_under (head_text at.head) two.places at.row)
+
+-- a number that is too great, or that there are too many; or a row of routes that is too late
+abbrev pub period_great_row : TwoTables → PeriodGreat → List (List ℕ)
+period_great_row two great.Places = fault_row (table_word Places) [] [] many_places []
+period_great_row two (great.Number fault) = great_row two fault
+period_great_row two (great.Cell at) = period_cell_row two at too_great
+period_great_row two (great.Sum at) = period_cell_row two at great_sum
+period_great_row two (great.Late row) =
+    fault_row (table_word Routes) (decimal (line_at two.routes row)) (head_text Lead) (codes "arrives after the last period")
+    (cell_under (head_text Lead) two.routes row)
+
+-- ---- where faults of the problem stand
+
+-- where a fault stands: the table, the line, the column, and the name of the period; empty cells,
+-- if it is about none
+pub record FaultPlace : Type 0 where
+  pub table : List ℕ
+  pub line : List ℕ
+  pub column : List ℕ
+  pub period : List ℕ
+
+-- a place in a period, by its number
+abbrev pub of_place : TimedTables → ℕ → List ℕ → FaultPlace
+of_place t number column =
+    let o = place_origin t (number - 1) in
+    record { table = table_word Places; line = decimal (line_at t.two.places (told_row o)); column = column; period = period_name t.periods o.period }
+
+-- the route with this number is that of a store
+abbrev pub is_store : TimedTables → ℕ → Bool
+is_store t number = nat_lt (number - 1) (length t.origins.stores.items)
+
+-- a store, by the number of its route
+abbrev pub of_store : TimedTables → ℕ → List ℕ → FaultPlace
+of_store t number column =
+    let s = store_origin t (number - 1) in
+    record { table = table_word Places; line = decimal (line_at t.two.places s.row); column = column; period = period_name t.periods s.period }
+
+-- a departure, by the number of its route
+abbrev pub of_departure : TimedTables → ℕ → List ℕ → FaultPlace
+of_departure t number column =
+    let d = departure_origin t (number - 1 - length t.origins.stores.items) in
+    record { table = table_word Routes; line = decimal (line_at t.two.routes d.row); column = column; period = period_name t.periods d.period }
+
+-- a store or a departure, by the number of its route; which column it is, if it is a store, and if
+-- it is a departure
+abbrev pub of_route : TimedTables → ℕ → List ℕ → List ℕ → FaultPlace
+of_route t number kept sent = if is_store t number then of_store t number kept else of_departure t number sent
+
+-- no row
+abbrev pub of_none : List ℕ → List ℕ → FaultPlace
+of_none table column = record { table = table; line = []; column = column; period = [] }
+
+-- a fault at its place, with the period
+abbrev pub placed_row : FaultPlace → List ℕ → List (List ℕ)
+placed_row at what = fault_row at.table at.line at.column what [] ++ at.period ∷ []
+
+-- ---- faults of the problem
+
+-- the column of a store that a fault of a route is about
+abbrev pub store_column : RouteFault → List ℕ
+store_column route.Place = codes "name"
+store_column route.Steps = head_text KeepMost
+store_column route.Room = head_text KeepMost
+store_column route.FallingCost = head_text KeepCost
+store_column route.BothWays = head_text KeepCost
+store_column route.NoLimit = head_text KeepMost
+
+-- where a fault of the problem stands
+abbrev pub planner_place : TimedTables → PlannerFault → FaultPlace
+planner_place t (planner.BelowPenalty place) = of_place t place (planner_column (planner.BelowPenalty place))
+planner_place t (planner.IdlePenalty place) = of_place t place (planner_column (planner.IdlePenalty place))
+planner_place t (planner.NoPenalty place) = of_place t place (planner_column (planner.NoPenalty place))
+planner_place t (planner.NoLimit place) = of_place t place (planner_column (planner.NoLimit place))
+planner_place t (planner.Routes fault) = of_route t fault.route (store_column fault.what) (planner_column (planner.Routes fault))
+planner_place t fault = of_none (planner_table fault) (planner_column fault)
+
+-- a fault of the problem
+abbrev pub period_planner_row : TimedTables → PlannerFault → List (List ℕ)
+period_planner_row t fault = placed_row (planner_place t fault) (planner_word fault)
+
+-- ---- numbers beyond the limits
+
+-- the column of a number of a store
+abbrev pub store_number : ArrayFault → List ℕ
+store_number number.Size = []
+store_number (number.Supply node) = head_text KeepMost
+store_number (number.Arc arc code.Bound) = head_text KeepMost
+store_number (number.Arc arc code.Order) = head_text KeepMost
+store_number (number.Arc arc other) = head_text KeepCost
+
+-- where a number beyond the limits comes from
+abbrev pub beyond_place : TimedTables → Option Origin → ArrayFault → FaultPlace
+beyond_place t (Some (OfPlace place)) fault = of_place t place (beyond_column (Some (OfPlace place)) fault)
+beyond_place t (Some (OfPenalty place)) fault = of_place t place (beyond_column (Some (OfPenalty place)) fault)
+beyond_place t (Some (OfRoute route)) fault = of_route t route (store_number fault) (beyond_column (Some (OfRoute route)) fault)
+beyond_place t (Some OfAll) fault = of_none [] (beyond_column (Some OfAll) fault)
+beyond_place t None fault = of_none [] (beyond_column None fault)
+
+-- a number beyond the limits, and where it comes from
+abbrev pub period_beyond_row : TimedTables → Option Origin → ArrayFault → List (List ℕ)
+period_beyond_row t origin fault = placed_row (beyond_place t origin fault) (beyond_word fault)

@@ -1,0 +1,9 @@
+use Rattle.std.proofs.Common.{◌≡◌, ◌++◌, drop, map}
+use Rattle.mcf_plan_rows.specs.FaultRows.{planner_row, tables_in}
+use Rattle.mcf_answer_rows.specs.Lines.{rows_text}
+use Rattle.mcf_plan_rows.proofs.fault_rows.put_planner_faults.Given as goal
+
+abbrev pub invariant-loop-place : goal.invariant-loop-place
+invariant-loop-place l =
+    l.out.items ++ rows_text (map (planner_row (tables_in l.two)) (drop l.place l.faults))
+    ≡ l.initial.out.items ++ rows_text (map (planner_row (tables_in l.two)) l.faults)

@@ -1,0 +1,151 @@
+"""The proved program on random tables over periods, beside plans by plain Python."""
+import collections
+import random
+import unittest
+
+from plain_periods import period_tables, random_period_problem
+from plain_plans import is_bottleneck, why_no_plan, why_wrong_figures
+from random_tables import Notation
+from test_planner import PROGRAM, Answering, repeated, rows_of
+
+CASES, FIGURE_CASES = 500, 60
+
+# Tables of places and of routes with faults about periods, and these: the table, the line, the
+# column, and what is wrong.
+FAULTS = [
+    (
+        "name,supply,period\nA,1,Jan\nA,-1,Jan\n",
+        "from,to,most,cost\nA,A,1,1\n",
+        [("places", "3", "period", "named twice in a period")],
+    ),
+    (
+        "name,supply,period,keep most,keep cost\nA,1,Jan,-1,\nA,-1,,x,y\n",
+        "from,to,most,cost,lead\nA,A,1,1,1.5\nA,A,1,1,-1\n",
+        [
+            ("places", "2", "keep most", "below 0"),
+            ("places", "3", "period", "named twice in a period"),
+            ("places", "3", "keep most", "no number"),
+            ("places", "3", "keep cost", "no number"),
+            ("routes", "2", "lead", "no number of periods"),
+            ("routes", "3", "lead", "no number of periods"),
+        ],
+    ),
+    (
+        "name,supply,period,first stock,last stock\nA,1,Jan,,2\nA,-1,Feb,2,-1\n",
+        "from,to,most,cost,period\nA,A,1,1,March\n",
+        [
+            ("places", "2", "last stock", "not in the last period"),
+            ("places", "3", "first stock", "not in the first period"),
+            ("places", "3", "last stock", "below 0"),
+            ("routes", "2", "period", "no such period"),
+        ],
+    ),
+    (
+        "name,supply\nA,0\n",
+        "from,to,most,cost,lead\nA,A,1,1,1\n",
+        [("routes", "1", "lead", "not read without period")],
+    ),
+    (
+        "name,supply,period\nA,0,Jan\n",
+        "from,to,most,cost,lead\nA,A,1,1,1\nA,B,1,1,0\n",
+        [("routes", "3", "to", "no such place")],
+    ),
+    (
+        "name,supply,period\nA,0,Jan\n",
+        "from,to,most,cost,lead\nA,A,1,1,1\nA,A,1,1,0\n",
+        [("routes", "2", "lead", "arrives after the last period")],
+    ),
+    (
+        "name,supply,period,keep most,keep cost\nA,0,Jan,,\nA,0,Feb,,-1\nA,0,March,,\n",
+        "from,to,most,cost,most 2,cost 2,lead\nA,A,1,5,4,2,2\n",
+        [
+            ("places", "3", "keep most", "no limit, but a cost below 0"),
+            ("routes", "2", "cost", "falling cost"),
+        ],
+    ),
+]
+
+
+@unittest.skipUnless(PROGRAM.exists(), "bin/mcfplan isn't built")
+class Periods(Answering):
+    """Random problems over periods, whose tables are written in random ways."""
+
+    def asked(self, rng, late):
+        """A random problem, the rows of its tables by line, and the status and the rows of the
+        answer."""
+        notation = Notation(rng)
+        problem = random_period_problem(rng, notation, late)
+        texts = [notation.text(*table) for table in period_tables(rng, notation, problem)]
+        tables = [rows_of(notation, *pair) for pair in zip(texts, ("name", "from"))]
+        policy = problem.policy
+        says_mark = notation.says_mark or (policy.penalty or 0) % 1 != 0
+        says_mark = says_mark or problem.stock_has_decimals()
+        words = ["--decimal", notation.mark] if says_mark else []
+        words += ["--unused", "allow"] * policy.unused + ["--short", "allow"] * policy.short
+        if policy.penalty is not None:
+            words.append(f"--penalty={notation.plain(policy.penalty)}")
+        return problem, texts, tables, *self.answered(["flow", *words], texts)
+
+    def lines(self, tables):
+        """The lines of the rows below the heads of both tables."""
+        return [sorted(table)[1:] for table in tables]
+
+    def check_late(self, problem, tables, rows):
+        """The faults of rows of routes that arrive too late."""
+        lines = self.lines(tables)[1]
+        late = [str(lines[number]) for number in problem.late_rows()]
+        found = [(table, line, column) for table, line, column, *_ in rows.by_word["fault"]]
+        self.assertEqual(found, [("routes", line, "lead") for line in late])
+
+    def check(self, problem, tables, status, rows):
+        """The answer to tables without faults of cells."""
+        flat = problem.flat()
+        best = None if flat.has_fault() else flat.least()
+        self.assertEqual(status, 2 if flat.has_fault() else 0 if best else 1)
+        if status == 0:
+            told = problem.flat_plan(rows, self.lines(tables))
+            self.assertIsNotNone(told)
+            self.assertIsNone(why_no_plan(flat, told))
+            self.assertEqual(rows.number("cost"), best[0])
+            if not flat.names_penalty():
+                self.assertEqual(rows.number("missing"), best[1])
+        if status == 1:
+            self.assertTrue(is_bottleneck(problem.policy, problem.flat_bottleneck(rows)))
+
+    def test_random_problems(self):
+        rng, statuses = random.Random(20261203), collections.Counter()
+        for case in range(CASES):
+            problem, texts, tables, status, rows = self.asked(rng, 0.1)
+            with self.subTest(case=case, texts=texts, policy=problem.policy):
+                if problem.late_rows():
+                    self.assertEqual(status, 2)
+                    self.check_late(problem, tables, rows)
+                else:
+                    self.check(problem, tables, status, rows)
+                for word, table in zip(("places", "routes"), tables):
+                    self.assertEqual(repeated(rows, word), table)
+            statuses["late" if problem.late_rows() else status] += 1
+            statuses["keep"] += any(cells[2] != "0" for cells in rows.by_word["keep"])
+        self.assertLess(CASES / 25, min(statuses[key] for key in (0, 1, 2, "late", "keep")))
+
+    def test_faults(self):
+        for places, routes, wanted in FAULTS:
+            with self.subTest(places=places, routes=routes):
+                status, rows = self.answered(["flow", "--decimal", "."], [places, routes])
+                found = [tuple(cells[:4]) for cells in rows.by_word["fault"]]
+                self.assertEqual((status, found), (2, wanted))
+
+    def test_random_figures(self):
+        rng, seen = random.Random(3), collections.Counter()
+        while seen[0] < FIGURE_CASES:
+            problem, texts, tables, status, rows = self.asked(rng, 0.0)
+            seen[status] += 1
+            if status == 0:
+                flat = problem.flat()
+                with self.subTest(texts=texts, policy=problem.policy):
+                    told = problem.flat_plan(rows, self.lines(tables))
+                    self.assertIsNone(why_wrong_figures(flat, told))
+
+
+if __name__ == "__main__":
+    unittest.main()
