@@ -1,6 +1,7 @@
 // @ts-check
 // Why there is no plan: bottlenecks, from the rows of an answer.
 import { Network } from './network.js';
+import { labelIn } from './periods.js';
 import { MISSING, STAYS, THROUGH } from './plan.js';
 
 /**
@@ -36,13 +37,14 @@ class PlaceNetwork extends Network {
    * @param {Problem} problem
    * @param {Policy} policy
    */
-  constructor({ places, routes }, { unused, short }) {
+  constructor({ places, routes, stores }, { unused, short }) {
     const bounded = places.filter(({ bounds }) => bounds).length;
     super([...places.map(({ supply }) => supply), ...new Array(bounded).fill(0n)], []);
     this.placeOf = places.map((_, k) => k);
     this.exits = places.map((_, k) => k + 1);
     places.forEach((place, k) => { if (place.bounds) this.split(k, place); });
-    for (const sign of [1, -1]) this.addRoutes(routes, sign);
+    for (const sign of [1, -1]) this.addRoutes('route', routes, sign);
+    this.addRoutes('keep', stores, 1);
     places.forEach(({ bounds }, number) => {
       const one = { number, sign: 1, tail: number + 1, head: this.exits[number] };
       if (bounds) this.arcs.push({ ...one, ...bounds, kind: 'through' });
@@ -55,13 +57,13 @@ class PlaceNetwork extends Network {
   }
 
   // This method adds routes, or the other ways of those that have one.
-  /** @type {(routes: Route[], sign: number) => void} */
-  addRoutes(routes, sign) {
+  /** @type {(kind: 'route' | 'keep', routes: Route[], sign: number) => void} */
+  addRoutes(kind, routes, sign) {
     routes.forEach(({ tail, head, least, most, both }, number) => {
       const [from, to] = sign > 0 ? [tail, head] : [head, tail];
       if (sign < 0 && !both) return;
       this.arcs.push({
-        kind: 'route',
+        kind,
         number,
         sign,
         tail: this.exits[from - 1],
@@ -123,10 +125,12 @@ export class Blocked {
   // This method returns the nodes that an answer names.
   /** @type {(answer: Answer) => Set<number>} */
   setOf(answer) {
-    const numbers = new Map(this.problem.places.map(({ line }, k) => [String(line), k]));
+    const numbers = new Map(this.problem.places.map(({ name, period }, k) =>
+      [JSON.stringify([name, period]), k]
+    ));
     const set = new Set();
-    for (const [line, , entry, exit] of answer.rows('place')) {
-      const place = numbers.get(line);
+    for (const [, name, entry, exit, , , , , period = ''] of answer.rows('place')) {
+      const place = numbers.get(JSON.stringify([name, period]));
       if (entry === 'yes') set.add(place + 1);
       if (exit === 'yes') set.add(this.network.exits[place]);
     }
@@ -158,7 +162,8 @@ export class Blocked {
       const names = this.problem.ends(this.problem.routes[number]);
       return sign > 0 ? names : names.reverse();
     }
-    const { name } = this.problem.places[number];
+    if (kind === 'keep') return this.problem.ends(this.problem.stores[number]);
+    const name = labelIn(this.problem.places[number]);
     return { stays: [name, STAYS], missing: [MISSING, name], through: [name, THROUGH] }[kind];
   }
 }

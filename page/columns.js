@@ -7,7 +7,7 @@ export const column = (head, meaning = '', more = {}) => ({ head, meaning, ...mo
 export const number = (head, meaning, more = {}) =>
   column(head, meaning, { number: true, ...more });
 // Heads of the columns that every sheet shows.
-const USED = ['from', 'to', 'least', 'most', 'cost', 'name', 'supply', 'penalty', 'x', 'y'];
+const USED = 'from to least most cost name supply penalty x y period'.split(' ');
 
 // This function returns a sheet of given rows.
 /** @type {(title: string, columns: Column[], rows: SheetRow[], more?: Partial<Sheet>) => Sheet} */

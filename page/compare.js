@@ -3,6 +3,7 @@
 // compare puts them side by side.
 import { ZERO, decimalText, decimalsOf, exactOf, scaled } from './amounts.js';
 import { column, number, sheetOf } from './columns.js';
+import { labelIn } from './periods.js';
 import { MISSING, STAYS } from './plan.js';
 
 /**
@@ -58,8 +59,8 @@ export function changesShown(before, plan) {
 /** @type {(plan: FlowPlan) => Delivered} */
 function deliveredBy({ problem, places }) {
   const found = new Map();
-  problem.places.forEach(({ name, supply }, k) => {
-    if (supply < 0n) found.set(name, -supply - places[k].unmet);
+  problem.places.forEach((place, k) => {
+    if (place.supply < 0n) found.set(labelIn(place), -place.supply - places[k].unmet);
   });
   return {
     all: problem.said.amount([...found.values()].reduce((sum, amount) => sum + amount, 0n)),
@@ -123,8 +124,8 @@ export function flowSide(plan) {
       ...routes.map(({ carries }, k) =>
         part(problem.ends(problem.routes[k]), units.amount(carries))
       ),
-      ...stays.map(([{ name }, amount]) => part([name, STAYS], units.amount(amount))),
-      ...missing.map(([{ name }, amount]) => part([MISSING, name], units.amount(amount))),
+      ...stays.map(([place, amount]) => part([labelIn(place), STAYS], units.amount(amount))),
+      ...missing.map(([place, amount]) => part([MISSING, labelIn(place)], units.amount(amount))),
     ]),
     delivered: deliveredBy(plan).byPlace,
   };

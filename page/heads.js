@@ -1,12 +1,15 @@
 // @ts-check
 // The heads of results, and the columns that results copy.
 import { BadTable, listed, shown } from './faults.js';
-import { cellAt } from './tables.js';
+import { cellAt, fold } from './tables.js';
 
 /** @typedef {import('./tables.js').Table} Table */
 
 // The heads that titles of the planner's own may stand for.
-const OWN = 'name supply x y from to least most cost penalty both who what takes needs'.split(' ');
+const OWN = [
+  ...'name supply x y from to least most cost penalty both who what takes needs group'.split(' '),
+  'period', 'keep most', 'keep cost', 'first stock', 'last stock', 'lead',
+];
 const NAMED = new RegExp(`(?:^|\\s)(${OWN.join('|')}|(?:most|cost) (?:[2-9]|[1-9]\\d+))=`);
 // The heads of results, in groups.
 export const FLOW_RESULTS = [
@@ -17,8 +20,19 @@ export const PLACE_RESULTS = ['one_more_costs', 'group'];
 export const THROUGH_RESULTS = [
   'passes', 'passing_costs', 'free', 'one_more_saves', 'exact', 'one_more_passing_costs',
 ];
+// The periods of what a route carries, and the period in which a place is.
+export const ROUTE_PERIODS = ['departs_in', 'arrives_in'], PLACE_PERIOD = ['in_period'];
+// The heads of the table of what places keep.
+export const STOCK = [
+  'name', 'period', 'next_period', 'keeps', 'total', 'free', 'one_more_saves', 'exact',
+  'one_more_kept_costs',
+];
 // A sentence names at most so many of the columns that the results copy.
 const LISTED = 24;
+
+const RESULTS = [
+  FLOW_RESULTS, RANGE_RESULTS, PLACE_RESULTS, THROUGH_RESULTS, ROUTE_PERIODS, PLACE_PERIOD,
+];
 
 // This function returns the columns of a table that the results copy and nothing else uses: those
 // without these heads, nor with heads of steps where the table has steps. Columns of earlier
@@ -29,17 +43,52 @@ export function carriedOf(table, known, hasSteps = false) {
     known.includes(head) || (hasSteps && /^(most|cost) [0-9]+$/.test(head));
   const isThere = (/** @type {number} */ place) =>
     table.titles[place] || table.rows.some(({ cells }) => cellAt(cells, place));
-  return table.kept(FLOW_RESULTS, RANGE_RESULTS, PLACE_RESULTS, THROUGH_RESULTS)
+  return table.kept(...RESULTS)
     .filter((place) => !isUsed(table.heads[place]) && isThere(place))
     .map((place) => plainHead(table.titles[place]) || `column ${place + 1}`);
 }
 
-// This function returns a line that lists the copied columns, if there are any.
+// What no minimum-cost flow says: heads that planners give it, its words, and what does say it.
+const INTEGERS = 'a mixed-integer solver such as HiGHS';
+const CONSTRAINTS = 'a constraint solver such as OR-Tools CP-SAT';
+const NO_FLOW = [
+  ['rest, rest time, rest hours, ruhezeit', 'rest times between shifts', CONSTRAINTS],
+  ['window, time window, earliest, latest, zeitfenster', 'time windows', CONSTRAINTS],
+  ['not with, excludes, incompatible, nicht mit', 'what excludes each other', CONSTRAINTS],
+  ['lot, lot size, batch, batch size, los, losgröße', 'lots of one size', INTEGERS],
+  [
+    'fixed cost, setup, setup cost, opening cost, fixkosten, rüstkosten',
+    'a cost of using something at all',
+    INTEGERS,
+  ],
+  [
+    'least if used, min if used, minimum order, mindestmenge',
+    'nothing or at least an amount',
+    INTEGERS,
+  ],
+  ['discount, rebate, rabatt, staffelpreis', 'costs that fall with the amount', INTEGERS],
+  ['tour, tours, sequence, reihenfolge', 'tours', 'a vehicle-routing solver such as VROOM'],
+];
+
+// This function returns a line that lists the copied columns, if there are any, and one on each
+// that says what no minimum-cost flow does.
 /** @type {(columns: string[]) => string[]} */
 export function carriedLines(columns) {
-  return columns.length
-    ? [`Columns carried along, not used: ${listed([...new Set(columns)], LISTED)}.`]
+  const names = [...new Set(columns)];
+  return names.length
+    ? [
+      `Columns carried along, not used: ${listed(names, LISTED)}.`,
+      ...names.flatMap(beyondLines),
+    ]
     : [];
+}
+
+// This function returns a line on a column, if its name is that of what no minimum-cost flow says.
+/** @type {(name: string) => string[]} */
+function beyondLines(name) {
+  const head = fold(name.replace(/[-_ ]+/g, ' ').trim());
+  return NO_FLOW.filter(([heads]) => heads.split(', ').includes(head))
+    .map(([, what, other]) => `Column ${name}: no minimum-cost flow says ${what}; ${other} does.`);
 }
 
 // This function writes a head for a sentence: shortened, with characters that can't be printed

@@ -13,12 +13,16 @@ import {
 } from './amounts.js';
 import { Faults, countOf } from './faults.js';
 import { carriedLines, carriedOf } from './heads.js';
+import {
+  departuresOf, firstOf, labelIn, periodsOf, placesOver, storesOf,
+} from './periods.js';
 import { NEEDED, numberCells, readLine } from './sentences.js';
 import { SPOT_HEADS, spotsOf } from './spots.js';
 import { Table, cellAt, fold } from './tables.js';
 import { words } from './words.js';
 
 const BOUND_HEADS = ['least', 'most', 'cost'];
+const PLACE_PERIODS = ['period', 'keep most', 'keep cost', 'first stock', 'last stock'];
 const YES = ['yes', 'y', 'x', '1', 'true', 'ja', 'j'];
 
 /**
@@ -41,14 +45,29 @@ export class Problem {
     this.notes = texts.flatMap(({ notes }) => notes);
     this.placeTable = new Table(texts[0], answer.tables.get('places'));
     this.routeTable = new Table(texts[1], answer.tables.get('routes'));
-    const places = placesOf(this.placeTable, this.mark);
-    const routes = routesOf(this.routeTable, places, this.mark);
+    this.periods = periodsOf(this.placeTable);
+    const { places, routes, stores } = this.read();
     const price = penalty ? exactOf(penalty, this.mark) : null;
-    this.units = unitsOf(places, routes, price || ZERO);
+    this.units = unitsOf(places, [...routes, ...stores], price || ZERO);
     this.said = new Said(this.units, this.mark);
     this.penalty = price && scaled(price, this.units.costs);
     this.places = places.map((place) => wholePlace(place, this.units));
     this.routes = routes.map((route) => wholeRoute(route, this.units));
+    // What places may keep from a period to the next, as routes.
+    this.stores = stores.map((store) => wholeRoute(store, this.units));
+  }
+
+  // This method reads places and routes, in each period if there are periods.
+  /** @type {() => { places: Place<Exact>[], routes: ReadRoute[], stores: ReadRoute[] }} */
+  read() {
+    const { placeTable, routeTable, periods, mark } = this, rows = placesOf(placeTable, mark);
+    const firsts = firstOf(rows), routes = routesOf(routeTable, firsts, mark);
+    if (!periods.length) return { places: rows, routes, stores: [] };
+    return {
+      places: placesOver(placeTable, rows, periods, mark),
+      routes: departuresOf(routeTable, routes, periods, firsts.length),
+      stores: storesOf(placeTable, rows, periods, mark),
+    };
   }
 
   // This method returns the cost of each unit that is missing at a place, or null if none is named.
@@ -60,7 +79,10 @@ export class Problem {
   told({ short }) {
     const { placeTable, routeTable } = this, hasSpots = placeTable.has(SPOT_HEADS);
     const cells = numberCells({ places: placeTable, routes: routeTable });
-    const known = [...NEEDED.places, ...BOUND_HEADS, 'penalty', ...(hasSpots ? SPOT_HEADS : [])];
+    const known = [
+      ...NEEDED.places, ...BOUND_HEADS, 'penalty', ...(hasSpots ? SPOT_HEADS : []),
+      ...PLACE_PERIODS,
+    ];
     const isUnused = !short && this.places.some(({ penalty }) => penalty !== null);
     const supply = placeTable.heads.indexOf('supply');
     const empty = this.places.filter(({ cells: row }) => !cellAt(row, supply)).length;
@@ -72,15 +94,15 @@ export class Problem {
         : []),
       ...carriedLines([
         ...carriedOf(placeTable, known),
-        ...carriedOf(routeTable, [...NEEDED.routes, 'least', 'both'], true),
+        ...carriedOf(routeTable, [...NEEDED.routes, 'least', 'both', 'period', 'lead'], true),
       ]),
       ...readLine(settledBy(cells, this.mark), this.mark, this.reading),
     ];
   }
 
-  // This method returns the names of a route's ends.
+  // This method returns the names of a route's ends, with their periods if there are periods.
   /** @type {(route: Route) => string[]} */
-  ends(route) { return [this.places[route.tail - 1].name, this.places[route.head - 1].name]; }
+  ends({ tail, head }) { return [tail, head].map((end) => labelIn(this.places[end - 1])); }
 }
 
 /** @type {(number: bigint) => bigint} */
@@ -146,6 +168,7 @@ function placesOf(table, mark) {
       spot: spots[k] || null,
       bounds: bounds.some(Boolean) ? boundsOf(bounds, mark) : null,
       penalty: limitOf(penalty, mark),
+      period: '',
       line,
       cells,
     };
@@ -172,6 +195,9 @@ function routesOf(table, places, mark) {
       least: exactOf(least, mark),
       steps: steps(cells),
       both: YES.includes(fold(both)),
+      departs: '',
+      arrives: '',
+      isBack: false,
       line,
       cells,
     };

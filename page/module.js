@@ -99,16 +99,21 @@ export class Instance {
     );
   }
 
-  // This method pairs persons with things by a table that was lent, and returns the status and the
-  // location of the answer, which is the text of a table.
+  // This method pairs persons with things by a table and groups that were lent, and returns the
+  // status and the location of the answer, which is the text of a table. An empty text has no
+  // groups.
   /**
    * @param {Lent} costs
+   * @param {Lent} groups
    * @param {PairOptions} options
    * @returns {{ status: Status } & Lent}
    */
-  pair(costs, { decimal = '', each = '', maximise = false } = {}) {
-    const asked = this.numbers([MARKS.indexOf(decimal), EACH.indexOf(each), Number(maximise)]);
-    return this.written(0, 4096 + 12 * costs.size, (at, room) =>
+  pair(costs, groups, { decimal = '', each = '', maximise = false, crossing = '' } = {}) {
+    const choices = [maximise, crossing === 'check'].map(Number);
+    const asked = this.numbers([MARKS.indexOf(decimal), EACH.indexOf(each || ''), ...choices], 32);
+    this.view().setBigUint64(Number(asked) + 16, groups.at, true);
+    this.view().setBigUint64(Number(asked) + 24, BigInt(groups.size), true);
+    return this.written(0, 4096 + 12 * (costs.size + groups.size), (at, room) =>
       this.exports.mcf_plan_pairs(
         costs.at,
         BigInt(costs.size),

@@ -79,6 +79,7 @@ def examples():
                 "heads": heads,
                 "unused": "--unused" in words,
                 "short": "--short" in words,
+                "crossing": "--crossing" in words,
             }
         )
     return found

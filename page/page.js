@@ -39,7 +39,9 @@ const FIELD = 400000;
 // A number below 0, as places that take have it, and hardly any costs of pairs.
 const DEMAND = /[;,\t]"?[-\u2212][0-9]/;
 /** @type {Record<string, string>} */
-const FIELDS = { places: 'Places', routes: 'Routes', costs: 'Costs', dimacs: 'Instance' };
+const FIELDS = {
+  places: 'Places', routes: 'Routes', costs: 'Costs', groups: 'Groups', dimacs: 'Instance',
+};
 
 /** @type {Client} */
 let solver;
@@ -85,6 +87,9 @@ function sourceOf(id) {
   return { name: file ? file.name : FIELDS[id], text: $(id).value };
 }
 
+// This function returns the fields of persons and things: that of groups counts if it has some.
+const pairFields = () => ['costs', ...$('groups').value.trim() ? ['groups'] : []];
+
 /** @type {() => Choices} */
 function choices() {
   const heads = headsOf($('heads').value);
@@ -103,6 +108,7 @@ function choices() {
     },
     each: /** @type {Choices['each']} */ ($('each').value || null),
     maximise: $('maximise').checked,
+    crossing: $('crossing').checked ? 'check' : null,
     engine: $('engine').value,
   };
 }
@@ -113,7 +119,7 @@ function choices() {
 function captionOf(kind) {
   const now = new Date();
   /** @type {Record<string, string[]>} */
-  const ids = { flow: ['places', 'routes'], pairs: ['costs'], text: ['dimacs'] };
+  const ids = { flow: ['places', 'routes'], pairs: pairFields(), text: ['dimacs'] };
   const names = ids[kind].map((id) => sourceOf(id).name);
   const date = [now.getFullYear(), now.getMonth() + 1, now.getDate()]
     .map((part) => String(part).padStart(2, '0'))
@@ -145,6 +151,7 @@ async function take(list) {
       /^[ \t]*(c([ \t].*)?\r?\n[ \t]*)*p[ \t]/.test(begin)
       || /\.(min|asn|dimacs)$/i.test(file.name);
     if (isDimacs) id = 'dimacs';
+    else if (/\b(group|gruppe)\b/i.test(first)) id = 'groups';
     else if (/\b(from|von|most|both)\b/i.test(first)) id = 'routes';
     else if (!/\b(name|supply|ort|angebot)\b/i.test(first)) {
       id = kindOf() === 'flow' && /route|strecke|lane|kante/i.test(file.name)
@@ -161,19 +168,21 @@ async function take(list) {
       showTrouble(error);
       continue;
     }
-    chooseKind({ dimacs: 'text', costs: 'pairs' }[id] || 'flow');
+    chooseKind({ dimacs: 'text', costs: 'pairs', groups: 'pairs' }[id] || 'flow');
     put(id, text, { name: file.name, bytes });
   }
 }
 
 /** @type {(number: number) => void} */
 function example(number) {
-  const { kind, texts, heads, unused, short } = examples()[number];
+  const { kind, texts, heads, unused, short, crossing } = examples()[number];
   chooseKind(kind);
-  (kind === 'flow' ? ['places', 'routes'] : ['costs']).forEach((id, k) => put(id, texts[k]));
+  const ids = kind === 'flow' ? ['places', 'routes'] : ['costs', 'groups'];
+  ids.forEach((id, k) => put(id, texts[k] || ''));
   $('heads').value = heads;
   $('unused').checked = unused;
   $('short').checked = short;
+  $('crossing').checked = crossing;
   $('penalty').disabled = !short;
   const others = 'title unit currency penalty decimal encoding each filldown'.split(' ');
   for (const id of others) $(id).value = '';
@@ -195,7 +204,7 @@ async function go(change = null) {
     /** @type {Record<string, () => Promise<Run>>} */
     const run = {
       flow: () => runFlow(solver, [sourceOf('places'), sourceOf('routes')], asked),
-      pairs: () => runPairs(solver, sourceOf('costs'), asked),
+      pairs: () => runPairs(solver, pairFields().map(sourceOf), asked),
       text: () => {
         const source = sourceOf('dimacs');
         return runText(solver, source.bytes || new TextEncoder().encode(source.text), asked);
@@ -290,7 +299,7 @@ const headOf = ({ isPlan, headline, caption, result }) => [
 function show(shown, change, before) {
   const { result, mark, caption } = shown;
   const settings = { mark, change: changed };
-  const drawn = shown.scene && svgOf(shown.scene(caption));
+  const drawn = shown.scenes ? shown.scenes(caption).map(svgOf) : [];
   document.title = caption.title || 'Least-cost plans';
   const differs = change && changeParts(shown, change, before);
   grids = [];
@@ -316,7 +325,9 @@ function show(shown, change, before) {
       )
       : null,
     shown.findings.map(findingOf),
-    drawn && [el('h2', {}, 'Picture'), pictureOf(drawn)],
+    drawn.length
+      ? [el('h2', {}, drawn.length > 1 ? 'Pictures' : 'Picture'), ...drawn.map(pictureOf)]
+      : null,
     made(shown.sheets),
     shown.side && besideSection(shown, made),
     saves(shown, drawn),
@@ -412,7 +423,7 @@ function labelOf(title) {
   }
 }
 
-/** @type {(shown: Run, drawn: string | null) => HTMLElement} */
+/** @type {(shown: Run, drawn: string[]) => HTMLElement} */
 function saves({ result, instance, mark, tables }, drawn) {
   const answer = instance
     ? [saver(instance.name, () => instance.text), saver('answer.ans', () => result.bytes)]
@@ -439,7 +450,9 @@ function saves({ result, instance, mark, tables }, drawn) {
           'text/csv'
         )
       ),
-      drawn ? saver('plan.svg', () => drawn, 'image/svg+xml') : '',
+      drawn.map((picture, k) => saver(
+        drawn.length > 1 ? `plan-${k + 1}.svg` : 'plan.svg', () => picture, 'image/svg+xml'
+      )),
       el('button', { type: 'button', onclick: () => print() }, 'Print')
     )
   );

@@ -2,6 +2,7 @@
 // Persons and things: which pairs an answer chooses, or who competes.
 import { Said, Units, decimalsOf, exactOf, scaled, settledBy } from './amounts.js';
 import { TOLD_NAMES, countOf, listed } from './faults.js';
+import { groupLines, leftOutLines } from './groups.js';
 import { carriedLines, carriedOf } from './heads.js';
 import { partsOf } from './network.js';
 import { FORBIDDEN, NEEDED, isList, numberCells, readLine } from './sentences.js';
@@ -13,22 +14,25 @@ import { words } from './words.js';
  * @typedef {import('./tables.js').TableText} TableText
  */
 
+const GROUP_HEADS = ['group', 'who', 'what', 'least', 'most'];
+
 // What an answer says of a table of persons and things. The table is plain if it doesn't say how
 // many a person takes or a thing needs.
 export class Roster {
   /**
    * @param {Answer} answer
-   * @param {TableText} text
+   * @param {TableText[]} texts of costs, and perhaps of groups
    * @param {Choices} choices
    */
-  constructor(answer, text, { reading, each, maximise }) {
+  constructor(answer, [text, groups], { reading, each, maximise }) {
     this.answer = answer;
     this.reading = reading;
     this.maximise = maximise;
     this.each = each;
     this.mark = answer.mark;
-    this.notes = text.notes;
+    this.notes = [...text.notes, ...(groups ? groups.notes : [])];
     this.table = new Table(text, answer.tables.get('costs'));
+    this.groupTable = groups ? new Table(groups, answer.tables.get('groups')) : null;
     this.isList = isList(this.table);
     this.isPlain = !this.isFilled('takes') && !(this.isList && this.isFilled('needs'));
     /** @type {Map<string, number>} */
@@ -110,7 +114,10 @@ export class Roster {
     const known = [...NEEDED.costs, 'takes', 'needs'], cells = numberCells({ costs: this.table });
     return [
       ...this.notes,
-      ...(this.isList ? carriedLines(carriedOf(this.table, known)) : []),
+      ...carriedLines([
+        ...(this.isList ? carriedOf(this.table, known) : []),
+        ...(this.groupTable ? carriedOf(this.groupTable, GROUP_HEADS) : []),
+      ]),
       ...readLine(settledBy(cells, this.mark), this.mark, this.reading),
     ];
   }
@@ -127,6 +134,8 @@ export class Roster {
     const [mine, yours] = ['person', 'thing'].map((word) =>
       new Map(answer.rows(word).map(([, name, number]) => [name, BigInt(number)]))
     );
+    const groups = answer.rows('group').map(([, name, , owner]) => [name, owner]);
+    if (groups.length) return [this.within(side, mine, yours, groups)];
     /** @type {Record<string, Rivals[]>} */
     const choices = { [side]: this.parts(side, mine, yours) };
     if (this.isPlain && persons.size === things.size) {
@@ -142,6 +151,19 @@ export class Roster {
     );
     const { send = [], take = [] } = choices;
     return !send.length || (take.length && count(take) < count(send)) ? take : send;
+  }
+
+  // This method returns the competition of an answer in which groups take part.
+  /**
+   * @param {SendOrTake} side
+   * @param {Map<string, bigint>} persons
+   * @param {Map<string, bigint>} things
+   * @param {string[][]} groups
+   * @returns {Rivals}
+   */
+  within(side, persons, things, groups) {
+    const all = [...persons, ...things], every = new Set(all.map((_, k) => k + 1));
+    return { ...this.rivalry(side, all, persons.size, every), pairs: this.pairs, groups };
   }
 
   // This method returns the competitions among persons and things, which come with their numbers.
@@ -182,7 +204,8 @@ export class Roster {
     const pairs = this.pairs.filter(({ who, what }) => names.has(isSend ? who : what));
     const sum = (/** @type {Rival[]} */ rivals) =>
       rivals.reduce((total, { number }) => total + number, 0n);
-    return { side, musts, cans, pairs, must: sum(musts), can: sum(cans) + BigInt(pairs.length) };
+    const can = sum(cans) + BigInt(pairs.length);
+    return { side, musts, cans, pairs, groups: [], must: sum(musts), can };
   }
 }
 
@@ -208,6 +231,13 @@ export function rivalsSentence(found) {
   const { side, musts, must, can } = found, { rivals, pairs } = limiting(found);
   const names = musts.map(({ name }) => name), others = rivals.map(({ name }) => name);
   const isSend = side === 'send';
+  if (found.groups.length) {
+    const within = listed(found.groups.map(([group, name]) => `${group} of ${name}`));
+    const sides = (isSend ? [names, others] : [others, names])
+      .map((side_, k) => (side_.length ? `${['persons', 'things'][k]} ${listed(side_)}` : ''));
+    const all = [...sides, `groups ${within}`].filter(Boolean);
+    return `No choice keeps to these together: ${all.join('; ')}.`;
+  }
   if (!rivals.length && !pairs.length) {
     return isSend ? `${listed(names)} can get nothing.` : `Nobody may do ${listed(names)}.`;
   }
@@ -240,6 +270,7 @@ export function rivalsTable(roster, rivals) {
       ...found.musts.map(({ name, number }) => [count, kinds[0], name, number, '']),
       ...limits.rivals.map(({ name, number }) => [count, kinds[1], name, '', number]),
       ...limits.pairs.map(({ who, what }) => [count, 'pair', `${who}, ${what}`, '', '1']),
+      ...found.groups.map(([group, name]) => [count, 'group', `${group}, ${name}`, '', '']),
     ];
   });
   return {
@@ -281,7 +312,7 @@ export function pairsSummary(roster) {
     const left = [...names.keys()].filter((name) => !taken.has(name));
     if (left.length) lines.push(`${text}: ${listed(left)}.`);
   }
-  return [...lines, ...bothHint(roster)];
+  return [...lines, ...bothHint(roster), ...groupLines(roster)];
 }
 
 // This function returns a hint, if persons get nothing because no number of the table says that
@@ -305,6 +336,7 @@ function bothHint(roster) {
 export function rivalsLines(roster, rivals) {
   const lines = [`No such pairs exist, ${words().none}:`];
   for (const found of rivals.slice(0, TOLD_NAMES)) lines.push(`  ${rivalsSentence(found)}`);
+  lines.push(...leftOutLines(roster));
   const isSend = roster.answer.number('side') === 'send';
   if (isSend && roster.isPlain && roster.persons.size > roster.things.size) {
     lines.push(`${words().each}, and persons may be left over.`);

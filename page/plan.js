@@ -27,17 +27,23 @@ export class FlowPlan {
     this.policy = policy;
     const { units } = problem;
     this.cost = scaled(exactOf(answer.number('cost')), units.amounts + units.costs);
-    const backs = new Map(
-      answer.rows('back').map((cells) => [cells[0], this.result(cells.slice(3))])
-    );
     /** @type {RouteResult[]} */
-    this.routes = answer.rows('route').map((cells) => {
-      const there = this.result(cells.slice(3)), back = backs.get(cells[0]);
-      return back ? bothWays(there, back) : there;
-    });
+    this.routes = problem.periods.length ? this.departures(answer) : this.alone(answer);
+    const kept = new Map(answer.rows('keep').map((cells) =>
+      [JSON.stringify([cells[1], cells[8]]), this.result(cells.slice(2))]
+    ));
+    this.stores = problem.stores.map(({ tail, departs }) =>
+      kept.get(JSON.stringify([problem.places[tail - 1].name, departs]))
+    );
     this.hasRanges = Boolean(policy.ranges);
-    const changes = new Map(answer.rows('range').map(([line, , , ...cells]) => [line, cells]));
-    this.ranges = problem.routes.map((route) => this.range(route, changes.get(String(route.line))));
+    const changes = new Map(answer.rows('range').map(([line, from, , down, up, period = '']) =>
+      [JSON.stringify([line, from, period]), [down, up]]
+    ));
+    this.ranges = problem.routes.map((route) => {
+      const from = problem.places[route.tail - 1].name;
+      const key = JSON.stringify([String(route.line), from, route.departs]);
+      return this.range(route, changes.get(key));
+    });
     /** @type {Map<string, number>} */
     const groups = new Map();
     /** @type {PlaceResult[]} */
@@ -50,6 +56,29 @@ export class FlowPlan {
         through: problem.places[k].bounds && this.result(passes),
       };
     });
+  }
+
+  // This method returns the results of routes without periods.
+  /** @type {(answer: Answer) => RouteResult[]} */
+  alone(answer) {
+    const backs = new Map(
+      answer.rows('back').map((cells) => [cells[0], this.result(cells.slice(3))])
+    );
+    return answer.rows('route').map((cells) => {
+      const there = this.result(cells.slice(3)), back = backs.get(cells[0]);
+      return back ? bothWays(there, back) : there;
+    });
+  }
+
+  // This method returns the results of departures.
+  /** @type {(answer: Answer) => RouteResult[]} */
+  departures(answer) {
+    const found = new Map(['route', 'back'].flatMap((word) => answer.rows(word).map((cells) =>
+      [JSON.stringify([cells[0], cells[9], word]), this.result(cells.slice(3))]
+    )));
+    return this.problem.routes.map(({ line, departs, isBack }) =>
+      found.get(JSON.stringify([String(line), departs, isBack ? 'back' : 'route']))
+    );
   }
 
   /** @type {(text: string) => bigint} */

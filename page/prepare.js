@@ -1,6 +1,6 @@
 // @ts-check
 // What becomes of the text of a table before the module reads it: cells that take the value above
-// them, and a row of totals that is left out.
+// them, a row of totals that is left out, and a matrix of costs of routes that becomes a list.
 import { decimalsOf, exactOf, isNumber, scaled } from './amounts.js';
 import { BadTable, countOf, listed, shown } from './faults.js';
 import { words } from './words.js';
@@ -10,6 +10,8 @@ import { words } from './words.js';
 // The heads of names, and the heads of numbers that a row of totals may add up.
 const NAMED_HEADS = ['name', 'from', 'to', 'who', 'what'];
 const SUMMED_HEADS = ['supply', 'least', 'most', 'cost'];
+// The cells of a matrix without a route.
+const NO_ROUTE = ['', 'x', '-', '–', '—'];
 // What stands for a name in a row of totals.
 const TOTALS = ['', 'total', 'totals', 'sum', 'gesamt', 'gesamtsumme', 'summe', 'insgesamt'];
 // The most lines of a row of heads.
@@ -52,6 +54,12 @@ function* rowsIn(text, mark) {
     yield { cells, begin, end: line };
   }
 }
+
+// This function returns a row of cells as text.
+/** @type {(cells: string[], mark: string) => string} */
+const written = (cells, mark) => cells.map((cell) => (
+  /["\n]/.test(cell) || cell.includes(mark) ? `"${cell.replaceAll('"', '""')}"` : cell
+)).join(mark);
 
 // The rows of a text from that of the heads on.
 class TextRows {
@@ -109,11 +117,9 @@ class TextRows {
       if (!cells[place] && above) {
         cells[place] = above;
         count++;
-        const written = cells.map((cell) => (
-          /["\n]/.test(cell) || cell.includes(this.mark) ? `"${cell.replaceAll('"', '""')}"` : cell
-        )).join(this.mark).split('\n');
-        while (written.length < end - begin) written.push('');
-        this.lines.splice(begin, end - begin, ...written);
+        const lines = written(cells, this.mark).split('\n');
+        while (lines.length < end - begin) lines.push('');
+        this.lines.splice(begin, end - begin, ...lines);
       }
       above = cells[place];
     }
@@ -146,10 +152,54 @@ const isSum = (cells, total) => [...cells, total].every(isNumber) && ['.', ','].
   return parts.reduce((sum, part) => sum + part, 0n) === whole;
 });
 
-// This function fills columns of texts down, and leaves rows of totals out. The texts get notes on
-// what it did. It throws a BadTable for a column that no text has.
+// This function returns the rows of a text that has some of these names as the titles of its
+// columns, as a matrix of costs has; or null.
+/** @type {(text: TableText, names: Set<string>) => TextRows | null} */
+function matrixOf(text, names) {
+  const rows = new TextRows(text), [line] = text.headLines();
+  for (const mark of text.separators) {
+    const titles = rows.cells(line, mark).slice(1);
+    if (titles.length > 1 && 2 * titles.filter((one) => names.has(one)).length >= titles.length) {
+      return Object.assign(rows, { begin: line, mark });
+    }
+  }
+  return null;
+}
+
+// This function turns a matrix of costs, from the places on the left to those above, into a list of
+// routes without a limit. The text gets a note that it did so.
+/** @type {(places: TableText, routes: TableText) => void} */
+function listMatrix(places, routes) {
+  const found = new TextRows(places), [column] = found.places(['name']);
+  const names = new Set(found.below().map(({ cells }) => cells[column]).filter(Boolean));
+  const isList = new TextRows(routes).heads.slice(1)
+    .some((head) => ['from', 'to', ...SUMMED_HEADS].includes(head));
+  const rows = isList ? null : matrixOf(routes, names);
+  if (!rows) return;
+  const titles = rows.cells(rows.begin, rows.mark), lines = [['from', 'to', 'most', 'cost']];
+  for (const { cells } of rows.below()) {
+    cells.slice(0, titles.length).forEach((cost, k) => {
+      if (k && !NO_ROUTE.includes(cost.toLowerCase()) && cells[0] !== titles[k]) {
+        lines.push([cells[0], titles[k], '', cost]);
+      }
+    });
+  }
+  routes.text = `${lines.map((cells) => written(cells, rows.mark)).join('\n')}\n`;
+  routes.notes.push(
+    `${routes.name} is a matrix: it is read as a list of `
+      + `${countOf(lines.length - 1, 'route', 'routes')} without a limit, from the places on the `
+      + 'left to those above.'
+  );
+}
+
+// This function fills columns of texts down, leaves rows of totals out, and turns a matrix of costs
+// of routes into a list. The texts get notes on what it did. It throws a BadTable for a column that
+// no text has.
 /** @type {(texts: TableText[], columns: string[]) => void} */
 export function prepare(texts, columns) {
+  if (texts.length === 2 && new TextRows(texts[0]).heads.includes('supply')) {
+    listMatrix(texts[0], texts[1]);
+  }
   for (const text of texts) {
     const last = new TextRows(text).total();
     if (last) {

@@ -2,7 +2,10 @@
 // The sentences and tables about a flow, as mcf_plan writes them.
 import { balanceOf } from './blocked.js';
 import { TOLD_NAMES, countOf, listed } from './faults.js';
-import { FLOW_RESULTS, PLACE_RESULTS, RANGE_RESULTS, THROUGH_RESULTS } from './heads.js';
+import {
+  FLOW_RESULTS, PLACE_PERIOD, PLACE_RESULTS, RANGE_RESULTS, ROUTE_PERIODS, STOCK, THROUGH_RESULTS,
+} from './heads.js';
+import { labelIn } from './periods.js';
 import { MISSING, STAYS, THROUGH } from './plan.js';
 import { SEPARATORS, cellAt, lineOf } from './tables.js';
 import { words } from './words.js';
@@ -40,10 +43,17 @@ function after(name, like, results, rows) {
 export function flowsTable(plan) {
   const { problem } = plan;
   const { units } = problem;
-  const results = plan.hasRanges ? [FLOW_RESULTS, RANGE_RESULTS] : [FLOW_RESULTS];
+  const hasPeriods = problem.periods.length > 0;
+  const own = plan.hasRanges ? [FLOW_RESULTS, RANGE_RESULTS] : [FLOW_RESULTS];
+  /** @type {(departs: string, arrives: string) => string[]} */
+  const periods = (departs, arrives) => (hasPeriods ? [departs, arrives] : []);
   /** @type {[string[], string[]][]} */
   const rows = problem.routes.map((route, k) => [
-    route.cells, [...cellsOf(plan, plan.routes[k]), ...rangeCells(plan, k)],
+    route.cells,
+    [
+      ...cellsOf(plan, plan.routes[k]), ...rangeCells(plan, k),
+      ...periods(route.departs, route.arrives),
+    ],
   ]);
   for (const isSupply of [true, false]) {
     for (const [place, amount] of plan.unmet(isSupply)) {
@@ -55,11 +65,31 @@ export function flowsTable(plan) {
       const cost = penalty === null ? null : penalty * amount;
       rows.push([
         problem.routeTable.heads.map((head) => ends.get(head) || ''),
-        [units.amount(amount), units.total(cost), ...results.flat().slice(2).map(() => '')],
+        [
+          units.amount(amount), units.total(cost), ...own.flat().slice(2).map(() => ''),
+          ...periods(place.period, place.period),
+        ],
       ]);
     }
   }
-  return after('flows', problem.routeTable, results, rows);
+  return after('flows', problem.routeTable, hasPeriods ? [...own, ROUTE_PERIODS] : own, rows);
+}
+
+// This function lists what places keep from each period to the next, if there are periods.
+/** @type {(plan: FlowPlan) => SavedTable[]} */
+export function stockTables(plan) {
+  const { problem } = plan;
+  return problem.periods.length
+    ? [{
+      name: 'stock',
+      like: problem.placeTable,
+      heads: STOCK,
+      rows: problem.stores.map(({ tail, departs, arrives }, k) =>
+        [problem.places[tail - 1].name, departs, arrives, ...cellsOf(plan, plan.stores[k])]
+      ),
+      figures: STOCK.map((_, k) => k).slice(3),
+    }]
+    : [];
 }
 
 // This function returns from what to what the cost of a route may change, if the plan has ranges.
@@ -97,13 +127,18 @@ export function pricesTable(plan) {
         plan.problem.units.rate(price),
         String(group),
         ...(!hasBounds ? [] : through ? cellsOf(plan, through) : THROUGH_RESULTS.map(() => '')),
+        ...(place.period ? [place.period] : []),
       ],
     ];
   });
   return after(
     'prices',
     plan.problem.placeTable,
-    hasBounds ? [PLACE_RESULTS, THROUGH_RESULTS] : [PLACE_RESULTS],
+    [
+      PLACE_RESULTS,
+      ...(hasBounds ? [THROUGH_RESULTS] : []),
+      ...(plan.problem.periods.length ? [PLACE_PERIOD] : []),
+    ],
     rows
   );
 }
@@ -124,7 +159,7 @@ export function bottleneckTable(blocked) {
       supplies.set(place, before + sign * network.supplies[node - 1]);
     }
     for (const place of blocked.placesOf(found)) {
-      const { name } = problem.places[place];
+      const name = labelIn(problem.places[place]);
       rows.push([...begin, 'place', name, '', '', said(supplies.get(place)), '']);
     }
     for (const joint of forcing) {
@@ -147,7 +182,7 @@ export function bottleneckTable(blocked) {
 const jointCells = (blocked, joint) => (
   joint.kind === 'through'
     ? ['through', blocked.ends(joint)[0], '', '']
-    : ['route', '', ...blocked.ends(joint)]
+    : [joint.kind === 'keep' ? 'keep' : 'route', '', ...blocked.ends(joint)]
 );
 
 // This function writes a table as CSV, with the separator and the byte-order mark of the table
@@ -208,7 +243,7 @@ export function balanceSentence(problem) {
 /** @type {(blocked: Blocked, found: Bottleneck) => string} */
 export function bottleneckSentence(blocked, found) {
   const said = (/** @type {bigint} */ number) => blocked.problem.said.amount(number);
-  const places = blocked.placesOf(found).map((place) => blocked.problem.places[place].name);
+  const places = blocked.placesOf(found).map((place) => labelIn(blocked.problem.places[place]));
   const jointName = (/** @type {Joint} */ joint) => {
     const ends = blocked.ends(joint);
     return joint.kind === 'through' ? `through ${ends[0]}` : ends.join(' -> ');
@@ -250,8 +285,7 @@ export function flowSummary(plan) {
   const cost = problem.said.total(plan.cost);
   const lines = [
     `A least-cost plan, ${words().found}: cost ${cost}.`,
-    `${countOf(problem.places.length, 'place', 'places')}, `
-      + `${countOf(problem.routes.length, 'route', 'routes')}: `
+    `${countsOfProblem(problem).map((one) => countOf(...one)).join(', ')}: `
       + `${carrying} ${carrying === 1 ? 'carries' : 'carry'} something, `
       + `${full} ${full === 1 ? 'is' : 'are'} full.`,
     ...besideLines(plan),
@@ -262,6 +296,32 @@ export function flowSummary(plan) {
     ...saving
       .slice(0, 5)
       .map(({ ends, result }) => `  ${ends.join(' -> ')}: ${savedText(plan, result)}`),
+  ];
+}
+
+// This function returns how many places and routes there are, with the words for one and for
+// several; and how many periods and departures, if there are periods.
+/** @type {(problem: Problem) => [number, string, string][]} */
+export function countsOfProblem({ places, routes, periods }) {
+  const names = new Set(places.map(({ name }) => name)).size;
+  return periods.length
+    ? [
+      [names, 'place', 'places'], [periods.length, 'period', 'periods'],
+      [routes.length, 'departure', 'departures'],
+    ]
+    : [[names, 'place', 'places'], [routes.length, 'route', 'routes']];
+}
+
+// This function says what is kept from a period to the next, if there are periods.
+/** @type {(plan: FlowPlan) => string[]} */
+function stockLines({ problem, stores }) {
+  if (!problem.periods.length) return [];
+  const kept = stores.filter(({ carries }) => carries);
+  if (!kept.length) return ['Nothing is kept from a period to the next.'];
+  const cost = problem.said.total(kept.reduce((sum, one) => sum + (one.cost || 0n), 0n));
+  const most = kept.reduce((most_, { carries }) => (carries > most_ ? carries : most_), 0n);
+  return [
+    `What places keep costs ${cost} of that; at most ${problem.said.amount(most)} at once.`,
   ];
 }
 
@@ -278,9 +338,12 @@ export function savingsOf(plan) {
     ends: problem.ends(route),
     result: plan.routes[k],
   }));
+  problem.stores.forEach((store, k) => {
+    found.push({ ends: problem.ends(store), result: plan.stores[k] });
+  });
   problem.places.forEach((place, k) => {
     if (plan.places[k].through) {
-      found.push({ ends: [place.name, THROUGH], result: plan.places[k].through });
+      found.push({ ends: [labelIn(place), THROUGH], result: plan.places[k].through });
     }
   });
   return found.filter(({ result }) => result.saves).sort(
@@ -302,13 +365,14 @@ export function besideLines(plan) {
       (sum, [place, unmet]) => sum + unmet * (problem.penaltyOf(place) || 0n), 0n
     );
     const cost = paid ? `, which costs ${problem.said.total(paid)} of that` : '';
-    const where = listed(found.map(([place, unmet]) => `${place.name} ${said(unmet)}`));
+    const where = listed(found.map(([place, unmet]) => `${labelIn(place)} ${said(unmet)}`));
     lines.push(
       found.length
         ? `${said(total)} ${isSupply ? 'stay' : 'are missing'} at: ${where}${cost}.`
         : `Nothing ${isSupply ? 'stays' : 'is missing'}.`
     );
   }
+  lines.push(...stockLines(plan));
   const passing = plan.places.reduce((sum, { through }) => sum + (through?.cost || 0n), 0n);
   const costs = plan.problem.said.total(passing);
   return passing ? [...lines, `Passing through places costs ${costs} of that.`] : lines;

@@ -117,19 +117,21 @@ export async function flowOf(solver, sources, { reading, policy }) {
   return { problem, blocked: new Blocked(problem, policy, found, eased), result };
 }
 
-// This function answers a table of persons and things.
+// This function answers a table of persons and things, and perhaps one of groups.
 /**
  * @param {Solver} solver
- * @param {Source} source
+ * @param {Source[]} sources
  * @param {Choices} choices
  * @returns {Promise<{ roster: Roster, result: Result }>}
  */
-export async function pairsOf(solver, source, choices) {
-  const { reading, each, maximise } = choices;
-  const faults = new Faults(), [costs] = textsOf([source], reading, faults);
-  const asked = { each: each || '', maximise };
-  const { found, result } = await answered(solver, { costs }, reading, asked, faults);
-  return { roster: new Roster(found, costs, choices), result };
+export async function pairsOf(solver, sources, choices) {
+  const { reading, each, maximise, crossing } = choices;
+  const faults = new Faults(), [costs, groups] = textsOf(sources, reading, faults);
+  /** @type {Record<string, TableText>} */
+  const texts = groups ? { costs, groups } : { costs };
+  const asked = { each: each || '', maximise, crossing };
+  const { found, result } = await answered(solver, texts, reading, asked, faults);
+  return { roster: new Roster(found, [costs, groups], choices), result };
 }
 
 /** @type {(solver: Solver, sources: Source[], choices: Choices) => Promise<Run>} */
@@ -138,9 +140,9 @@ export async function runFlow(solver, sources, choices) {
   return plan ? { ...planShown(plan), plan, result } : { ...blockedShown(blocked), result };
 }
 
-/** @type {(solver: Solver, source: Source, choices: Choices) => Promise<Run>} */
-export async function runPairs(solver, source, choices) {
-  const { roster, result } = await pairsOf(solver, source, choices);
+/** @type {(solver: Solver, sources: Source[], choices: Choices) => Promise<Run>} */
+export async function runPairs(solver, sources, choices) {
+  const { roster, result } = await pairsOf(solver, sources, choices);
   return { ...result.status === 'flow' ? pairsShown(roster) : pairsBlocked(roster), result };
 }
 
@@ -159,7 +161,6 @@ const withoutTables = (isPlan, headline, line, result, instance) => ({
   lead: [line],
   facts: [],
   findings: [],
-  scene: null,
   sheets: [],
   tables: () => [],
   result,

@@ -5,6 +5,7 @@
 // bottlenecks.
 import { size } from './model.js';
 import { balanceOf } from './blocked.js';
+import { labelIn } from './periods.js';
 import { grouped } from './view.js';
 
 /**
@@ -20,6 +21,8 @@ import { grouped } from './view.js';
 // exists and there are more places than NEAR, the picture shows only the bottlenecks and their
 // neighbours.
 const ALL_ROUTES = 90, NEAR = 60;
+// The most periods with a picture.
+const DRAWN = 60;
 // The greatest length of a name in a box, and what a longer name keeps of its beginning and end.
 const LONGEST = 24, BEGIN = 12, END = 11;
 
@@ -31,28 +34,41 @@ const figuresOf = ({ units, said: { mark } }) => ({
   total: (number, unit) => grouped(units.total(number), mark, unit),
 });
 
-// This function describes a plan. If there are many routes, it shows those that carry something or
-// have capacity 0.
-/** @type {(plan: FlowPlan, caption: Caption) => Scene} */
-export function planScene(plan, caption) {
+// This function describes a plan, or one picture of each period, up to a number.
+/** @type {(plan: FlowPlan, caption: Caption) => Scene[]} */
+export const planScenes = (plan, caption) => {
+  const { periods } = plan.problem;
+  return (periods.length ? periods.slice(0, DRAWN) : [''])
+    .map((period) => planScene(plan, caption, period));
+};
+
+// This function describes a plan, or what departs in a period. If there are many routes, it shows
+// those that carry something or have capacity 0.
+/** @type {(plan: FlowPlan, caption: Caption, period?: string) => Scene} */
+export function planScene(plan, caption, period = '') {
   const { problem } = plan, { amount: said, total } = figuresOf(problem);
   /** @type {SceneLink[]} */
   const links = [];
+  const here = indicesOf(problem.places, (place) => place.period === period);
+  const departing = indicesOf(problem.routes, ({ departs }) => departs === period);
   const widest = plan.routes.reduce(
     (most, { carries }) => (size(carries) > most ? size(carries) : most),
     0n
   );
-  problem.routes.forEach(({ most }, k) => {
-    if (problem.routes.length > ALL_ROUTES && !plan.routes[k].carries && most !== 0n) return;
-    links.push(linkOf(plan, k, widest));
-  });
-  const idle = problem.routes.length - links.length;
+  for (const k of departing) {
+    const { most } = problem.routes[k];
+    if (departing.length > ALL_ROUTES && !plan.routes[k].carries && most !== 0n) continue;
+    const link = linkOf(plan, k, widest);
+    links.push({ ...link, tail: link.tail % here.length, head: link.head % here.length });
+  }
+  const idle = departing.length - links.length;
   const left = idle ? ` (${idle} idle routes aren't drawn)` : '';
-  const shorts = shortNames(problem.places.map(({ name }) => name));
+  const shorts = shortNames(here.map((k) => problem.places[k].name)), kept = keptIn(plan, period);
+  const heading = period || `A least-cost plan: cost ${total(plan.cost, caption.currency)}`;
   return {
-    heading: `A least-cost plan: cost ${total(plan.cost, caption.currency)}${left}`,
-    nodes: problem.places.map((place, k) =>
-      nodeOf(problem, place, shorts[k], plan.places[k].unmet)
+    heading: heading + left,
+    nodes: here.map((k, n) =>
+      nodeOf(problem, problem.places[k], shorts[n], plan.places[k].unmet, kept.get(k))
     ),
     links,
     groups: [],
@@ -63,6 +79,16 @@ export function planScene(plan, caption) {
     caption,
   };
 }
+
+/** @type {<T>(list: T[], test: (one: T) => boolean) => number[]} */
+const indicesOf = (list, test) => list.map((_, k) => k).filter((k) => test(list[k]));
+
+// This function returns what places keep after a period, by their numbers from 0.
+/** @type {(plan: FlowPlan, period: string) => Map<number, bigint>} */
+const keptIn = ({ problem, stores }, period) => new Map(
+  indicesOf(problem.stores, ({ departs }) => departs === period)
+    .map((k) => [problem.stores[k].tail - 1, stores[k].carries])
+);
 
 // This function describes route k of a plan. If the flow runs in the opposite direction, the link
 // does, too.
@@ -78,7 +104,9 @@ function linkOf(plan, k, widest) {
     head: (turned ? route.tail : route.head) - 1,
     width: carries ? 1.4 + 7.6 * Number(size(carries)) / Number(widest) : 1,
     kind: plan.isFull(k) ? 'full' : carries ? 'flowing' : 'idle',
-    label: carries ? said(carries) : '',
+    label: carries
+      ? said(carries) + (route.arrives === route.departs ? '' : ` → ${route.arrives}`)
+      : '',
     title:
       `${(turned ? names.reverse() : names).join(' -> ')}: ${said(carries)} of `
         + `${limitsText(problem, route)}, cost ${total(result.cost)}`,
@@ -92,8 +120,10 @@ export function blockedScene(blocked, caption) {
   const { problem } = blocked, { amount: said } = figuresOf(problem);
   const marked = markedOf(blocked);
   /** @type {SceneLink[]} */
-  const links = problem.routes.map((route, number) => {
-    const kind = marked.get(`route ${number} 1`) || marked.get(`route ${number} -1`) || 'other';
+  const links = [...problem.routes, ...problem.stores].map((route, all) => {
+    const { length } = problem.routes;
+    const number = all < length ? `route ${all}` : `keep ${all - length}`;
+    const kind = marked.get(`${number} 1`) || marked.get(`${number} -1`) || 'other';
     return {
       tail: route.tail - 1,
       head: route.head - 1,
@@ -103,7 +133,7 @@ export function blockedScene(blocked, caption) {
       title: `${problem.ends(route).join(' -> ')}: ${limitsText(problem, route)}`,
     };
   });
-  const cuts = shortNames(problem.places.map(({ name }) => name));
+  const cuts = shortNames(problem.places.map(labelIn));
   const nodes = problem.places.map((place, k) => {
     const node = nodeOf(problem, place, cuts[k]);
     const limit = marked.has(`through ${k} 1`) ? `≤ ${said(place.bounds.most)} pass` : '';
@@ -174,14 +204,18 @@ function nearScene(scene) {
  * @param {string} short
  * @returns {SceneNode}
  */
-function nodeOf(problem, place, short, unmet = 0n) {
+function nodeOf(problem, place, short, unmet = 0n, kept = 0n) {
   const kind = place.supply > 0n ? 'sends' : place.supply < 0n ? 'takes' : 'passes';
   const { amount: said } = figuresOf(problem);
-  const note = place.supply ? `${kind} ${said(size(place.supply))}` : '';
+  const notes = [
+    place.supply ? `${kind} ${said(size(place.supply))}` : '',
+    unmet ? `${said(unmet)} ${place.supply > 0n ? 'stays' : 'missing'}` : '',
+    kept ? `keeps ${said(kept)}` : '',
+  ];
   return {
-    name: place.name,
+    name: labelIn(place),
     short,
-    note: note + (unmet ? `, ${said(unmet)} ${place.supply > 0n ? 'stays' : 'missing'}` : ''),
+    note: notes.filter(Boolean).join(', '),
     kind,
     spot: place.spot,
   };

@@ -19,12 +19,10 @@ export const NEEDED = {
   places: ['name', 'supply'],
   routes: ['from', 'to', 'most', 'cost'],
   costs: ['who', 'what', 'cost'],
+  groups: ['group'],
 };
 // The cells that forbid a pair.
 export const FORBIDDEN = ['', 'x', '-', '–', '—'];
-const MATRIX =
-  'this looks like a matrix, and routes are a list: write a line from, to, most, cost for each '
-    + "cell (Excel's Unpivot Columns does so), with an empty most for no limit; ";
 const WISHES =
   '; if these are wishes, write a list with a line who, what, cost for each wish: 1 as the cost '
     + 'of a first one, 2 of a second';
@@ -68,6 +66,21 @@ const SENTENCES = {
   'below 0': '{cell} is below 0, and this step adds to the one before',
   'below 0: most': '{cell} is below 0, and the route has more steps or is used both ways',
   'below 0: penalty': '{cell} is below 0',
+  'below 0: keep most': '{cell} is below 0',
+  'below 0: first stock': '{cell} is below 0',
+  'below 0: last stock': '{cell} is below 0',
+  'named twice in a period':
+    'an earlier line of this place holds in this period, too; a line without a period holds in '
+      + 'each',
+  'no such period': 'there is no period {cell} in the table of places',
+  'no number of periods': '{cell} is no number of periods: write a whole number from 0 on',
+  'not in the first period':
+    'a first stock is there before the first period, and this line holds in a later one',
+  'not in the last period':
+    'a last stock is left after the last period, and this line holds in an earlier one',
+  'arrives after the last period':
+    'what departs by this line arrives after the last period: give it another period, or a '
+      + 'smaller lead',
   'a penalty, but a supply above 0':
     'a penalty is the cost of what is missing, and this place sends: leave the cell empty; or '
       + 'is the sign of the supply wrong?',
@@ -81,6 +94,27 @@ const SENTENCES = {
   'least above most': 'least {least} is greater than most {most}',
   'no number or range': '{cell} is no number, and no range such as 2..3{date}',
   'two different numbers': 'an earlier line has another number: this is {cell}',
+  'no column who or what':
+    'there is no column who and no column what among {heads} (split at {separator}): each line '
+      + 'names a person (who) or a thing (what) of a group',
+  'no person or thing': 'the line names no person (who) and no thing (what)',
+  'a person and a thing':
+    'the line names a person and a thing: a group is of persons or of things, and a line has one '
+      + 'of them',
+  'not in the costs: who': 'there is no person {cell} in the costs{near}',
+  'not in the costs: what': 'there is no thing {cell} in the costs{near}',
+  'named twice in groups': 'the group has {cell} on line {first} already',
+  'persons and things':
+    '{cell} is of the other kind than an earlier line of the group: a group is of persons or of '
+      + 'things',
+  'no whole number': '{cell} is no whole number from 0 on',
+  'least above most in groups': "the group's least is greater than its most",
+  'crosses another group':
+    '{cell} has some members of {crossed}, and not all: a minimum-cost flow keeps only to groups '
+      + 'that have no member in common, or that are one within the other; {leaves} {cell} out, and '
+      + 'says who breaks it',
+  'too many places': 'with {cell}, there are too many persons, things and groups',
+  'no group': 'there is no line below the heads, and so no group',
   'no thing': 'no thing {nothing}',
   'no person': 'no person {nothing}',
 };
@@ -93,9 +127,10 @@ const TITLE = /^(nearly|not read without) (.*)$/;
 // The heads of numbers.
 /** @type {Record<string, RegExp>} */
 const NUMBERS = {
-  places: /^(supply|least|most|cost|penalty)$/,
+  places: /^(supply|least|most|cost|penalty|keep (most|cost)|(first|last) stock)$/,
   routes: /^(least|(most|cost)( [0-9]+)?)$/,
   costs: /^cost$/,
+  groups: /^(least|most)$/,
 };
 
 // Tells the faults of an answer about texts, which have these words there.
@@ -115,6 +150,7 @@ export class Teller {
     this.rows = /** @type {Record<string, Map<number, string[]>>} */ ({});
     this.shows = /** @type {NumberCell[]} */ ([]);
     this.done = new Set();
+    this.crossed = /** @type {Map<string, string>} */ (new Map());
   }
 
   // This method notes all faults of an answer, and then positions of places that are no numbers.
@@ -122,6 +158,7 @@ export class Teller {
   tell(answer) {
     const found = answer.rows('fault');
     if (!found.length) return;
+    this.crossed = new Map(answer.rows('crossing').map(([line, , other]) => [line, other]));
     for (const [word, text] of Object.entries(this.texts)) {
       const read = answer.tables.get(word) || { headLine: 1, titles: [''], rows: [] };
       this.tables[word] = new Table(text, read);
@@ -140,13 +177,15 @@ export class Teller {
   // This method notes a fault. The first one of a kind tells all; of columns that a table lacks,
   // too.
   /** @type {(fault: string[]) => void} */
-  note([word, line, head, what, read]) {
+  note([word, line, head, what, read, period = '']) {
     const [column, cell] = this.located(word, line, head, what, read);
     const isLacking = what === 'no such column', isNumber = /^[0-9]+$/.test(column);
     const kind = [word, what, isLacking || isNumber || column].join('\n');
     const isFirst = this.done.size < this.done.add(kind).size;
     if (isLacking && !isFirst) return;
-    const text = isFirst ? this.text(word, line, column, what, cell) : '';
+    const text = isFirst
+      ? this.text(word, line, column, what, cell) + (period && ` (in period ${shown(period)})`)
+      : '';
     this.faults.add(at(this.texts[word].name, Number(line), column), what, text, cell);
   }
 
@@ -175,7 +214,9 @@ export class Teller {
     const [, what, meant] = TITLE.exec(whole) || [whole, whole, ''], table = this.tables[word];
     const row = this.rows[word].get(Number(line)) || [];
     /** @type {Record<string, string[]>} */
-    const several = { what: ['who', 'what'], most: ['least', 'most'], 1: table.heads.slice(0, 1) };
+    const several = word === 'groups'
+      ? { who: ['group', 'who'], what: ['group', 'what'] }
+      : { what: ['who', 'what'], most: ['least', 'most'], 1: table.heads.slice(0, 1) };
     const under = (/** @type {string[]} */ one) => filled(table, several[column] || [column], one);
     const same = (/** @type {string[]} */ one) => under(one).join('\n') === under(row).join('\n');
     /** @type {Record<string, any>} */
@@ -192,7 +233,9 @@ export class Teller {
       mark: shown(this.reading.decimal || '.'),
       other: () => this.shows.filter((one) => markIn(one.cell) !== markIn(cell))
         .map((one) => `${shown(one.cell)} (${one.table.name}, line ${one.line})`)[0],
-      near: () => nearTo(cell, this.names(), fold).map((one) => `; is ${shown(one)} meant?`)[0],
+      near: () => nearTo(cell, this.names(column), fold)
+        .map((one) => `; is ${shown(one)} meant?`)[0],
+      crossed: () => shown(this.crossed.get(line)),
       date: /[0-9]{4}-|\.\s?\w{3}/.test(cell) ? '; was it taken for a date?' : '',
       merges: () => this.merged(word, Number(line), column),
       wishes: () => this.wishes(word),
@@ -204,16 +247,22 @@ export class Teller {
       like: () => this.looksLike(word),
       needed: NEEDED[word].join(', '),
     };
-    const sentence = SENTENCES[`${what}: ${column}`] || SENTENCES[what] || what;
+    const keys = [`${what} in ${word}`, `${what}: ${column}`, what];
+    const sentence = SENTENCES[keys.find((key) => SENTENCES[key])] || what;
     return sentence.replace('{nothing}', NOTHING).replace(/\{(\w+)\}/g, (_, name) =>
       (typeof parts[name] === 'function' ? parts[name](column) || '' : parts[name])
     );
   }
 
-  // This method returns the names of the places.
-  names() {
-    const read = this.tables.places.reader(['name']);
-    return this.tables.places.rows.map(({ cells }) => read(cells)[0]).filter(Boolean);
+  // This method returns the names of the places, or of the persons (who) or the things (what).
+  names(head = 'name') {
+    const isMember = head === 'who' || head === 'what';
+    const table = this.tables[isMember ? 'costs' : 'places'];
+    if (isMember && !isList(table)) {
+      return head === 'what' ? table.titles.slice(1) : table.rows.map(({ cells }) => cells[0]);
+    }
+    const read = table.reader([isMember ? head : 'name']);
+    return [...new Set(table.rows.map(({ cells }) => read(cells)[0]).filter(Boolean))];
   }
 
   // This method returns a hint at a line below the heads that has those which the table needs.
@@ -230,13 +279,9 @@ export class Teller {
   // This method returns a hint at what a table without its columns may be.
   /** @type {(word: string) => string} */
   looksLike(word) {
-    const table = this.tables[word], names = new Set(word === 'routes' ? this.names() : []);
-    const count = table.titles.slice(1).filter((title) => names.has(title)).length;
-    return word === 'places' && table.has(['from', 'to'])
+    return word === 'places' && this.tables.places.has(['from', 'to'])
       ? 'this looks like the table of routes, which comes second; '
-      : count && table.titles.length > 2 && 2 * count >= table.titles.length - 1
-        ? MATRIX
-        : '';
+      : '';
   }
 
   // This method returns a hint at merged cells, if a cell above in the column has a name, which may

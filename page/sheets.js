@@ -1,6 +1,6 @@
 // @ts-check
 // This file turns an answer into what the page shows: a headline, lead sentences, facts, findings,
-// a scene, and tables to look at and to save.
+// scenes, and tables to look at and to save.
 import { balanceOf } from './blocked.js';
 import { column, number, ownColumns, sheetOf } from './columns.js';
 import { flowSide, pairsSide } from './compare.js';
@@ -8,17 +8,21 @@ import { pairsSummary, pairsTable, rivalsLines, rivalsSentence, rivalsTable } fr
 import {
   besideLines,
   bottleneckSentence,
+  countsOfProblem,
   bottleneckTable,
   flowsTable,
   pricesTable,
   rangeCells,
   savingsOf,
   slips,
+  stockTables,
 } from './report.js';
 import { listed } from './faults.js';
+import { groupSheets, groupsTables } from './groups.js';
 import { size } from './model.js';
 import { cellAt } from './tables.js';
-import { blockedScene, planScene, whyBlocked } from './scene.js';
+import { labelIn } from './periods.js';
+import { blockedScene, planScenes, whyBlocked } from './scene.js';
 import { flowSumsTable, flowViews, pairSumsTable, pairViews } from './sums.js';
 import { grouped } from './view.js';
 
@@ -43,8 +47,9 @@ export function planShown(plan) {
   const views = flowViews(plan);
   /** @type {Shown['facts']} */
   const facts = [
-    [problem.places.length, 'places'],
-    [problem.routes.length, 'routes'],
+    ...countsOfProblem(problem).map(([count, , many]) =>
+      /** @type {[number, string]} */ ([count, many])
+    ),
     [carrying, 'carry something'],
     [full, 'are full'],
   ];
@@ -66,13 +71,15 @@ export function planShown(plan) {
     ],
     facts,
     findings: [],
-    scene: (caption) => planScene(plan, caption),
+    scenes: (caption) => planScenes(plan, caption),
     side: () => flowSide(plan),
     sheets: [
-      ...savingsSheet(plan), routesSheet(plan), placesSheet(plan), { ...views.sheet(0), views },
+      ...savingsSheet(plan), routesSheet(plan), placesSheet(plan), ...stockSheet(plan),
+      { ...views.sheet(0), views },
     ],
     tables: () => [
-      flowsTable(plan), pricesTable(plan), flowSumsTable(plan, [views.columns[views.chosen]]),
+      flowsTable(plan), pricesTable(plan), ...stockTables(plan),
+      flowSumsTable(plan, [views.columns[views.chosen]]),
     ],
   };
 }
@@ -106,9 +113,11 @@ function savingsSheet(plan) {
     : [];
 }
 
-// This function says whether no route has costs that rise by steps.
+// This function says whether each row of the tables is one of the sheets, and no route has costs
+// that rise by steps.
 /** @type {(problem: Problem) => boolean} */
-const isPlain = ({ routes }) => routes.every(({ steps }) => steps.length === 1);
+const isPlain = ({ routes, periods }) =>
+  !periods.length && routes.every(({ steps }) => steps.length === 1);
 
 // This function makes a column of the routes editable if the table has it and no route has steps.
 /** @type {(problem: Problem, head: string) => Partial<Column>} */
@@ -124,6 +133,7 @@ const RANGE_COLUMNS = ['cost may fall to', 'cost may rise to'].map((head) =>
 
 /** @type {(plan: FlowPlan) => Column[]} */
 const routeColumns = ({ problem, hasRanges }) => [
+  ...(problem.periods.length ? [column('departs in'), column('arrives in')] : []),
   column('from', 'where the route begins'),
   column('to', 'where it ends'),
   number('least', 'it carries no less', may(problem, 'least')),
@@ -155,7 +165,8 @@ function routesSheet(plan) {
     return {
       kind: plan.isFull(k) ? 'full' : carries ? '' : 'idle',
       cells: [
-        ...problem.ends(route),
+        ...(problem.periods.length ? [route.departs, route.arrives] : []),
+        ...[route.tail, route.head].map((end) => problem.places[end - 1].name),
         units.amount(route.least),
         units.amount(route.most),
         costsCell(problem, route),
@@ -203,12 +214,17 @@ const PASSING = [
   number('one more passing costs', 'at least, if one more has to pass; empty: full'),
 ];
 
+// This function makes the column of supplies editable, unless there are periods.
+/** @type {(table: Table) => Partial<Column>} */
+const supplyOf = (table) => (table.heads.includes('period') ? {} : { edit: 'supply' });
+
 /**
  * @type {(table: Table, hasUnmet: boolean, hasPenalties: boolean, hasBounds: boolean) => Column[]}
  */
 const placeColumns = (table, hasUnmet, hasPenalties, hasBounds) => [
+  ...(table.heads.includes('period') ? [column('period')] : []),
   column('name'),
-  number('supply', 'above 0 it sends, below 0 it takes', { edit: 'supply' }),
+  number('supply', 'above 0 it sends, below 0 it takes', supplyOf(table)),
   number('one more costs', 'what one more unit costs there'),
   number('group', 'among places of one group that is exact'),
   ...(hasUnmet ? [number('unmet', 'what stays, or is missing')] : []),
@@ -236,6 +252,7 @@ function placesSheet(plan) {
     return {
       kind: '',
       cells: [
+        ...(place.period ? [place.period] : []),
         place.name,
         units.amount(place.supply),
         units.rate(price),
@@ -255,6 +272,34 @@ function placesSheet(plan) {
     from: placeTable,
     field: 'places',
   };
+}
+
+// This function returns the sheet of what places keep, if there are periods: a row for each place,
+// and a column for each period.
+/** @type {(plan: FlowPlan) => Sheet[]} */
+function stockSheet({ problem, stores }) {
+  /** @type {Map<string, Map<string, bigint>>} */
+  const found = new Map();
+  problem.stores.forEach(({ tail, departs }, k) => {
+    const { name } = problem.places[tail - 1];
+    found.set(name, (found.get(name) || new Map()).set(departs, stores[k].carries));
+  });
+  const periods = problem.periods.slice(0, -1);
+  return found.size
+    ? [
+      sheetOf(
+        'Stock',
+        [column('name'), ...periods.map((period) => number(period, 'kept after it'))],
+        [...found].map(([name, kept]) => ({
+          kind: '',
+          cells: [
+            name,
+            ...periods.map((one) => (kept.has(one) ? problem.units.amount(kept.get(one)) : '')),
+          ],
+        }))
+      ),
+    ]
+    : [];
 }
 
 /** @type {(blocked: Blocked) => Shown} */
@@ -287,7 +332,7 @@ export function blockedShown(blocked) {
     ],
     facts: [],
     findings,
-    scene: (caption) => blockedScene(blocked, caption),
+    scenes: (caption) => [blockedScene(blocked, caption)],
     sheets: [...limitingSheet(blocked), ...inputSheets(problem)],
     tables: () => [bottleneckTable(blocked)],
   };
@@ -355,7 +400,7 @@ function limitingSheet(blocked) {
 /** @type {(problem: Problem) => Sheet[]} */
 function inputSheets(problem) {
   const { routes, places, units, routeTable, placeTable } = problem;
-  const name = (/** @type {number} */ node) => places[node - 1].name;
+  const name = (/** @type {number} */ node) => labelIn(places[node - 1]);
   return [
     {
       title: 'Routes',
@@ -369,7 +414,9 @@ function inputSheets(problem) {
       count: routes.length,
       from: routeTable,
       field: 'routes',
-      note: 'If you change least, most or supply, the page makes a new plan.',
+      note: problem.periods.length
+        ? ''
+        : 'If you change least, most or supply, the page makes a new plan.',
       row: (k) => ({
         kind: '',
         cells: [
@@ -385,12 +432,12 @@ function inputSheets(problem) {
       title: 'Places',
       columns: [
         column('name'),
-        number('supply', 'above 0 it sends, below 0 it takes', { edit: 'supply' }),
+        number('supply', 'above 0 it sends, below 0 it takes', supplyOf(placeTable)),
       ],
       count: places.length,
       from: placeTable,
       field: 'places',
-      row: (k) => ({ kind: '', cells: [places[k].name, units.amount(places[k].supply)] }),
+      row: (k) => ({ kind: '', cells: [labelIn(places[k]), units.amount(places[k].supply)] }),
     },
   ];
 }
@@ -417,7 +464,6 @@ export function pairsShown(roster) {
       [pairs.length, 'pairs'],
     ],
     findings: [],
-    scene: null,
     side: () => pairsSide(roster),
     sheets: [
       sheetOf(
@@ -426,9 +472,13 @@ export function pairsShown(roster) {
         rows,
         { totals: ['', '', units.total(roster.cost)] }
       ),
+      ...groupSheets(roster),
       { ...views.sheet(0), views },
     ],
-    tables: () => [pairsTable(roster), pairSumsTable(roster, [views.columns[views.chosen]])],
+    tables: () => [
+      pairsTable(roster), ...groupsTables(roster),
+      pairSumsTable(roster, [views.columns[views.chosen]]),
+    ],
   };
 }
 
@@ -441,10 +491,11 @@ export function pairsBlocked(roster) {
     mark: roster.said.mark,
     lead: [...lines.filter((line, k) => k && !line.startsWith(' ')), ...roster.told()],
     facts: [],
-    findings: rivals.map((found) => (
-      { figures: shortfallOf(found), sentence: rivalsSentence(found), cure: '' }
-    )),
-    scene: null,
+    findings: rivals.map((found) => ({
+      figures: found.groups.length ? [] : shortfallOf(found),
+      sentence: rivalsSentence(found),
+      cure: '',
+    })),
     sheets: [],
     tables: () => [rivalsTable(roster, rivals)],
   };
@@ -498,7 +549,6 @@ export function textShown(network, plan) {
     lead: [],
     facts: [[supplies.length, 'nodes'], [arcs.length, 'arcs'], [carrying, 'carry something']],
     findings: [],
-    scene: null,
     sheets: [arcsSheet(network, plan), nodesSheet(network, plan)],
     tables: () => [],
   };
@@ -530,7 +580,6 @@ export function textBlocked(bottlenecks) {
     lead: [],
     facts: [],
     findings,
-    scene: null,
     tables: () => [],
     sheets: rows.length
       ? [

@@ -1,9 +1,12 @@
 // @ts-check
 // Sums of a plan: over its places, its routes or its pairs, by the values of a column.
 import { column, number, ownColumns, sheetOf } from './columns.js';
-import { FLOW_RESULTS, PLACE_RESULTS, THROUGH_RESULTS } from './heads.js';
+import {
+  FLOW_RESULTS, PLACE_PERIOD, PLACE_RESULTS, ROUTE_PERIODS, THROUGH_RESULTS,
+} from './heads.js';
 import { size } from './model.js';
 import { NEEDED } from './sentences.js';
+import { cellOrPeriod } from './periods.js';
 import { cellAt } from './tables.js';
 
 /**
@@ -80,14 +83,16 @@ function flowSums(plan, [table, place]) {
   const { problem } = plan, { places, routes, placeTable, routeTable } = problem;
   if (table === 'places') {
     const numbers = placeNumbers(plan);
-    const lines = places.map(({ cells }, k) => lineOfSums(cellAt(cells, place), numbers[k]));
+    const lines = places.map(({ cells, period }, k) =>
+      lineOfSums(cellOrPeriod(placeTable, place, cells, period), numbers[k])
+    );
     return { table, by: placeTable.titles[place], rows: added(lines) };
   }
   const end = ['from', 'to'].indexOf(routeTable.heads[place]);
   const lines = routes.map((route, k) => {
     const { carries, cost } = plan.routes[k];
     const value = end < 0
-      ? cellAt(route.cells, place)
+      ? cellOrPeriod(routeTable, place, route.cells, route.departs)
       : places[wayOf(route, plan.routes[k])[end]].name;
     return lineOfSums(value, [1n, size(carries), cost]);
   });
@@ -100,15 +105,17 @@ const textsOfSums = (numbers, units) => numbers.map((one, k) =>
   k === 0 ? String(one) : k < numbers.length - 1 ? units.amount(one) : units.total(one)
 );
 
-// This function returns the column of the places' names.
-/** @type {(plan: FlowPlan) => FlowColumn} */
-const nameColumn = ({ problem }) => ['places', problem.placeTable.heads.indexOf('name')];
+// This function returns the column of the places' names, and that of periods if there are periods.
+/** @type {(plan: FlowPlan) => FlowColumn[]} */
+const firstColumns = ({ problem: { placeTable, periods } }) =>
+  (periods.length ? ['name', 'period'] : ['name'])
+    .map((head) => ['places', placeTable.heads.indexOf(head)]);
 
-// This function returns the table of the sums of a plan: over the places by their names, then by
-// further columns.
+// This function returns the table of the sums of a plan: over the places by their names, and by
+// periods if there are periods, then by further columns.
 /** @type {(plan: FlowPlan, columns: FlowColumn[]) => SavedTable} */
 export function flowSumsTable(plan, columns) {
-  const all = new Map([nameColumn(plan), ...columns].map((one) => [one.join(), one]));
+  const all = new Map([...firstColumns(plan), ...columns].map((one) => [one.join(), one]));
   const found = [...all.values()].map((one) => flowSums(plan, one));
   const middle = found.some(({ table }) => table === 'routes')
     ? [...PLACE_SUMS, ...ROUTE_SUMS]
@@ -130,11 +137,11 @@ export function flowSumsTable(plan, columns) {
 function flowColumns(plan) {
   const { placeTable, routeTable } = plan.problem;
   const ends = ['from', 'to'].map((head) => routeTable.heads.indexOf(head));
-  const results = [FLOW_RESULTS, PLACE_RESULTS, THROUGH_RESULTS];
+  const results = [FLOW_RESULTS, PLACE_RESULTS, THROUGH_RESULTS, ROUTE_PERIODS, PLACE_PERIOD];
   const own = (/** @type {import('./tables.js').Table} */ table) =>
     ownColumns(table).filter((place) => table.kept(...results).includes(place));
   return [
-    nameColumn(plan),
+    ...firstColumns(plan),
     ...own(placeTable).map((place) => /** @type {FlowColumn} */ (['places', place])),
     ...[...ends, ...own(routeTable)].map((place) => /** @type {FlowColumn} */ (['routes', place])),
   ];

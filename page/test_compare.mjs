@@ -55,7 +55,7 @@ async function flows(expect, solver) {
 async function pairs(expect, solver) {
   const kept = [];
   for (const [label, options] of [['least', []], ['most', ['--maximise']]]) {
-    const { roster } = await pairsOf(solver, { name: 'costs', text: PAIRS }, asked(options));
+    const { roster } = await pairsOf(solver, [{ name: 'costs', text: PAIRS }], asked(options));
     kept.push({ label, side: pairsSide(roster) });
   }
   const wanted = 'figure,who,what,least,most\ncost,,,3,12\npairs,,,2,2\n'

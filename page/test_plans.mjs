@@ -7,6 +7,7 @@ import path from 'node:path';
 import { fileURLToPath } from 'node:url';
 import { BadTable } from './faults.js';
 import { accepts, judged } from './module.js';
+import { groupsTables } from './groups.js';
 import { pairsSummary, pairsTable, rivalsLines, rivalsTable } from './pairs.js';
 import { planned } from './planned.js';
 import {
@@ -17,6 +18,7 @@ import {
   flowsTable,
   pricesTable,
   slips,
+  stockTables,
 } from './report.js';
 import { flowOf, pairsOf } from './running.js';
 import { planShown } from './sheets.js';
@@ -44,6 +46,7 @@ export const TOOL = {
   ofAll: 'or say --penalty N for all that have none',
   each: 'With --each what each thing would get a person',
   both: 'with --each both',
+  leaves: '--crossing check leaves',
   limits: 'LIMITS in `man mcf`',
 };
 
@@ -65,10 +68,10 @@ export function solverOf(module) {
 function solverBy(program) {
   const scratch = fs.mkdtempSync(path.join(os.tmpdir(), 'mcf-page-'));
   process.on('exit', () => fs.rmSync(scratch, { recursive: true }));
-  const wordsOf = ({ decimal, unused, short, ranges, penalty, each, maximise }) => [
+  const wordsOf = ({ decimal, unused, short, ranges, penalty, each, maximise, crossing }) => [
     decimal && `--decimal=${decimal}`, unused && '--unused=allow', short && '--short=allow',
     ranges && '--ranges=yes', penalty && `--penalty=${penalty}`, each && `--each=${each}`,
-    maximise && '--maximise=yes',
+    maximise && '--maximise=yes', crossing && `--crossing=${crossing}`,
   ].filter(Boolean);
   return {
     plan: async (texts, options) => {
@@ -76,7 +79,8 @@ function solverBy(program) {
         fs.writeFileSync(path.join(scratch, String(k)), text);
         return path.join(scratch, String(k));
       });
-      const command = texts.length === 2 ? 'flow' : 'pairs';
+      const command = 'each' in options ? 'pairs' : 'flow';
+      if (command === 'pairs' && files.length > 1) files.splice(1, 0, '--groups');
       const { status, stdout } = spawnSync(program, [command, ...wordsOf(options), ...files]);
       return {
         status: ['flow', 'blocked', 'refused'][status] ?? 'failed',
@@ -99,9 +103,11 @@ export function asked(words) {
     policy: {},
     each: null,
     maximise: false,
+    crossing: null,
     by: [],
     caption: { title: '', source: '', unit: '', currency: '' },
   };
+  const groups = [];
   for (let k = 0; k < words.length; k++) {
     const word = words[k];
     if (word === '--maximise') found.maximise = true;
@@ -116,9 +122,12 @@ export function asked(words) {
     } else if (word === '--penalty') found.policy.penalty = words[++k];
     else if (word === '--unit' || word === '--currency') found.caption[word.slice(2)] = words[++k];
     else if (word === '--each') found.each = words[++k];
+    else if (word === '--crossing') found.crossing = words[++k];
+    else if (word === '--groups') groups.push(words[++k]);
     else if (word.startsWith('--')) found.reading[word.slice(2)] = words[++k];
     else found.files.push(word);
   }
+  found.files.push(...groups);
   return found;
 }
 
@@ -144,14 +153,17 @@ async function flow(solver, sources, choices) {
     status: plan ? 0 : 1,
     mark: problem.mark,
     tables: plan
-      ? [flowsTable(plan), pricesTable(plan), flowSumsTable(plan, columnsOf(problem, choices.by))]
+      ? [
+        flowsTable(plan), pricesTable(plan), ...stockTables(plan),
+        flowSumsTable(plan, columnsOf(problem, choices.by)),
+      ]
       : [bottleneckTable(blocked)],
   };
 }
 
 // This function returns the same for pairs.
-async function pairs(solver, source, choices) {
-  const { roster, result } = await pairsOf(solver, source, choices);
+async function pairs(solver, sources, choices) {
+  const { roster, result } = await pairsOf(solver, sources, choices);
   const rivals = result.status === 'flow' ? null : roster.rivals();
   return {
     said: [...(rivals ? rivalsLines(roster, rivals) : pairsSummary(roster)), ...roster.told()],
@@ -159,7 +171,10 @@ async function pairs(solver, source, choices) {
     mark: roster.mark,
     tables: rivals
       ? [rivalsTable(roster, rivals)]
-      : [pairsTable(roster), pairSumsTable(roster, placesOf(roster.table, choices.by))],
+      : [
+        pairsTable(roster), ...groupsTables(roster),
+        pairSumsTable(roster, placesOf(roster.table, choices.by)),
+      ],
   };
 }
 
@@ -169,7 +184,7 @@ export async function told(kind, solver, sources, choices) {
   try {
     const found = kind === 'flow'
       ? await flow(solver, sources, choices)
-      : await pairs(solver, sources[0], choices);
+      : await pairs(solver, sources, choices);
     return { ...found, said: `${found.said.join('\n')}\n` };
   } catch (error) {
     if (!(error instanceof BadTable)) throw error;

@@ -20,11 +20,11 @@ const list = path.join(
 async function shownOf(rule, solver, sources) {
   const choices = asked(rule.options ?? []), { caption } = choices;
   const run = 'costs' in rule
-    ? runPairs(solver, sources[0], choices)
+    ? runPairs(solver, sources, choices)
     : runFlow(solver, sources, choices);
   return run.then(
-    ({ headline, lead, facts, findings, mark, scene }) => {
-      const { heading, notes } = scene ? scene(caption) : { heading: '', notes: {} };
+    ({ headline, lead, facts, findings, mark, scenes = () => [] }) => {
+      const [{ heading, notes } = { heading: '', notes: {} }] = scenes(caption);
       const units = (isAmount) => (isAmount ? caption.unit : '');
       const boxes = facts.map(([value, what, isAmount]) =>
         `${grouped(String(value), mark, units(isAmount))} ${what}`
@@ -40,7 +40,7 @@ async function shownOf(rule, solver, sources) {
 export default async function test(expect) {
   const solver = solverHere();
   for (const rule of JSON.parse(fs.readFileSync(list, 'utf8'))) {
-    const sources = ['places', 'routes', 'costs']
+    const sources = ['places', 'routes', 'costs', 'groups']
       .filter((name) => name in rule)
       .map((name) => ({
         name: `${name}.csv`,

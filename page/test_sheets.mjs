@@ -155,11 +155,11 @@ async function penalties(expect) {
   expect(lines[0].endsWith(': cost 5,375.') && lines[2] === missing, lines.join('; '));
   const row = (one) => csvOf(flowsTable(one), ',').split('\n')[2];
   expect(row(plan) === '(missing);B;;;1,5;0,375;;;;', row(plan));
-  const { headline, facts, lead, scene } = planShown(plan);
   const caption = { title: '', source: '', unit: 'hl', currency: 'EUR' };
+  const { headline, facts, lead, scenes } = planShown(plan), [scene] = scenes(caption);
   expect(headline(caption) === 'Least cost: 5,375 EUR', headline(caption));
-  expect(scene(caption).heading === 'A least-cost plan: cost 5,375 EUR', 'the picture');
-  expect(scene(caption).notes.flowing.endsWith('(widest 2,5 hl)'), 'the legend');
+  expect(scene.heading === 'A least-cost plan: cost 5,375 EUR', 'the picture');
+  expect(scene.notes.flowing.endsWith('(widest 2,5 hl)'), 'the legend');
   expect(lead.includes(missing), lead.join('; '));
   expect(String(facts[4]) === '1.5,are missing,true', String(facts));
   expect(flowSummary(free)[2] === '1,5 are missing at: B 1,5.', flowSummary(free)[2]);

@@ -42,6 +42,7 @@ interface Choices {
   policy: Policy;
   each: 'who' | 'what' | null;
   maximise: boolean;
+  crossing: 'check' | null;
   engine: string;
 }
 
@@ -53,6 +54,7 @@ interface Example {
   heads: string;
   unused: boolean;
   short: boolean;
+  crossing: boolean;
 }
 
 /** A line of a table, with its number. */
@@ -87,18 +89,25 @@ interface Bounds<A = bigint> extends Step<A> {
 
 /**
  * A place. `spot` is null where the table has no x and y, `bounds` where nothing bounds it, and
- * `penalty` where that of all places holds.
+ * `penalty` where that of all places holds. `period` is '' where there are none.
  */
 interface Place<A = bigint> extends Row {
   name: string;
+  period: string;
   supply: A;
   spot: Spot | null;
   bounds: Bounds<A> | null;
   penalty: A | null;
 }
 
-/** A route as it is read, with its ends by the numbers of places from 1. It has a step or more. */
+/**
+ * A route as it is read, with its ends by the numbers of places from 1. It has a step or more. Its
+ * periods are '' where there are none; `isBack` says that it goes back on the route of its line.
+ */
 interface ReadRoute<A = Exact> extends Row {
+  departs: string;
+  arrives: string;
+  isBack: boolean;
   tail: number;
   head: number;
   least: A;
@@ -125,12 +134,16 @@ interface Rival {
   number: bigint;
 }
 
-/** Those that compete: who must, who can, and pairs, which count one each. */
+/**
+ * Those that compete: who must, who can, pairs, which count one each, and groups with those that have
+ * their members.
+ */
 interface Rivals {
   side: SendOrTake;
   musts: Rival[];
   cans: Rival[];
   pairs: ChosenPair[];
+  groups: string[][];
   must: bigint;
   can: bigint;
 }
@@ -167,6 +180,7 @@ interface Speech {
   ofAll: string;
   each: string;
   both: string;
+  leaves: string;
   limits: string;
 }
 
@@ -179,9 +193,9 @@ interface Arc extends Ends {
   cost?: bigint;
 }
 
-/** What joins places: a route or a place by its number from 0; -1 is a route's other way. */
+/** What joins places: a route, a store or a place by its number; -1 is a route's other way. */
 interface Joint extends Arc {
-  kind: 'route' | 'through' | 'stays' | 'missing';
+  kind: 'route' | 'keep' | 'through' | 'stays' | 'missing';
   number: number;
   sign: number;
 }
@@ -264,10 +278,7 @@ interface Verdict {
 }
 
 /** What is asked of the module for tables. */
-interface TableOptions extends PlanOptions {
-  each?: string | null;
-  maximise?: boolean;
-}
+interface TableOptions extends PlanOptions, PairOptions {}
 
 /** What solves: the page's client of its worker, or the module itself in tests. */
 interface Solver {
@@ -299,8 +310,9 @@ interface Exports {
 /** How a table of persons and things is read, and which choice is the best. */
 interface PairOptions {
   decimal?: string;
-  each?: string;
+  each?: string | null;
   maximise?: boolean;
+  crossing?: string | null;
 }
 
 /** How tables are read, and what plans may leave. */
@@ -423,7 +435,7 @@ interface SidePart {
   amount: string;
 }
 
-/** What is shown of an answer. `scene` is null where nothing is drawn, `plan` only with routes. */
+/** What is shown of an answer. `scenes` are what is drawn, `plan` is only there with routes. */
 interface Shown {
   isPlan: boolean;
   headline(caption: Caption): string;
@@ -431,7 +443,7 @@ interface Shown {
   lead: string[];
   facts: [value: string | number, what: string, isAmount?: boolean][];
   findings: Finding[];
-  scene: ((caption: Caption) => Scene) | null;
+  scenes?: (caption: Caption) => Scene[];
   sheets: Sheet[];
   side?(): Side;
   tables(): SavedTable[];

@@ -59,7 +59,7 @@ class Answer:
 
 
 def answer_to(program, words, texts):
-    """The answer of `mcfplan` to texts of tables."""
+    """The answer of `mcfplan` to texts of tables by their words."""
     with tempfile.TemporaryDirectory() as scratch:
         status, data = answer_bytes(program, words, texts, pathlib.Path(scratch))
     try:

@@ -16,13 +16,17 @@ TEXT = (str, type(None))
 READING = {"decimal": TEXT, "encoding": TEXT, "map": dict, "fill_down": list}
 OPTIONS = {
     "flow": {**READING, "unused": bool, "short": bool, "penalty": TEXT, "ranges": bool},
-    "pairs": {**READING, "each": TEXT, "maximise": bool},
+    "pairs": {**READING, "each": TEXT, "crossing": TEXT, "maximise": bool},
 }
 # Options without a word.
 FLAGS = ("ranges", "maximise")
 # The values of options that have few, and the most files of each command.
-CHOICES = {"decimal": (None, ",", "."), "each": (None, "who", "what", "both")}
-FILES = {"flow": 2, "pairs": 1}
+CHOICES = {
+    "decimal": (None, ",", "."),
+    "each": (None, "who", "what", "both"),
+    "crossing": (None, "check", "refuse"),
+}
+FILES = {"flow": 2, "pairs": 2}
 # The command, the files of its tables, its options, and the SHA-256 of answer.csv.
 Asked = collections.namedtuple("Asked", "command tables options answer_sha256")
 File = collections.namedtuple("File", "name sha256")

@@ -9,7 +9,7 @@ from .problem import MISSING, STAYS
 Bottleneck = collections.namedtuple("Bottleneck", "side places must can forcing limiting")
 # A route, or the flow through a place, out of a bottleneck or into it: its row in the table, from
 # 1, the nodes of its ends, their names, and the least and the most that it carries there, as far as
-# they count. `kind` is route, back, through or hub.
+# they count. `kind` is route, back, keep, through or hub.
 Crossing = collections.namedtuple("Crossing", "kind line tail head names least most")
 OTHER_SIDE = {"send": "take", "take": "send"}
 
@@ -43,7 +43,7 @@ class Nodes:
             number + count if place.bounds else number
             for number, place in enumerate(problem.places, 1)
         ]
-        ends = [(route.tail, route.head) for route in problem.routes]
+        ends = [(route.tail, route.head) for route in problem.routes + problem.stores]
         ends += [(route.head, route.tail) for route in problem.routes if route.both]
         self.arcs = [(self.exits[tail - 1], head) for tail, head in ends]
         self.arcs += enumerate(self.exits, 1)
@@ -52,8 +52,8 @@ class Nodes:
     def of_rows(self, rows):
         """The nodes of the places of a bottleneck."""
         found = set()
-        for line, name, entry, leaving, *_ in rows:
-            number = self.problem.numbers[name]
+        for _, name, entry, leaving, _, _, _, _, *period in rows:
+            number = self.problem.numbers[name, "".join(period)]
             found |= {number} if entry == "yes" else set()
             found |= {self.exits[number - 1]} if leaving == "yes" else set()
         return found
@@ -71,17 +71,29 @@ class Nodes:
 
     def crossings(self, rows):
         """The routes and the places that lead out of a bottleneck or into it."""
-        numbers, found = self.problem.numbers, []
+        found = []
         for kind in ("route", "back"):
-            for line, tail, head, least, most in rows[kind]:
-                ends = self.exits[numbers[tail] - 1], numbers[head]
-                amounts = number_in(least), number_in(most)
-                found.append(Crossing(kind, int(line), *ends, (tail, head), *amounts))
-        for line, name, _, _, _, _, least, most in rows["place"]:
-            ends = numbers[name], self.exits[numbers[name] - 1]
+            for line, tail, head, least, most, *periods in rows[kind]:
+                departs, arrives = periods or ("", "")
+                found.append(self.link(kind, line, (tail, departs), (head, arrives), least, most))
+        for line, name, least, most, period, after in rows["keep"]:
+            found.append(self.link("keep", line, (name, period), (name, after), least, most))
+        for line, name, _, _, _, _, least, most, *period in rows["place"]:
+            number = self.problem.numbers[name, "".join(period)]
+            ends, names = (number, self.exits[number - 1]), (self.label(number),)
             amounts = number_in(least), number_in(most)
-            found.append(Crossing("through", int(line), *ends, (name,), *amounts))
+            found.append(Crossing("through", int(line), *ends, names, *amounts))
         return found
+
+    def label(self, number):
+        """The label of a place by its number."""
+        return self.problem.places[number - 1].label
+
+    def link(self, kind, line, tail, head, least, most):
+        """A route, or what a place keeps, from a place to another; places have their periods."""
+        numbers = [self.problem.numbers[end] for end in (tail, head)]
+        ends, names = (self.exits[numbers[0] - 1], numbers[1]), tuple(map(self.label, numbers))
+        return Crossing(kind, int(line), *ends, names, number_in(least), number_in(most))
 
     def bottleneck(self, side, part, crossings, hub=False):
         """A part of a bottleneck as one, with what may stay, or be missing, if there is a hub."""
@@ -107,7 +119,7 @@ class Nodes:
     def hub_arc(self, side, node):
         """What may stay, or be missing, at a node."""
         place = self.problem.places[self.place(node) - 1]
-        names = (place.name, STAYS) if side == "send" else (MISSING, place.name)
+        names = (place.label, STAYS) if side == "send" else (MISSING, place.label)
         return Crossing("hub", place.line, node, node, names, None, abs(place.supply))
 
 

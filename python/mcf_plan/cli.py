@@ -31,6 +31,13 @@ HEADS = (
     "what",
     "takes",
     "needs",
+    "group",
+    "period",
+    "keep most",
+    "keep cost",
+    "first stock",
+    "last stock",
+    "lead",
 )
 # The head of a step after the first.
 STEP = re.compile("^(most|cost) (?:[2-9]|[1-9][0-9]+)$")
@@ -125,6 +132,22 @@ def add_pairs(command):
         help=(
             "who must get exactly one: each person (the default, unless the tables have takes or"
             " needs), each thing, or both"
+        ),
+    )
+    command.add_argument(
+        "--groups",
+        metavar="FILE",
+        help=(
+            "a table of groups, with the columns group, who or what, and optionally least and most:"
+            " how many things of a group each person gets, or persons of a group each thing"
+        ),
+    )
+    command.add_argument(
+        "--crossing",
+        choices=("check", "refuse"),
+        help=(
+            "groups that share some members with an earlier one, and not all: leave them out and"
+            " say who breaks them; or refuse them (the default)"
         ),
     )
     command.add_argument(

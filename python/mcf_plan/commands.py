@@ -1,22 +1,23 @@
 """The commands `flow` and `pairs`. They read tables and write a folder of results."""
 import re
 
-from . import asked, flowpage, life, notes, pairs, pairspage, picture, report, scene, sums
+from . import asked, flowpage, groups, life, notes, pairs, pairspage, picture, report, scene, sums
 from .answer import answer_to
 from .bottlenecks import Blocked
 from .caption import caption_of
 from .faults import Faults, Stop
 from .folder import results_in
 from .page import Writer
-from .problem import Plan, Problem
+from .periods import problem_of
+from .problem import Plan
 from .programs import program
 from .results import Results
 from .roster import Roster
 from .tables import tables_of
 from .told import NEEDED, Teller
 
-# The tables of each command.
-TABLES = {"flow": ("places", "routes"), "pairs": ("costs",)}
+# The tables of each command; those of groups may be left out.
+TABLES = {"flow": ("places", "routes"), "pairs": ("costs", "groups")}
 
 
 class Asking:
@@ -25,6 +26,8 @@ class Asking:
     def __init__(self, options, reading):
         self.command, self.options, self.reading = options.command, options, reading
         self.words, self.faults = TABLES[self.command], Faults()
+        if self.command == "pairs":
+            self.words = self.words[: len(options.tables)]
         with life.doing("reads the tables"):
             wanted = [NEEDED[word] for word in self.words]
             self.tables = tables_of(options.tables, wanted, reading, self.faults)
@@ -38,7 +41,7 @@ class Asking:
     def untold(self, *more):
         """The answer to the tables with further options, whose faults aren't told."""
         more = ["--decimal", self.decimal, *more] if self.decimal else more
-        texts = [table.text for table in self.tables]
+        texts = {word: table.text for word, table in zip(self.words, self.tables)}
         found = answer_to(self.program, [self.command, *more], texts)
         for word, table in zip(self.words, self.tables):
             if word in found.sheets:
@@ -57,6 +60,7 @@ class Asking:
         options = self.options
         if self.command == "pairs":
             words = ["--each", options.each] if options.each else []
+            words += ["--crossing", options.crossing] if options.crossing else []
             return self.answer(*words, *(["--maximise", "yes"] if options.maximise else []))
         if options.penalty is not None:
             self.settle()
@@ -101,7 +105,7 @@ def flow_command(options, reading):
 
     with results_in(options.folder) as folder:
         found = asking.write(folder)
-        problem = Problem(found, asking.tables, options)
+        problem = problem_of(found, asking.tables, options)
         life.warn(report.slips(problem))
         columns = sums.columns_named(options.by, sums.tables_of(problem))
         results = Results(folder, options, problem.mark, asking.tables)
@@ -118,10 +122,11 @@ def plan_results(plan, results, options, columns):
     caption = caption_of(options, problem.place_table, problem.route_table)
     report.write_flows(results, plan)
     report.write_prices(results, plan)
+    report.write_stock(results, plan)
     found = sums.flow_sums(plan, columns)
     results.table("sums", problem.place_table, problem.place_sheet, *sums.flow_table(found))
     results.finish()
-    drawn = drawn_in(folder, scene.plan_scene(plan, caption), options)
+    drawn = drawn_in(folder, scene.plan_scenes(plan, caption), options)
     page = flowpage.plan_page(plan, options, drawn, found)
     write_page(folder, page, problem.mark, caption)
     return report.flow_summary(plan)
@@ -133,18 +138,20 @@ def blocked_results(blocked, results, options):
     caption = caption_of(options, problem.place_table, problem.route_table)
     report.write_bottlenecks(results, problem, blocked.all())
     results.finish()
-    drawn = drawn_in(folder, scene.blocked_scene(blocked, caption), options)
+    drawn = drawn_in(folder, [scene.blocked_scene(blocked, caption)], options)
     write_page(folder, flowpage.blocked_page(blocked, options, drawn), problem.mark, caption)
     return report.blocked_summary(blocked)
 
 
-def drawn_in(folder, shown, options):
-    """Draws and writes the picture, unless the options say not to."""
-    if options.no_picture:
-        return None
-    with life.doing("draws the picture"):
-        drawn = picture.svg_of(shown)
-    (folder / "plan.svg").write_text(drawn, encoding="utf-8")
+def drawn_in(folder, scenes, options):
+    """Draws and writes the pictures, unless the options say not to: plan.svg, or plan-1.svg and so
+    on if there are several."""
+    drawn = []
+    for number, shown in enumerate([] if options.no_picture else scenes, 1):
+        with life.doing("draws the picture"):
+            drawn.append(picture.svg_of(shown))
+        name = f"plan-{number}.svg" if len(scenes) > 1 else "plan.svg"
+        (folder / name).write_text(drawn[-1], encoding="utf-8")
     return drawn
 
 
@@ -157,14 +164,18 @@ def write_page(folder, page, mark, caption):
 
 def pairs_command(options, reading):
     """Runs `pairs`: returns the lines of the summary and the status."""
+    if options.crossing and not options.groups:
+        raise Stop(f"--crossing {options.crossing}: it comes with --groups FILE", 2)
+    options.tables = [*options.tables, *filter(None, [options.groups])]
     asking = Asking(options, reading)
     with results_in(options.folder) as folder:
         found = asking.write(folder)
-        roster = Roster(found, asking.tables[0], options)
+        roster = Roster(found, asking.tables, options)
         columns = sums.pair_columns(options.by, roster)
         results = Results(folder, options, roster.mark, asking.tables)
         if found.kind == "plan":
             pairs.write_pairs(results, roster)
+            groups.write_groups(results, roster)
             found_sums = sums.pair_sums(roster, columns)
             heads, rows = sums.pair_table(found_sums)
             results.table("sums", roster.table, roster.sheet, heads, rows)
@@ -173,5 +184,5 @@ def pairs_command(options, reading):
             pairs.write_bottlenecks(results, roster)
             lines, page = pairs.blocked_lines(roster), pairspage.blocked_page(roster, options)
         results.finish()
-        write_page(folder, page, roster.mark, caption_of(options, roster.table))
+        write_page(folder, page, roster.mark, caption_of(options, *asking.tables))
     return lines + pairs.notes_of(roster), 0 if found.kind == "plan" else 1

@@ -72,6 +72,8 @@ class Comparison:
         rows = [(name_text(key), values) for key, values in found[:TOLD]]
         told = f"{len(found)} of {len(self.parts)} {word} differ"
         lines = self.table([("", self.labels)], self.figures) + self.notes()
+        if sum(plan.cost is not None for plan in self.plans) < 2:
+            return lines
         if not found:
             return lines + [told + "."]
         lines += [told + (", most of all:" if len(found) > TOLD else ":")]

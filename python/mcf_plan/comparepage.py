@@ -47,7 +47,7 @@ def page_of(comparison):
     ]
     title = f"{plans} plans side by side"
     sheets = [figures_sheet(comparison), parts_sheet(comparison, found)]
-    return Page(title, title, True, comparison.notes(), facts, [], None, sheets)
+    return Page(title, title, True, comparison.notes(), facts, [], [], sheets)
 
 
 def figures_sheet(comparison):

@@ -11,8 +11,8 @@ class Competition:
     numbers, and the pairs beside them, each of which counts one more. Several pairs of one name
     count as its number."""
 
-    def __init__(self, side, must, can, pairs):
-        self.side, self.can, self.pairs = side, list(can), []
+    def __init__(self, side, must, can, pairs, groups=()):
+        self.side, self.can, self.pairs, self.groups = side, list(can), [], list(groups)
         self.must = [(name, number) for name, number in must if number]
         others = collections.defaultdict(list)
         for pair in pairs:
@@ -29,6 +29,8 @@ class Competition:
         """The sentence that these persons compete for too few things, or that these things can get
         too few persons."""
         names, others = (listed([name for name, _ in side]) for side in (self.must, self.can))
+        if self.groups:
+            return self.with_groups(names, others)
         is_send, count = self.side == "send", len(self.must)
         if not self.can and not self.pairs:
             return f"{names} can get nothing." if is_send else f"Nobody may do {names}."
@@ -47,6 +49,13 @@ class Competition:
             f" {self.needs - self.gets}."
         )
 
+    def with_groups(self, names, others):
+        """The sentence that these persons, things and groups allow no choice together."""
+        sides = (names, others)[:: 1 if self.side == "send" else -1]
+        kinds = [f"{word} {found}" for word, found in zip(("persons", "things"), sides) if found]
+        within = listed([f"{group} of {name}" for group, name in self.groups])
+        return f"No choice keeps to these together: {'; '.join([*kinds, f'groups {within}'])}."
+
 
 def competitions_of(roster):
     """The competitions of an answer: of those that it names, or of all others, whichever are fewer.
@@ -59,6 +68,11 @@ def competitions_of(roster):
         {name: int(number) for _, name, number in roster.answer.rows[word]}
         for word in ("person", "thing")
     )
+    groups = [(name, owner) for _, name, _, owner in roster.answer.rows["group"]]
+    if groups:
+        sides = persons.items(), things.items()
+        must, can = sides[:: 1 if side == "send" else -1]
+        return [Competition(side, must, can, [(one.who, one.what) for one in roster.pairs], groups)]
     choices = {side: (persons, things)}
     if roster.is_plain and len(roster.persons) == len(roster.things):
         choices[OTHER_SIDE[side]] = [

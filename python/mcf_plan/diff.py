@@ -9,7 +9,8 @@ from .bottlenecks import bottlenecks_of
 from .competitions import competitions_of
 from .faults import bad_table
 from .figures import said
-from .problem import NO_OPTIONS, Plan, Problem
+from .periods import problem_of
+from .problem import NO_OPTIONS, Plan
 from .report import balance_sentence, bottleneck_sentence
 from .roster import Roster
 from .words import TOLD_NAMES, listed
@@ -66,7 +67,7 @@ class Folder:
 
     def read_flow(self, answer):
         """Reads a plan of routes, or why there is none."""
-        problem = Problem(answer, (None, None), NO_OPTIONS)
+        problem = problem_of(answer, (None, None), NO_OPTIONS)
         if answer.kind != "plan":
             self.why_not = why_not(problem)
             return
@@ -77,11 +78,11 @@ class Folder:
             for route, result in zip(problem.routes, plan.routes)
         ]
         self.stays, self.missing = (
-            {place.name: amount for place, amount in plan.unmet(is_supply)}
+            {place.label: amount for place, amount in plan.unmet(is_supply)}
             for is_supply in (True, False)
         )
         passing = [place.through for place in plan.places if place.through]
-        costs = [result.cost for result in plan.routes + passing]
+        costs = [result.cost for result in plan.routes + plan.stores + passing]
         self.penalties = 0 if None in costs else plan.cost - sum(costs)
         carrying = sum(1 for result in plan.routes if result.carries)
         full = sum(map(plan.is_full, range(len(plan.routes))))
@@ -91,14 +92,14 @@ class Folder:
             "full routes": full,
         }
         self.delivered = {
-            place.name: -place.supply - self.missing.get(place.name, 0)
+            place.label: -place.supply - self.missing.get(place.label, 0)
             for place in problem.places
             if place.supply < 0
         }
 
     def read_pairs(self, answer):
         """Reads chosen pairs, or why there are none."""
-        roster = Roster(answer, None, NO_OPTIONS)
+        roster = Roster(answer, (None,), NO_OPTIONS)
         if answer.kind != "plan":
             found = competitions_of(roster)[:TOLD_NAMES]
             self.why_not = [one.sentence() for one in found]

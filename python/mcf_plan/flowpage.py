@@ -23,6 +23,8 @@ ROUTE_COLUMNS = [
     ("exact", "whether it saves just that"),
     ("one more carried costs", "at least, if it has to carry one more; empty: full"),
 ]
+DEPARTURE_COLUMNS = [("departs in", ""), ("arrives in", "")]
+PERIOD_COLUMNS = [("period", "")]
 RANGE_COLUMNS = [
     ("cost may fall to", "while this plan stays least; empty: no limit"),
     ("cost may rise to", "while this plan stays least; empty: no limit"),
@@ -43,7 +45,7 @@ THROUGH_COLUMNS = [
     ("one more passing costs", "at least, if one more has to pass; empty: full"),
 ]
 # The heads of columns that the page always shows.
-USED = ("from", "to", "least", "most", "cost", "name", "supply", "penalty", "x", "y")
+USED = ("from", "to", "least", "most", "cost", "name", "supply", "penalty", "x", "y", "period")
 
 
 def own_columns(sheet):
@@ -51,14 +53,13 @@ def own_columns(sheet):
     return [place for place in kept(sheet) if sheet.heads[place] not in USED]
 
 
-def plan_page(plan, options, picture, sums):
+def plan_page(plan, options, pictures, sums):
     """The page of a plan and its sums."""
     problem = plan.problem
     carrying = sum(1 for result in plan.routes if result.carries)
     full = sum(1 for number in range(len(plan.routes)) if plan.is_full(number))
-    facts = [
-        (Figure(len(problem.places)), "places"),
-        (Figure(len(problem.routes)), "routes"),
+    facts = [(Figure(count), many) for count, _, many in report.counts(problem)]
+    facts += [
         (Figure(carrying), "carry something"),
         (Figure(full), "are full"),
     ]
@@ -76,9 +77,9 @@ def plan_page(plan, options, picture, sums):
         lead,
         facts,
         [],
-        picture,
+        pictures,
         savings(plan)
-        + [routes_sheet(plan), places_sheet(plan)]
+        + [routes_sheet(plan), places_sheet(plan), *stock_sheets(plan)]
         + [sumspage.flow_sheet(plan, one) for one in sums],
     )
 
@@ -113,10 +114,11 @@ def routes_sheet(plan):
         rows.append((kind, route_cells(plan, number) + cells))
     rows, note = listed_rows(rows)
     columns = ROUTE_COLUMNS + RANGE_COLUMNS * plan.has_ranges
+    columns = DEPARTURE_COLUMNS * bool(problem.periods) + columns
     columns += [(table.title(sheet.titles[place]), "") for place in own]
     total = figure(sum(result.cost or 0 for result in plan.routes))
     totals = [""] * len(columns)
-    totals[ROUTE_COLUMNS.index(TOTAL_COLUMN)] = total
+    totals[columns.index(TOTAL_COLUMN)] = total
     return Sheet("Routes", columns, rows, totals, note)
 
 
@@ -125,8 +127,10 @@ def route_cells(plan, number):
     problem, route, result = plan.problem, plan.problem.routes[number], plan.routes[number]
     exact = "exactly" if result.is_exact else "at most"
     costs = [step.cost for step in route.steps]
+    names = [problem.places[number - 1].name for number in (route.tail, route.head)]
     return [
-        *problem.ends(route),
+        *[route.departs, route.arrives] * bool(problem.periods),
+        *names,
         figure(route.least),
         figure(route.most),
         figure(costs[0]) if len(costs) == 1 else " / ".join(map(problem.said, costs)),
@@ -149,7 +153,8 @@ def places_sheet(plan):
     has_penalties = any(place.penalty is not None for place in problem.places)
     for place, result in zip(problem.places, plan.places):
         unmet = result.stays + result.missing
-        cells = [place.name, figure(place.supply), figure(result.costs), result.group]
+        cells = [place.period] * bool(problem.periods)
+        cells += [place.name, figure(place.supply), figure(result.costs), result.group]
         cells += [figure(unmet) if unmet else ""] * has_unmet
         cells += [figure(place.penalty)] * has_penalties
         cells += through_cells(place, result.through) if has_bounds else []
@@ -157,13 +162,30 @@ def places_sheet(plan):
         rows.append(("", cells))
     rows, note = listed_rows(rows)
     columns = (
-        PLACE_COLUMNS
+        PERIOD_COLUMNS * bool(problem.periods)
+        + PLACE_COLUMNS
         + UNMET_COLUMNS * has_unmet
         + PENALTY_COLUMNS * has_penalties
         + THROUGH_COLUMNS * has_bounds
         + [(table.title(sheet.titles[place]), "") for place in own]
     )
     return Sheet("Places", columns, rows, (), note)
+
+
+def stock_sheets(plan):
+    """The table of what places keep, if there are periods: a row for each place, and a column for
+    each period."""
+    problem, rows = plan.problem, {}
+    if not plan.stores:
+        return []
+    for one, result in zip(problem.stores, plan.stores):
+        rows.setdefault(problem.places[one.tail - 1].name, {})[one.departs] = result.carries
+    columns = [("name", "")] + [(period, "kept after it") for period in problem.periods[:-1]]
+    cells = [
+        [name, *(figure(kept.get(head)) for head, _ in columns[1:])] for name, kept in rows.items()
+    ]
+    found, note = listed_rows([("", row) for row in cells])
+    return [Sheet("Stock", columns, found, (), note)]
 
 
 def through_cells(place, through):
@@ -179,7 +201,7 @@ def through_cells(place, through):
     ]
 
 
-def blocked_page(blocked, options, picture):
+def blocked_page(blocked, options, pictures):
     """The page for a problem without a plan."""
     problem = blocked.problem
     findings = [balance_finding(problem)] if blocked.is_unbalanced else []
@@ -196,7 +218,7 @@ def blocked_page(blocked, options, picture):
         lead + notes_of(problem),
         [],
         findings,
-        picture,
+        pictures,
         limiting_sheet(blocked),
     )
 

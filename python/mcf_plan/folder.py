@@ -6,6 +6,7 @@ import shutil
 import signal
 
 from .faults import Stop, trouble
+from .scene import DRAWN
 
 # The files of a plan, also of earlier versions. A run doesn't touch a folder that has any other
 # file.
@@ -14,11 +15,14 @@ RESULTS = (
     "asked.json",
     "flows.csv",
     "prices.csv",
+    "stock.csv",
     "pairs.csv",
+    "groups.csv",
     "sums.csv",
     "bottleneck.csv",
     "plan.xlsx",
     "plan.svg",
+    *(f"plan-{number}.svg" for number in range(1, DRAWN + 1)),
     "plan.json",
     "report.html",
     "instance.min",
@@ -43,11 +47,11 @@ def results_in(name, files=RESULTS):
     check_target(name, target, files)
     part = target.with_name(f".{target.name}.part-{os.getpid()}")
     try:
-        target.parent.mkdir(parents=True, exist_ok=True)
-        part.mkdir()
-    except OSError as error:
-        raise trouble(f"the folder {name} can't be made: {error.strerror}")
-    try:
+        try:
+            target.parent.mkdir(parents=True, exist_ok=True)
+            part.mkdir()
+        except OSError as error:
+            raise trouble(f"the folder {name} can't be made: {error.strerror}")
         yield part
         swap(part, target)
     finally:

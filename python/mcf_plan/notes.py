@@ -1,5 +1,7 @@
 """Notes on how the tables were read: the columns that are carried along, and numbers that may be
 read in two ways."""
+import re
+
 from .answer import cell_at
 from .faults import shown
 from .figures import EITHER, figure, mark_in, value_of
@@ -14,9 +16,37 @@ KNOWN = {
     "places": ("name", "supply", "least", "most", "cost", "penalty"),
     "routes": ("from", "to", "least", "most", "cost", "both"),
     "costs": ("who", "what", "cost", "takes", "needs"),
+    "groups": ("group", "who", "what", "least", "most"),
 }
+# The heads that are read if the table of places has a column of periods.
+PERIODS = {
+    "places": ("period", "keep most", "keep cost", "first stock", "last stock"),
+    "routes": ("period", "lead"),
+}
+# What no minimum-cost flow says: heads that planners give it, its words, and what does say it.
+INTEGERS = "a mixed-integer solver such as HiGHS"
+CONSTRAINTS = "a constraint solver such as OR-Tools CP-SAT"
+NO_FLOW = (
+    ("rest, rest time, rest hours, ruhezeit", "rest times between shifts", CONSTRAINTS),
+    ("window, time window, earliest, latest, zeitfenster", "time windows", CONSTRAINTS),
+    ("not with, excludes, incompatible, nicht mit", "what excludes each other", CONSTRAINTS),
+    ("lot, lot size, batch, batch size, los, losgröße", "lots of one size", INTEGERS),
+    (
+        "fixed cost, setup, setup cost, opening cost, fixkosten, rüstkosten",
+        "a cost of using something at all",
+        INTEGERS,
+    ),
+    (
+        "least if used, min if used, minimum order, mindestmenge",
+        "nothing or at least an amount",
+        INTEGERS,
+    ),
+    ("discount, rebate, rabatt, staffelpreis", "costs that fall with the amount", INTEGERS),
+    ("tour, tours, sequence, reihenfolge", "tours", "a vehicle-routing solver such as VROOM"),
+)
 # The heads of what isn't read as a number.
-WORDS = {"name", "from", "to", "both", "who", "what", "takes", "needs", *SPOT_HEADS}
+WORDS = {"name", "from", "to", "both", "who", "what", "takes", "needs", "group", *SPOT_HEADS}
+WORDS |= {"period", "lead"}
 
 
 def known_heads(word, sheet):
@@ -25,6 +55,7 @@ def known_heads(word, sheet):
     while word == "routes" and f"most {step}" in sheet.heads:
         found += [f"most {step}", f"cost {step}"]
         step += 1
+    found += PERIODS.get(word, ())
     return found + (list(SPOT_HEADS) if word == "places" and sheet.has(SPOT_HEADS) else [])
 
 
@@ -40,10 +71,23 @@ def carried(word, table, sheet):
 
 
 def carried_lines(words, tables, sheets):
-    """A line on the columns that are carried along, if there are any."""
+    """A line on the columns that are carried along, if there are any, and one on each that says
+    what no minimum-cost flow does."""
     columns = [name for one in zip(words, tables, sheets) for name in carried(*one)]
-    names = listed(list(dict.fromkeys(columns)), NAMED)
-    return [f"Columns carried along, not used: {names}."] if names else []
+    columns = list(dict.fromkeys(columns))
+    names = listed(columns, NAMED)
+    lines = [f"Columns carried along, not used: {names}."] if names else []
+    return lines + [line for name in columns for line in beyond_lines(name)]
+
+
+def beyond_lines(name):
+    """A line on a column, if its name is that of what no minimum-cost flow says."""
+    head = re.sub("[-_ ]+", " ", name).strip().casefold()
+    return [
+        f"Column {name}: no minimum-cost flow says {what}; {other} does."
+        for heads, what, other in NO_FLOW
+        if head in heads.split(", ")
+    ]
 
 
 def reading_lines(cells, problem, decimal):

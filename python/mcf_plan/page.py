@@ -10,8 +10,8 @@ from .figures import Figure, grouped
 from .words import line_of
 
 # A page: its title, its headline, whether a plan exists, the text below the headline, facts as
-# pairs of a value and its words, findings as paragraphs, the picture or None, and sheets.
-Page = collections.namedtuple("Page", "title headline is_plan lead facts findings picture sheets")
+# pairs of a value and its words, findings as paragraphs, pictures, and sheets.
+Page = collections.namedtuple("Page", "title headline is_plan lead facts findings pictures sheets")
 # A table of the page. Columns are pairs of a head and its meaning; rows are pairs of a class and
 # cells; totals are below the rows.
 Sheet = collections.namedtuple("Sheet", "title columns rows totals note", defaults=((), ""))
@@ -59,7 +59,7 @@ class Writer:
             + [self.seal()]
             + self.facts(page)
             + page.findings
-            + self.picture(page)
+            + self.pictures(page)
         )
         parts += [self.section(sheet) for sheet in page.sheets] + [self.proof()]
         head = [
@@ -80,8 +80,8 @@ class Writer:
         return [f'<ul class="facts">{boxes}</ul>'] if boxes else []
 
     @staticmethod
-    def picture(page):
-        """The picture with its buttons."""
+    def pictures(page):
+        """The pictures with their buttons."""
         zooms = "".join(
             f'<button type="button" data-zoom="{factor}" title="{words}">{sign}</button>'
             for factor, sign, words in (
@@ -90,14 +90,13 @@ class Writer:
                 ("0", "\u21ba", "all of it"),
             )
         )
-        return (
-            [
-                f'<h2>Picture</h2>\n<div class="picture" tabindex="0" role="group"'
-                f' aria-label="{LENS}">{page.picture}<div class="zoom">{zooms}</div></div>'
-            ]
-            if page.picture
-            else []
-        )
+        lines = [
+            '<div class="picture" tabindex="0" role="group"'
+            f' aria-label="{LENS}">{picture}<div class="zoom">{zooms}</div></div>'
+            for picture in page.pictures
+        ]
+        word = "Pictures" if len(lines) > 1 else "Picture"
+        return [f"<h2>{word}</h2>\n{lines[0]}", *lines[1:]] if lines else []
 
     def seal(self):
         """The line below the headline: the answer that is proved."""

@@ -1,5 +1,5 @@
 """The pairs of an answer: their table, and the summary."""
-from . import notes
+from . import groups, notes
 from .competitions import competitions_of
 from .figures import Figure
 from .roster import PAIR_HEADS
@@ -9,9 +9,10 @@ from .words import TOLD_NAMES, count_of, listed
 def notes_of(roster):
     """Notes on how the table was read. All columns of a matrix are used."""
     table, sheet = roster.table, roster.sheet
-    lines = notes.prepared_lines([table])
-    if roster.is_list:
-        lines += notes.carried_lines(("costs",), [table], [sheet])
+    lines, words = notes.prepared_lines([table, roster.group_table]), []
+    words += [("costs", table, sheet)] if roster.is_list else []
+    words += [("groups", roster.group_table, roster.group_sheet)] if roster.group_sheet else []
+    lines += notes.carried_lines(*zip(*words)) if words else []
     cells = notes.number_cells("costs", table, sheet)
     return lines + notes.reading_lines(cells, roster, roster.options.decimal)
 
@@ -43,6 +44,7 @@ def summary(roster):
             f" {count_of(len(roster.pairs), 'pair', 'pairs')}."
         ),
         *left_lines(roster),
+        *groups.lines_of(roster),
     ]
 
 
@@ -75,7 +77,7 @@ def blocked_lines(roster):
     """Lines that say why no such pairs exist."""
     lines = ["No such pairs exist, proved:"]
     lines += ["  " + found.sentence() for found in competitions_of(roster)[:TOLD_NAMES]]
-    return lines + each_hint(roster)
+    return lines + groups.left_out_lines(roster) + each_hint(roster)
 
 
 def each_hint(roster):
@@ -95,5 +97,6 @@ def write_bottlenecks(results, roster):
         rows += [[begin, kinds[0], name, Figure(number), ""] for name, number in found.must]
         rows += [[begin, kinds[1], name, "", Figure(number)] for name, number in found.can]
         rows += [[begin, "pair", ", ".join(pair), "", Figure(1)] for pair in found.pairs]
+        rows += [[begin, "group", ", ".join(one), "", ""] for one in found.groups]
     heads = ["bottleneck", "kind", "name", "must", "can"]
     results.table("bottleneck", roster.table, roster.sheet, heads, rows)

@@ -1,5 +1,5 @@
 """The page of pairs."""
-from . import pairs, sumspage
+from . import groups, pairs, sumspage
 from .caption import shown_number
 from .competitions import competitions_of
 from .figures import Figure
@@ -23,11 +23,12 @@ def plan_page(roster, options, sums):
         options.title or "A plan of pairs",
         f"{word}: {shown_number(roster, roster.cost(), options.currency)}",
         True,
-        lead + pairs.left_lines(roster) + pairs.notes_of(roster),
+        lead + pairs.left_lines(roster) + groups.lines_of(roster) + pairs.notes_of(roster),
         facts,
         [],
-        None,
+        [],
         [Sheet("Pairs", [("who", ""), ("what", ""), ("cost", "")], rows, total, note)]
+        + groups.sheets_of(roster)
         + [sumspage.pair_sheet(one) for one in sums],
     )
 
@@ -36,16 +37,18 @@ def blocked_page(roster, options):
     """The page for a roster without such pairs."""
     findings, shorts = [], []
     for one in competitions_of(roster):
-        shorts.append(f"short by {one.needs - one.gets}")
-        figures = [("must", one.needs), ("can", one.gets), ("short by", one.needs - one.gets)]
+        short, figures = one.needs - one.gets, []
+        if not one.groups:
+            shorts.append(f"short by {short}")
+            figures = [("must", one.needs), ("can", one.gets), ("short by", short)]
         findings.append(finding(one.sentence(), figures, ""))
     return Page(
         options.title or "No such pairs exist",
-        f"No such pairs exist: {', '.join(shorts[:3])}",
+        f"No such pairs exist{': ' * bool(shorts)}{', '.join(shorts[:3])}",
         False,
-        pairs.each_hint(roster) + pairs.notes_of(roster),
+        groups.left_out_lines(roster) + pairs.each_hint(roster) + pairs.notes_of(roster),
         [],
         findings,
-        None,
+        [],
         [],
     )

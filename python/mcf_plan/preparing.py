@@ -1,5 +1,5 @@
 """What becomes of the text of a table before `mcfplan` reads it: cells that take the value above
-them, and a row of totals that is left out."""
+them, a row of totals that is left out, and a matrix of costs of routes that becomes a list."""
 import csv
 import io
 import unicodedata
@@ -8,9 +8,12 @@ from .faults import Stop, shown
 from .figures import MARKED, value_of
 from .words import count_of, listed
 
+ENDS = ("from", "to")
 # The heads of names, and the heads of numbers that a row of totals may add up.
 NAMES = ("name", "from", "to", "who", "what")
 NUMBERS = ("supply", "least", "most", "cost")
+# The cells that forbid a pair, or a route of a matrix.
+FORBIDDEN = ("", "x", "-", "–", "—")
 # What stands for a name in a row of totals.
 TOTALS = ("", "total", "totals", "sum", "gesamt", "gesamtsumme", "summe", "insgesamt")
 BLANKS = " \u00a0\t"
@@ -112,9 +115,52 @@ def is_sum(cells, total):
     )
 
 
+def matrix_of(table, names):
+    """The rows of a table that has some of these names as the titles of its columns, as a matrix of
+    costs has; or None."""
+    rows, (number, _) = Rows(table, ENDS), table.head_lines()[0]
+    for mark in table.separators:
+        titles = rows.cells(number - 1, mark)[1:]
+        if len(titles) > 1 and 2 * sum(title in names for title in titles) >= len(titles):
+            rows.begin, rows.mark = number - 1, mark
+            return rows
+    return None
+
+
+def list_matrix(places, routes):
+    """Turns a matrix of costs, from the places on the left to those above, into a list of routes
+    without a limit. Notes in the table that it did so."""
+    found = Rows(places, ("name", "supply"))
+    column = found.places(["name"])
+    names = {cells[column[0]] for cells, _, _ in found.below() if column and column[0] < len(cells)}
+    is_list = {*ENDS, *NUMBERS}.intersection(Rows(routes, ENDS).heads[1:])
+    rows = None if is_list else matrix_of(routes, names)
+    if not rows:
+        return
+    titles, text, figures = rows.cells(rows.begin, rows.mark), io.StringIO(), {}
+    writer = csv.writer(text, delimiter=rows.mark, lineterminator="\n")
+    writer.writerow(("from", "to", "most", "cost"))
+    count = 0
+    for cells, begin, _ in rows.below():
+        for place, cost in list(enumerate(cells))[1 : len(titles)]:
+            if cost.lower() not in FORBIDDEN and cells[0] != titles[place]:
+                count += 1
+                writer.writerow((cells[0], titles[place], "", cost))
+                if (begin + 1, place) in routes.figures:
+                    figures[count + 1, 3] = routes.figures[begin + 1, place]
+    routes.text, routes.figures, routes.width = text.getvalue(), figures, routes.width and 4
+    told = count_of(count, "route", "routes")
+    routes.notes.append(
+        f"{routes.name} is a matrix: it is read as a list of {told} without a limit, from the"
+        " places on the left to those above."
+    )
+
+
 def prepare(tables, wanted, columns):
-    """Fills columns of tables down, and leaves rows of totals out. Notes in the tables what it did;
-    a column that no table has ends the run."""
+    """Fills columns of tables down, leaves rows of totals out, and turns a matrix of costs into a
+    list of routes. Notes in the tables what it did; a column that no table has ends the run."""
+    if "supply" in wanted[0]:
+        list_matrix(*tables)
     for table, heads in zip(tables, wanted):
         last = Rows(table, heads).total()
         if last:

@@ -8,16 +8,13 @@ from .faults import At, shown
 from .figures import NO_LIMIT, Figure, coordinate_of, number_in, said, value_of
 
 SPOT_HEADS = ("x", "y")
+ENDS = ("from", "to")
 BOUND_HEADS = ("least", "most", "cost")
 NO = ("", "no", "n", "0", "false", "nein")
 STAYS, MISSING, THROUGH = "(stays)", "(missing)", "(through)"
 # The options of a plan that is read again.
 NO_OPTIONS = argparse.Namespace(unused=False, short=False, penalty=None, ranges=False)
 
-# A place. `bounds` limits the flow through it (its inflow and its supply) or is None; `penalty` is
-# the cost of each unit that is missing there, or None if that of all places holds; `line` and
-# `cells` are those of its table.
-Place = collections.namedtuple("Place", "name supply spot bounds penalty line cells")
 # The least and the most flow through a place, and the cost of each unit there. A most of None means
 # no limit.
 Bounds = collections.namedtuple("Bounds", "least most cost")
@@ -35,9 +32,31 @@ PlaceResult = collections.namedtuple("PlaceResult", "costs group stays missing t
 CostRange = collections.namedtuple("CostRange", "low high")
 
 
-class Route(collections.namedtuple("Route", "tail head least steps both line cells")):
+class Place(
+    collections.namedtuple(
+        "Place", "name supply spot bounds penalty line cells period", defaults=("",)
+    )
+):
+    """A place, in a period if there are periods. `bounds` limits the flow through it (its inflow
+    and its supply) or is None; `penalty` is the cost of each unit that is missing there, or None if
+    that of all places holds; `line` and `cells` are those of its table."""
+
+    @property
+    def label(self):
+        """The name, and the period if there are periods."""
+        return f"{self.name} ({self.period})" if self.period else self.name
+
+
+class Route(
+    collections.namedtuple(
+        "Route",
+        "tail head least steps both line cells departs arrives is_back",
+        defaults=("", "", False),
+    )
+):
     """A route between two places, which are numbered from 1. `both` allows both directions. `line`
-    and `cells` are those of its table."""
+    and `cells` are those of its table. If there are periods, it departs in one and arrives in one,
+    and may go back on the route of its line."""
 
     @property
     def most(self):
@@ -56,9 +75,26 @@ class Problem:
         self.supply, self.demand = (number_in(answer.one(word)) for word in ("supply", "demand"))
         self.unused, self.short = options.unused, options.short
         self.penalty = value_of(options.penalty, self.mark) if options.penalty else None
-        self.places = [self.place(*row) for row in self.place_sheet.rows]
-        self.numbers = {place.name: number for number, place in enumerate(self.places, 1)}
-        self.routes = [self.route(*row) for row in self.route_sheet.rows]
+        # The periods, and what places may keep from one to the next, as routes.
+        self.periods, self.stores = [], []
+        self.places = self.all_places()
+        self.numbers = {
+            (place.name, place.period): number for number, place in enumerate(self.places, 1)
+        }
+        self.routes = self.all_routes()
+
+    def all_places(self):
+        """The places."""
+        return [self.place(*row) for row in self.place_sheet.rows]
+
+    def all_routes(self):
+        """The routes."""
+        sheet, found = self.route_sheet, []
+        for line, cells in sheet.rows:
+            ends = (self.numbers[cell_at(cells, sheet.place(head)), ""] for head in ENDS)
+            both = cell_at(cells, sheet.place("both")).casefold() not in NO
+            found.append(self.route(*ends, both, line, cells))
+        return found
 
     def said(self, value):
         """A value in a sentence."""
@@ -107,13 +143,11 @@ class Problem:
             return None
         return tuple(coordinate_of(cell_at(cells, sheet.place(head))) for head in SPOT_HEADS)
 
-    def route(self, line, cells):
-        """The route of a row."""
+    def route(self, tail, head, both, line, cells):
+        """The route of a row between two places."""
         sheet = self.route_sheet
-        ends = [self.numbers[cell_at(cells, sheet.place(head))] for head in ("from", "to")]
-        both = cell_at(cells, sheet.place("both")).casefold() not in NO
-        steps = self.steps(sheet, cells)
-        return Route(*ends, self.number(sheet, cells, "least"), steps, both, line, cells)
+        least, steps = self.number(sheet, cells, "least"), self.steps(sheet, cells)
+        return Route(tail, head, least, steps, both, line, cells)
 
     def steps(self, sheet, cells):
         """The steps of a route: the first one, and those with filled cells."""
@@ -126,25 +160,35 @@ class Problem:
         return tuple(found)
 
     def ends(self, route):
-        """The names of a route's ends."""
-        return self.places[route.tail - 1].name, self.places[route.head - 1].name
+        """The names of a route's ends, with their periods if there are some."""
+        return self.places[route.tail - 1].label, self.places[route.head - 1].label
+
+    def route_results(self):
+        """The results of the routes of a plan."""
+        rows = self.answer.rows
+        backs = {cells[0]: route_result(cells[3:]) for cells in rows["back"]}
+        return [both_ways(route_result(cells[3:]), backs.get(cells[0])) for cells in rows["route"]]
+
+    def store_results(self):
+        """The results of what places keep in a plan."""
+        return []
+
+    def ranges(self):
+        """The ranges of the costs of the routes, or None for one that isn't told."""
+        rows = self.answer.rows["range"]
+        changes = {int(line): [*map(number_in, cells)] for line, _, _, *cells in rows}
+        return [cost_range(route, changes.get(route.line)) for route in self.routes]
 
 
 class Plan:
     """The results of a plan for each route and each place."""
 
     def __init__(self, problem):
-        self.problem, rows = problem, problem.answer.rows
-        self.cost = number_in(problem.answer.one("cost"))
-        backs = {cells[0]: route_result(cells[3:]) for cells in rows["back"]}
-        self.routes = [
-            both_ways(route_result(cells[3:]), backs.get(cells[0])) for cells in rows["route"]
-        ]
-        groups = {}
-        self.places = [place_result(cells[2:], groups) for cells in rows["place"]]
-        self.has_ranges = problem.options.ranges
-        changes = {int(line): map(number_in, cells) for line, _, _, *cells in rows["range"]}
-        self.ranges = [cost_range(route, changes.get(route.line)) for route in problem.routes]
+        self.problem, self.cost = problem, number_in(problem.answer.one("cost"))
+        self.routes, self.stores = problem.route_results(), problem.store_results()
+        groups, rows = {}, problem.answer.rows["place"]
+        self.places = [place_result(cells[2:], groups) for cells in rows]
+        self.has_ranges, self.ranges = problem.options.ranges, problem.ranges()
 
     def is_full(self, number):
         """Whether a route carries its whole capacity, and more than 0."""

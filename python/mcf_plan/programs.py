@@ -9,6 +9,8 @@ from . import life
 from .faults import trouble
 
 TOP = pathlib.Path(__file__).resolve().parents[2]
+# The tables that an option of `mcfplan` names.
+OPTIONAL = ("groups",)
 
 
 def program(name, folder=None):
@@ -43,13 +45,15 @@ def run(words, output):
 
 
 def answer_bytes(path, words, texts, scratch):
-    """The answer of `mcfplan`, at this path, to texts of tables, and its status: 0 for a plan, 1 if
-    there is none, 2 for faults. The texts are written into an empty folder."""
-    files = [scratch / f"{number}.csv" for number in range(len(texts))]
-    for file, text in zip(files, texts):
+    """The answer of `mcfplan`, at this path, to texts of tables by their words, and its status: 0
+    for a plan, 1 if there is none, 2 for faults. The texts are written into an empty folder."""
+    files = []
+    for word, text in texts.items():
+        file = scratch / f"{word}.csv"
         file.write_bytes(text.encode("utf-8"))
+        files += [f"--{word}"] * (word in OPTIONAL) + [str(file)]
     with open(scratch / "answer.csv", "wb") as output, life.doing("mcfplan plans"):
-        status, told = run([path, *words, *map(str, files)], output)
+        status, told = run([path, *words, *files], output)
     if status not in (0, 1, 2):
         raise trouble(f"mcfplan gave no answer (status {status}): {told}")
     return status, (scratch / "answer.csv").read_bytes()

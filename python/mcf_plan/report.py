@@ -2,7 +2,15 @@
 from .answer import cell_at
 from .figures import Figure, figure
 from .problem import MISSING, STAYS, THROUGH
-from .results import FLOW_RESULTS, PLACE_RESULTS, RANGE_RESULTS, THROUGH_RESULTS
+from .results import (
+    FLOW_RESULTS,
+    PLACE_PERIODS,
+    PLACE_RESULTS,
+    RANGE_RESULTS,
+    ROUTE_PERIODS,
+    STOCK,
+    THROUGH_RESULTS,
+)
 from .words import TOLD_NAMES, count_of, listed
 
 # A range that isn't told.
@@ -17,11 +25,12 @@ def write_flows(results, plan):
     """Writes flows.csv: the routes in their order, with the columns of their table, and then what
     stays and what is missing."""
     problem = plan.problem
-    groups = [FLOW_RESULTS, RANGE_RESULTS] if plan.has_ranges else [FLOW_RESULTS]
-    rows = [
-        (route.line, route.cells, result_cells(result) + range_cells(plan, told))
-        for route, result, told in zip(problem.routes, plan.routes, plan.ranges)
-    ]
+    has_periods = bool(problem.periods)
+    groups = [FLOW_RESULTS] + [RANGE_RESULTS] * plan.has_ranges + [ROUTE_PERIODS] * has_periods
+    rows = []
+    for route, result, told in zip(problem.routes, plan.routes, plan.ranges):
+        cells = result_cells(result) + range_cells(plan, told)
+        rows.append((route.line, route.cells, cells + [route.departs, route.arrives] * has_periods))
     for is_supply in (True, False):
         for place, amount in plan.unmet(is_supply):
             ends = {"from": place.name, "to": STAYS}
@@ -30,7 +39,8 @@ def write_flows(results, plan):
             penalty = 0 if is_supply else problem.penalty_of(place)
             cost = "" if penalty is None else figure(penalty * amount)
             cells = [ends.get(head, "") for head in problem.route_sheet.heads]
-            more = [""] * (sum(map(len, groups)) - 2)
+            more = [""] * (sum(map(len, groups)) - 2 - 2 * has_periods)
+            more += [place.period, place.period] * has_periods
             rows.append((None, cells, [figure(amount), cost, *more]))
     results.after("flows", problem.route_table, problem.route_sheet, groups, rows)
 
@@ -39,15 +49,28 @@ def write_prices(results, plan):
     """Writes prices.csv: the places in their order, with the columns of their table."""
     problem = plan.problem
     has_bounds = any(place.bounds for place in problem.places)
-    groups = [PLACE_RESULTS, THROUGH_RESULTS] if has_bounds else [PLACE_RESULTS]
+    groups = [PLACE_RESULTS] + [THROUGH_RESULTS] * has_bounds
+    groups += [PLACE_PERIODS] * bool(problem.periods)
     rows = []
     for place, result in zip(problem.places, plan.places):
         cells = [figure(result.costs), result.group]
         if has_bounds:
             through = result.through
             cells += result_cells(through) if through else [""] * len(THROUGH_RESULTS)
+        cells += [place.period] * bool(problem.periods)
         rows.append((place.line, place.cells, cells))
     results.after("prices", problem.place_table, problem.place_sheet, groups, rows)
+
+
+def write_stock(results, plan):
+    """Writes stock.csv, if there are periods: what places keep from each to the next."""
+    problem = plan.problem
+    if problem.periods:
+        rows = [
+            [problem.places[one.tail - 1].name, one.departs, one.arrives, *result_cells(result)]
+            for one, result in zip(problem.stores, plan.stores)
+        ]
+        results.table("stock", problem.place_table, problem.place_sheet, STOCK, rows)
 
 
 def result_cells(result):
@@ -71,7 +94,7 @@ def write_bottlenecks(results, problem, bottlenecks):
     for count, bottleneck in enumerate(bottlenecks, 1):
         begin = [Figure(count), bottleneck.side]
         rows += [
-            [*begin, "place", problem.places[number - 1].name, "", "", figure(own), ""]
+            [*begin, "place", problem.places[number - 1].label, "", "", figure(own), ""]
             for number, own in sorted(bottleneck.places.items())
         ]
         rows += [[*begin, *arc_cells(one), figure(one.least), ""] for one in bottleneck.forcing]
@@ -84,7 +107,7 @@ def arc_cells(crossing):
     """A route, or the flow through a place, as cells."""
     if crossing.kind == "through":
         return ["through", *crossing.names, "", ""]
-    return ["route", "", *crossing.names]
+    return ["keep" if crossing.kind == "keep" else "route", "", *crossing.names]
 
 
 def slips(problem):
@@ -126,7 +149,7 @@ def balance_sentence(problem):
 
 def bottleneck_sentence(problem, bottleneck):
     """The sentence that these places must send (or take) N, but can only M, over these routes."""
-    places = [problem.places[number - 1].name for number in sorted(bottleneck.places)]
+    places = [problem.places[number - 1].label for number in sorted(bottleneck.places)]
     named, side = listed(places) + (" together" if len(places) > 1 else ""), bottleneck.side
     must = f"{named} must {side} {problem.said(bottleneck.must)}"
     if bottleneck.forcing:
@@ -171,13 +194,12 @@ def flow_summary(plan):
     lines = [
         f"A least-cost plan, proved: cost {problem.said(plan.cost)}.",
         (
-            f"{count_of(len(problem.places), 'place', 'places')},"
-            f" {count_of(len(problem.routes), 'route', 'routes')}:"
+            f"{', '.join(count_of(*one) for one in counts(problem))}:"
             f" {carrying} {'carries' if carrying == 1 else 'carry'} something,"
             f" {full} {'is' if full == 1 else 'are'} full."
         ),
     ]
-    lines += unmet_lines(plan)
+    lines += unmet_lines(plan) + stock_lines(plan)
     lines += [f"Passing through places costs {problem.said(passing)} of that."] if passing else []
     saving = savings_of(plan)
     if saving:
@@ -188,12 +210,36 @@ def flow_summary(plan):
     return lines
 
 
+def counts(problem):
+    """How many places and routes there are, with the words for one and for several; and how many
+    periods and departures, if there are periods."""
+    places = len({place.name for place in problem.places}), "place", "places"
+    routes = len(problem.routes)
+    if not problem.periods:
+        return [places, (routes, "route", "routes")]
+    periods = len(problem.periods), "period", "periods"
+    return [places, periods, (routes, "departure", "departures")]
+
+
+def stock_lines(plan):
+    """A line on what is kept from a period to the next, if there are periods."""
+    if not plan.problem.periods:
+        return []
+    kept = [result for result in plan.stores if result.carries]
+    if not kept:
+        return ["Nothing is kept from a period to the next."]
+    most = max(result.carries for result in kept)
+    cost = plan.problem.said(sum(result.cost or 0 for result in kept))
+    return [f"What places keep costs {cost} of that; at most {plan.problem.said(most)} at once."]
+
+
 def savings_of(plan):
     """The routes and places where more capacity would save cost, the greatest savings first."""
     problem = plan.problem
     found = [(problem.ends(route), result) for route, result in zip(problem.routes, plan.routes)]
+    found += [(problem.ends(one), result) for one, result in zip(problem.stores, plan.stores)]
     found += [
-        ((place.name, THROUGH), result.through)
+        ((place.label, THROUGH), result.through)
         for place, result in zip(problem.places, plan.places)
         if result.through
     ]
@@ -208,7 +254,7 @@ def unmet_lines(plan):
     for is_supply, is_allowed in ((True, problem.unused), (False, problem.short)):
         found = plan.unmet(is_supply)
         total = problem.said(sum(amount for _, amount in found))
-        where = listed([f"{place.name} {problem.said(amount)}" for place, amount in found])
+        where = listed([f"{place.label} {problem.said(amount)}" for place, amount in found])
         if is_allowed and is_supply:
             lines.append(f"{total} stay at: {where}." if found else "Nothing stays.")
         elif is_allowed:

@@ -19,7 +19,29 @@ THROUGH_RESULTS = (
     "exact",
     "one_more_passing_costs",
 )
-GROUPS = (FLOW_RESULTS, RANGE_RESULTS, PLACE_RESULTS, THROUGH_RESULTS)
+# The periods of what a route carries, and the period in which a place is.
+ROUTE_PERIODS = ("departs_in", "arrives_in")
+PLACE_PERIODS = ("in_period",)
+GROUPS = (
+    FLOW_RESULTS,
+    RANGE_RESULTS,
+    PLACE_RESULTS,
+    THROUGH_RESULTS,
+    ROUTE_PERIODS,
+    PLACE_PERIODS,
+)
+# The heads of the table of what places keep.
+STOCK = (
+    "name",
+    "period",
+    "next_period",
+    "keeps",
+    "total",
+    "free",
+    "one_more_saves",
+    "exact",
+    "one_more_kept_costs",
+)
 
 
 def kept(sheet, groups=GROUPS):

@@ -4,10 +4,9 @@ import collections
 
 from .answer import cell_at
 from .figures import number_in, said
+from .preparing import FORBIDDEN
 
 PAIR_HEADS = ("who", "what", "cost")
-# The cells that forbid a pair.
-FORBIDDEN = ("", "x", "-", "–", "—")
 # A chosen pair, or one that counts one more: its line, the number of its column in a matrix, its
 # person, its thing, and its cost.
 Pair = collections.namedtuple("Pair", "line column who what cost")
@@ -22,9 +21,10 @@ class Roster:
     """The table of persons and things of an answer, and the pairs that it tells. The table is plain
     if it doesn't say how many a person takes or a thing needs."""
 
-    def __init__(self, answer, table, options):
-        self.answer, self.table, self.options, self.mark = answer, table, options, answer.mark
-        self.sheet = answer.sheets["costs"]
+    def __init__(self, answer, tables, options):
+        self.answer, self.options, self.mark = answer, options, answer.mark
+        self.table, self.group_table = [*tables, None][:2]
+        self.sheet, self.group_sheet = answer.sheets["costs"], answer.sheets.get("groups")
         self.is_list = is_list(self.sheet)
         self.is_plain = not self.is_filled("takes") and not (
             self.is_list and self.is_filled("needs")

@@ -8,11 +8,13 @@ from .caption import shown_number
 # With more than ALL_ROUTES routes, a picture leaves out those that carry nothing. If no plan exists
 # and there are more than NEAR places, it has only those that block and their neighbours.
 ALL_ROUTES, NEAR = 90, 60
+# The most periods with a picture.
+DRAWN = 60
 # The greatest length of a name in a box, and the lengths of the beginning and the end of a cut
 # name.
 LONGEST, BEGIN, END = 24, 12, 11
 # What marks a route in the picture, or a place.
-KEYS = {"route": "route", "back": "route", "through": "through", "hub": "hub"}
+KEYS = {"route": "route", "back": "route", "keep": "route", "through": "through", "hub": "hub"}
 # A place: its name, the text of the name in its box, a note there, whether it sends, takes or
 # passes on, and its spot on a map. A route: its two places by numbers from 0, its width, its kind
 # (a word of COLOURS), its label and its title.
@@ -25,23 +27,31 @@ Scene = collections.namedtuple(
 )
 
 
-def plan_scene(plan, caption):
-    """The picture of a plan. It has all routes if there are few, and otherwise those that carry
-    something or are shut."""
+def plan_scenes(plan, caption):
+    """The pictures of a plan: one of each period, up to a number, if there are periods."""
+    return [plan_scene(plan, caption, period) for period in plan.problem.periods[:DRAWN] or [""]]
+
+
+def plan_scene(plan, caption, period=""):
+    """The picture of a plan, or of what departs in a period. It has all routes if there are few,
+    and otherwise those that carry something or are shut."""
     problem, number_of = plan.problem, functools.partial(shown_number, plan.problem)
     widest, links = max((abs(result.carries) for result in plan.routes), default=0), []
-    for number, (route, result) in enumerate(zip(problem.routes, plan.routes)):
-        if len(problem.routes) <= ALL_ROUTES or result.carries or route.most == 0:
+    places = [place for place in problem.places if place.period == period]
+    here = [number for number, one in enumerate(problem.routes) if one.departs == period]
+    for number in here:
+        route, result = problem.routes[number], plan.routes[number]
+        if len(here) <= ALL_ROUTES or result.carries or route.most == 0:
             kind = "full" if plan.is_full(number) else "flowing" if result.carries else "idle"
-            links.append(plan_link(problem, route, result, kind, widest))
-    left_out = len(problem.routes) - len(links)
-    heading = f"A least-cost plan: cost {number_of(plan.cost, caption.currency)}" + (
-        f" ({left_out} idle routes aren't drawn)" if left_out else ""
-    )
-    shorts = short_names([place.name for place in problem.places])
+            link = plan_link(problem, route, result, kind, widest)
+            links.append(link._replace(tail=link.tail % len(places), head=link.head % len(places)))
+    left_out = len(here) - len(links)
+    heading = period or f"A least-cost plan: cost {number_of(plan.cost, caption.currency)}"
+    heading += f" ({left_out} idle routes aren't drawn)" if left_out else ""
+    shorts, kept = short_names([place.name for place in places]), kept_in(plan, period)
     nodes = [
-        node_of(problem, *each)
-        for each in zip(problem.places, shorts, (one.stays + one.missing for one in plan.places))
+        node_of(problem, place, short, result.stays + result.missing, kept.get(place.name, 0))
+        for place, short, result in zip(places, shorts, results_in(plan, period))
     ]
     return Scene(
         heading,
@@ -56,6 +66,23 @@ def plan_scene(plan, caption):
     )
 
 
+def results_in(plan, period):
+    """The results of the places in a period, or of all places if there are no periods."""
+    found = zip(plan.problem.places, plan.places)
+    return [result for place, result in found if place.period == period]
+
+
+def kept_in(plan, period):
+    """What places keep after a period, by their names."""
+    problem = plan.problem
+    found = zip(problem.stores, plan.stores)
+    return {
+        problem.places[store.tail - 1].name: result.carries
+        for store, result in found
+        if store.departs == period
+    }
+
+
 def plan_link(problem, route, result, kind, widest):
     """A route in the picture of a plan. A route that is used backward points that way."""
     turned, number_of = route.both and result.carries < 0, functools.partial(shown_number, problem)
@@ -68,7 +95,10 @@ def plan_link(problem, route, result, kind, widest):
         f" {number_of(result.cost)}"
     )
     width = 1.4 + 7.6 * float(abs(carries)) / float(widest) if carries else 1
-    return Link(tail - 1, head - 1, width, kind, number_of(carries) if carries else "", title)
+    label = number_of(carries) if carries else ""
+    if label and route.arrives != route.departs:
+        label += f" → {route.arrives}"
+    return Link(tail - 1, head - 1, width, kind, label, title)
 
 
 def blocked_scene(blocked, caption):
@@ -78,11 +108,11 @@ def blocked_scene(blocked, caption):
     marked = {}
     for bottleneck in blocked.bottlenecks:
         for kind, found in (("forces", bottleneck.forcing), ("limits", bottleneck.limiting)):
-            marked.update({(KEYS[one.kind], one.line): kind for one in found})
+            marked.update({(KEYS[one.kind], one.line, one.names): kind for one in found})
     groups = [{number - 1 for number in one.places} for one in blocked.bottlenecks]
     links = []
-    for route in problem.routes:
-        kind = marked.get(("route", route.line), "other")
+    for route in problem.routes + problem.stores:
+        kind = marked.get(("route", route.line, problem.ends(route)), "other")
         label = {
             "limits": f"≤ {amount(route.most)}",
             "forces": f"≥ {amount(route.least)}",
@@ -92,9 +122,14 @@ def blocked_scene(blocked, caption):
         width = 1.2 if kind == "other" else 2.6
         links.append(Link(route.tail - 1, route.head - 1, width, kind, label, title))
     heading = blocked_heading(blocked, caption.unit)
-    shorts = short_names([place.name for place in problem.places])
+    shorts = short_names([place.label for place in problem.places])
     nodes = [
-        limited(node_of(problem, place, short), ("through", place.line) in marked, place, amount)
+        limited(
+            node_of(problem, place, short),
+            ("through", place.line, (place.label,)) in marked,
+            place,
+            amount,
+        )
         for place, short in zip(problem.places, shorts)
     ]
     notes = {"limits": "limits them"} if marked else {}
@@ -147,19 +182,15 @@ def near_scene(scene):
     )
 
 
-def node_of(problem, place, short, unmet=0):
-    """A place for the picture."""
+def node_of(problem, place, short, unmet=0, kept=0):
+    """A place for the picture, with what is unmet there and what it keeps."""
     kind = "sends" if place.supply > 0 else "takes" if place.supply < 0 else "passes"
     amount = functools.partial(shown_number, problem)
     note = f"{kind} {amount(abs(place.supply))}" if place.supply else ""
     word = "stays" if place.supply > 0 else "missing"
-    return Node(
-        place.name,
-        short,
-        note + (f", {amount(unmet)} {word}" if unmet else ""),
-        kind,
-        place.spot,
-    )
+    notes = [note] * bool(note) + [f"{amount(unmet)} {word}"] * bool(unmet)
+    notes += [f"keeps {amount(kept)}"] * bool(kept)
+    return Node(place.label, short, ", ".join(notes), kind, place.spot)
 
 
 def limits_text(problem, route):

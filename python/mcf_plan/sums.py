@@ -106,9 +106,13 @@ def flow_sums(plan, columns):
         "routes": [(route, [1, abs(result.carries), result.cost]) for route, result in routes],
     }
     found = []
-    for word, place in dict.fromkeys([("places", problem.place_sheet.place("name")), *columns]):
+    heads = ("name", "period") if problem.periods else ("name",)
+    shown = [("places", problem.place_sheet.place(head)) for head in heads]
+    for word, place in dict.fromkeys([*shown, *columns]):
         _, table, sheet = tables[word]
         values = (table.cell(line.line, line.cells, place) for line, _ in lines[word])
+        if sheet.heads[place] == "period":
+            values = (line.period if word == "places" else line.departs for line, _ in lines[word])
         if word == "routes" and sheet.heads[place] in ENDS:
             values = end_names(plan, ENDS.index(sheet.heads[place]))
         pairs = zip(values, (numbers for _, numbers in lines[word]))

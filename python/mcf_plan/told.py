@@ -7,8 +7,9 @@ from .answer import Sheet, cell_at
 from .faults import At, shown
 from .figures import mark_in, value_of
 from .notes import number_cells
+from .preparing import FORBIDDEN
 from .problem import check_spots
-from .roster import FORBIDDEN, is_list
+from .roster import is_list
 from .tables import BLANKS, LOOKED
 from .words import count_of, listed
 
@@ -17,14 +18,11 @@ NEEDED = {
     "places": ("name", "supply"),
     "routes": ("from", "to", "most", "cost"),
     "costs": ("who", "what", "cost"),
+    "groups": ("group",),
 }
 NOTHING = (
     " is read: the heads are {heads} (split at {separator}), with {lines} below; a list has the"
     " columns who, what and cost, a matrix things in its first line and persons in its first column"
-)
-MATRIX = (
-    "this looks like a matrix, and routes are a list: write a line from, to, most, cost for each"
-    " cell (Excel's Unpivot Columns does so), with an empty most for no limit; "
 )
 WISHES = (
     "; if these are wishes, write a list with a line who, what, cost for each wish: 1 as the cost"
@@ -76,6 +74,25 @@ SENTENCES = {
     "below 0": "{cell} is below 0, and this step adds to the one before",
     "below 0: most": "{cell} is below 0, and the route has more steps or is used both ways",
     "below 0: penalty": "{cell} is below 0",
+    "below 0: keep most": "{cell} is below 0",
+    "below 0: first stock": "{cell} is below 0",
+    "below 0: last stock": "{cell} is below 0",
+    "named twice in a period": (
+        "an earlier line of this place holds in this period, too; a line without a period holds in"
+        " each"
+    ),
+    "no such period": "there is no period {cell} in the table of places",
+    "no number of periods": "{cell} is no number of periods: write a whole number from 0 on",
+    "not in the first period": (
+        "a first stock is there before the first period, and this line holds in a later one"
+    ),
+    "not in the last period": (
+        "a last stock is left after the last period, and this line holds in an earlier one"
+    ),
+    "arrives after the last period": (
+        "what departs by this line arrives after the last period: give it another period, or a"
+        " smaller lead"
+    ),
     "a penalty, but a supply above 0": (
         "a penalty is the cost of what is missing, and this place sends: leave the cell empty; or"
         " is the sign of the supply wrong?"
@@ -94,6 +111,31 @@ SENTENCES = {
     "least above most": "least {least} is greater than most {most}",
     "no number or range": "{cell} is no number, and no range such as 2..3{date}",
     "two different numbers": "an earlier line has another number: this is {cell}",
+    "no column who or what": (
+        "there is no column who and no column what among {heads} (split at {separator}): each line"
+        " names a person (who) or a thing (what) of a group"
+    ),
+    "no person or thing": "the line names no person (who) and no thing (what)",
+    "a person and a thing": (
+        "the line names a person and a thing: a group is of persons or of things, and a line has"
+        " one of them"
+    ),
+    "not in the costs: who": "there is no person {cell} in the costs{near}",
+    "not in the costs: what": "there is no thing {cell} in the costs{near}",
+    "named twice in groups": "the group has {cell} on line {first} already",
+    "persons and things": (
+        "{cell} is of the other kind than an earlier line of the group: a group is of persons or of"
+        " things"
+    ),
+    "no whole number": "{cell} is no whole number from 0 on",
+    "least above most in groups": "the group's least is greater than its most",
+    "crosses another group": (
+        "{cell} has some members of {other_group}, and not all: a minimum-cost flow keeps only to"
+        " groups that have no member in common, or that are one within the other; --crossing check"
+        " leaves {cell} out, and says who breaks it"
+    ),
+    "too many places": "with {cell}, there are too many persons, things and groups",
+    "no group": "there is no line below the heads, and so no group",
     "no thing": "no thing" + NOTHING,
     "no person": "no person" + NOTHING,
 }
@@ -108,12 +150,14 @@ class Teller:
     def __init__(self, words, tables, options, faults):
         self.tables, self.options, self.faults = dict(zip(words, tables)), options, faults
         self.sheets, self.rows, self.shows, self.done = {}, {}, [], set()
+        self.crossed = {}
 
     def tell(self, answer):
         """Notes all faults of an answer, and positions of places that are no numbers."""
         self.sheets = {word: answer.sheets.get(word, Sheet(1, [""])) for word in self.tables}
         self.rows = {word: dict(sheet.rows) for word, sheet in self.sheets.items()}
         faults = answer.rows["fault"]
+        self.crossed = {int(line): other for line, _, other in answer.rows["crossing"]}
         tables = zip(self.tables, self.tables.values(), self.sheets.values()) if faults else ()
         cells = (cell for table in tables for cell in number_cells(*table))
         self.shows = [(mark_in(one[2]), *one) for one in cells if mark_in(one[2])]
@@ -126,13 +170,14 @@ class Teller:
         if "places" in self.tables:
             check_spots(self.sheets["places"], self.tables["places"].name, self.faults)
 
-    def note(self, word, line, head, what, cell):
+    def note(self, word, line, head, what, cell, period=""):
         """Notes a fault. The first one of a kind tells all; of columns that a table lacks, too."""
         column, cell = self.located(word, line, head, what, cell)
         is_lacking = what == "no such column"
         kind = word, what, is_lacking or column.isdecimal() or column
         if not (is_lacking and kind in self.done):
             text = "" if kind in self.done else self.text(word, line, column, what, cell)
+            text += f" (in period {shown(period)})" if text and period else ""
             self.faults.add(At(self.tables[word].name, line, column), what, text, cell)
         self.done.add(kind)
 
@@ -157,6 +202,8 @@ class Teller:
         what, meant = TITLE.fullmatch(what).groups() if TITLE.fullmatch(what) else (what, "")
         sheet, table, row = self.sheets[word], self.tables[word], self.rows[word].get(line, [])
         heads = {"what": ["who", "what"], "most": ["least", "most"], "1": sheet.heads[:1]}
+        if word == "groups":
+            heads = {"who": ["group", "who"], "what": ["group", "what"]}
         under = functools.partial(filled, sheet, heads.get(column, [column]))
         parts = {
             "cell": lambda: shown(cell),
@@ -170,7 +217,8 @@ class Teller:
             "mark": lambda: shown(self.options.decimal or "."),
             "says": lambda: ", as --decimal says" if self.options.decimal else "",
             "other": lambda: self.other(mark_in(cell)),
-            "near": lambda: self.near_place(cell),
+            "near": lambda: self.near_name(cell, column),
+            "other_group": lambda: shown(self.crossed[line]),
             "date": lambda: "; was it taken for a date?" if DATE.search(cell) else "",
             "merged": lambda: self.merged(word, line, column),
             "wishes": lambda: self.wishes(word),
@@ -183,7 +231,8 @@ class Teller:
             "like": lambda: self.looks_like(word),
             "needed": lambda: ", ".join(NEEDED[word]),
         }
-        sentence = SENTENCES.get(f"{what}: {column}", SENTENCES.get(what, what))
+        keys = (f"{what} in {word}", f"{what}: {column}", what)
+        sentence = next((SENTENCES[key] for key in keys if key in SENTENCES), what)
         return re.sub(r"\{(\w+)\}", lambda found: str(parts[found[1]]()), sentence)
 
     def other(self, mark):
@@ -191,14 +240,16 @@ class Teller:
         table, line, cell = next(one[1:] for one in self.shows if one[0] != mark)
         return f"{shown(cell)} ({table.name}, line {line})"
 
-    def names(self):
-        """The names of the places."""
-        sheet = self.sheets["places"]
-        return [cell_at(cells, sheet.place("name")) for _, cells in sheet.rows]
+    def names(self, head="name"):
+        """The names of the places, or of the persons or the things of a table of costs."""
+        sheet = self.sheets["places" if head == "name" else "costs"]
+        if head != "name" and not is_list(sheet):
+            return sheet.titles[1:] if head == "what" else [cells[0] for _, cells in sheet.rows]
+        return [cell_at(cells, sheet.place(head)) for _, cells in sheet.rows]
 
-    def near_place(self, name):
-        """A hint at a name among the places that is like one that isn't."""
-        names = self.names()
+    def near_name(self, name, column):
+        """A hint at a name of a place, a person or a thing that is like one that isn't there."""
+        names = list(dict.fromkeys(self.names(column if column in ("who", "what") else "name")))
         near = [other for other in names if other.casefold() == name.casefold()]
         near = near or difflib.get_close_matches(name, names[:10_000], 1)
         return f"; is {shown(near[0])} meant?" if near else ""
@@ -214,12 +265,8 @@ class Teller:
 
     def looks_like(self, word):
         """A hint at what a table without its columns may be."""
-        sheet, names = self.sheets[word], set(self.names() if word == "routes" else ()) - {""}
-        if word == "places" and sheet.has(("from", "to")):
+        if word == "places" and self.sheets[word].has(("from", "to")):
             return "this looks like the table of routes, which comes second; "
-        titles = [self.tables[word].title(title) for title in sheet.titles[1:]]
-        if len(titles) > 1 and 2 * sum(title in names for title in titles) >= len(titles):
-            return MATRIX
         return ""
 
     def merged(self, word, line, column):

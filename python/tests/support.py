@@ -15,7 +15,15 @@ from mcf_plan.programs import program
 TOP = pathlib.Path(__file__).resolve().parents[2]
 PLANS = TOP / "examples" / "plans"
 # The results that tests compare: the tables. The picture depends on whether Graphviz is installed.
-COMPARED = ("flows.csv", "prices.csv", "pairs.csv", "sums.csv", "bottleneck.csv")
+COMPARED = (
+    "flows.csv",
+    "stock.csv",
+    "prices.csv",
+    "pairs.csv",
+    "groups.csv",
+    "sums.csv",
+    "bottleneck.csv",
+)
 PLACES = "name,supply\nMill,30\nWien,-18\nGraz,-12\n"
 ROUTES = "from,to,least,most,cost\nMill,Wien,0,15,4\nMill,Graz,0,20,7\nGraz,Wien,0,10,2\n"
 
@@ -40,10 +48,11 @@ def rows_of(path, separator=","):
 
 def plan_of(tables, *words):
     """The plan of two tables, whose first rows have the heads, or None if no plan exists."""
-    texts = [io.StringIO() for _ in tables]
-    for text, rows in zip(texts, tables):
+    texts = {word: io.StringIO() for word in ("places", "routes")}
+    for text, rows in zip(texts.values(), tables):
         csv.writer(text).writerows(rows)
-    answer = answer_to(program("mcfplan"), ["flow", *words], [text.getvalue() for text in texts])
+    texts = {word: text.getvalue() for word, text in texts.items()}
+    answer = answer_to(program("mcfplan"), ["flow", *words], texts)
     return Plan(Problem(answer, (None, None), NO_OPTIONS)) if answer.kind == "plan" else None
 
 

@@ -92,6 +92,16 @@ class Compare(WithFolder):
         self.assertEqual(len(re.findall("^A -> M", said, re.M)), 20)
         self.assertIn("0 of 30 amounts differ.\n", run("compare", plans[0], plans[0])[1])
 
+    def test_one_plan_alone(self):
+        routes = "from,to,most,cost\nA,B,2,1\n"
+        plans = [
+            self.made(name, f"name,supply\nA,{amount}\nB,-{amount}\n", routes)
+            for name, amount in (("a", 2), ("b", 3))
+        ]
+        said = run("compare", *plans)[1]
+        self.assertIn("b: no plan exists: ", said)
+        self.assertNotIn("differ", said)
+
     def test_tables_with_a_byte_order_mark(self):
         plan = self.made("plan", "\ufeff" + PLACES, "\ufeff" + ROUTES)
         for _ in range(2):

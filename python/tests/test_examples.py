@@ -29,7 +29,8 @@ class Examples(WithFolder):
     @staticmethod
     def read(name):
         """The tables of an example."""
-        texts = [(PLANS / name / f"{word}.csv").read_text("utf-8") for word in ("places", "routes")]
+        words = ("places", "routes")
+        texts = {word: (PLANS / name / f"{word}.csv").read_text("utf-8") for word in words}
         sheets = answer_to(program("mcfplan"), ["flow"], texts).sheets.values()
         return [[sheet.heads, *(cells for _, cells in sheet.rows)] for sheet in sheets]
 

@@ -39,7 +39,9 @@ class Programs(WithFolder):
             self.assertIn(text, self.told(ANSWER.format(kind, status)))
 
     def test_figures_that_are_too_great_are_empty(self):
-        answer = answer_to(program("mcfplan"), ["flow"], [PLACES, ROUTES]).data.decode()
+        answer = answer_to(
+            program("mcfplan"), ["flow"], {"places": PLACES, "routes": ROUTES}
+        ).data.decode()
         answer = re.sub(r'("route"(?:,"[^"]*"){4}),.*', r'\1,"","","","",""', answer)
         answer = re.sub(r'("place"(?:,"[^"]*"){4}),.*', r'\1,"","","","","","","",""', answer)
         script(self.folder / "mcfplan", f"cat {self.put('answer', answer)}")

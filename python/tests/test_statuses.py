@@ -97,7 +97,7 @@ class Statuses(WithFolder):
         self.assertEqual(subprocess.run(words, stdout=subprocess.PIPE).returncode, 0)
 
     def test_any_other_fault_is_told_in_one_line(self):
-        with mock.patch.object(commands, "Problem", side_effect=TypeError("one\ntwo")):
+        with mock.patch.object(commands, "problem_of", side_effect=TypeError("one\ntwo")):
             status, said, told = self.flow(PLACES, ROUTES)
         self.assertEqual(
             (status, said, told),

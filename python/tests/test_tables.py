@@ -19,7 +19,7 @@ class Rules(WithFolder):
 
     def said_of(self, rule, *more):
         """The message of the tool about the tables of a rule, and its status."""
-        for name in ("places", "routes", "costs"):
+        for name in ("places", "routes", "costs", "groups"):
             if name in rule:
                 table = rule[name]
                 self.put(
@@ -28,6 +28,7 @@ class Rules(WithFolder):
                 )
         words = ["pairs", "costs.csv"] if "costs" in rule else ["flow", "places.csv", "routes.csv"]
         words = words[:1] + [self.folder / word for word in words[1:]]
+        words += ["--groups", self.folder / "groups.csv"] if "groups" in rule else []
         status, said, told = run(*words, *rule.get("options", []), *more, "-o", self.out)
         return status, (said + told).replace(f"{self.folder}/", "")
 
