@@ -57,6 +57,10 @@ impl<T> Vec<T> {
         self.0.push(value);
         Ok(())
     }
+    pub fn insert(&mut self, place: usize, value: T) -> Result<(), AllocFailed<T>> {
+        self.0.insert(place, value);
+        Ok(())
+    }
     #[inline(always)]
     pub fn push_reserved(&mut self, value: T) {
         let len = self.0.len();
@@ -299,6 +303,22 @@ pub mod std {
         impl<T> ::std::ops::DerefMut for VecDeque<T> {
             fn deref_mut(&mut self) -> &mut rust::VecDeque<T> {
                 &mut self.0
+            }
+        }
+        #[derive(Clone)]
+        pub struct HashMap<K, V>(rust::HashMap<K, V>);
+        impl<K: Eq + ::std::hash::Hash, V> HashMap<K, V> {
+            pub fn new(_: Global) -> HashMap<K, V> {
+                HashMap(rust::HashMap::new())
+            }
+            pub fn insert(&mut self, key: K, value: V) -> Result<Option<V>, AllocError> {
+                Ok(self.0.insert(key, value))
+            }
+        }
+        impl<K, V> ::std::ops::Deref for HashMap<K, V> {
+            type Target = rust::HashMap<K, V>;
+            fn deref(&self) -> &rust::HashMap<K, V> {
+                &self.0
             }
         }
         pub struct BinaryHeap<T>(rust::BinaryHeap<T>);

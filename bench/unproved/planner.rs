@@ -71,7 +71,17 @@ fn pairs(words: &Words) -> (TextKind, Vec<u8>) {
     };
     let options = mcf_pair_tables::Options { mark: words.mark(), each, maximise: words.is("maximise", "yes") };
     let [costs] = &words.tables[..] else { failed("name a table, COSTS") };
-    let told = mcf_pair_text::pair_text(Global, &mut engine(), costs, options).unwrap_or_else(|_| failed("out of memory"));
+    let told = match words.options.get("groups") {
+        Some(file) => {
+            use mcf_pair_tables::AtCrossing;
+            let groups = &std::fs::read(file).unwrap_or_else(|_| failed("a table can't be read"))[..];
+            let crossing = if words.is("crossing", "check") { AtCrossing::Check } else { AtCrossing::Refuse };
+            let texts = mcf_pair_tables::GroupTexts { costs, groups };
+            mcf_pair_text::group_text(Global, &mut engine(), texts, options, crossing)
+        }
+        None => mcf_pair_text::pair_text(Global, &mut engine(), costs, options),
+    };
+    let told = told.unwrap_or_else(|_| failed("out of memory"));
     (told.kind, told.text)
 }
 
