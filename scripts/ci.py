@@ -10,13 +10,14 @@ A step whose tools are missing is skipped, and the table gives the reason; it al
 reports that it skipped. Nothing is installed. A failing step fails the run. The last line is
 `N passed, M failed, K skipped`.
 """
+import collections
 import pathlib
 import re
 import shutil
 import subprocess
 import sys
 import time
-from typing import List, NamedTuple, Optional, Tuple
+from typing import Deque, List, NamedTuple, Optional, Tuple
 
 TOP = pathlib.Path(__file__).resolve().parent.parent
 BROWSERS = ("chromium", "chromium-browser", "google-chrome", "firefox", "firefox-esr")
@@ -35,6 +36,8 @@ class Result(NamedTuple):
     status: str
     minutes: float
     skipped: List[str]
+    # the last lines that it printed
+    end: List[str]
 
 
 KIT = (("rt",),)
@@ -66,9 +69,10 @@ def run(step: Step) -> Result:
     why = lacking(step)
     if why:
         print(f"ci: {step.name}: skipped: {why}", flush=True)
-        return Result(step, "skipped", 0, [why])
+        return Result(step, "skipped", 0, [why], [])
     print(f"ci: {step.name}: {' '.join(step.command)}", flush=True)
     begun, skipped = time.monotonic(), []
+    end: Deque[str] = collections.deque(maxlen=40)
     pipe, both = subprocess.PIPE, subprocess.STDOUT
     with subprocess.Popen(
         step.command, cwd=TOP, stdout=pipe, stderr=both, text=True, errors="replace"
@@ -76,11 +80,13 @@ def run(step: Step) -> Result:
         assert process.stdout
         for line in process.stdout:
             print(line, end="", flush=True)
+            end.append(line)
             found = re.match(r"[\w. -]+: skipped: (.*)", line)
             if found:
                 skipped.append(found[1])
     minutes = (time.monotonic() - begun) / 60
-    return Result(step, "failed" if process.returncode else "passed", minutes, skipped)
+    status = "failed" if process.returncode else "passed"
+    return Result(step, status, minutes, skipped, list(end))
 
 
 def changed() -> List[str]:
@@ -106,7 +112,11 @@ def quick() -> List[Step]:
 
 
 def table(results: List[Result]) -> None:
-    """Prints a line for each step, and for each thing that wasn't run."""
+    """Prints the last lines of failed steps, a line for each step, and one for each thing that
+    wasn't run."""
+    for result in results:
+        if result.status == "failed":
+            print(f"\nci: {result.step.name}: failed; its last lines:\n{''.join(result.end)}")
     print("\nci: step | result | minutes")
     for result in results:
         print(f"ci: {result.step.name} | {result.status} | {result.minutes:.1f}")
