@@ -23,14 +23,14 @@ kit=$(dirname "$(rt doc)") scratch=$(mktemp -d)
 trap 'rm -rf "$scratch"' EXIT
 mkdir -p bin
 
-scripts/module.sh "$scratch" || stop "there is no LLVM module"
+scripts/module.sh || stop "there is no LLVM module"
 
 # This step changes the module's target to wasm64: triple and layout. It also removes the stack
 # probes, since the stack has the lowest addresses.
 clang=$kit/toolchain/bin/clang
-sed -i -e 's/^target datalayout = .*/target datalayout = "e-m:e-p:64:64-p10:8:8-p20:8:8-i64:64-i128:128-n32:64-S128-ni:1:10:20"/' \
+sed -e 's/^target datalayout = .*/target datalayout = "e-m:e-p:64:64-p10:8:8-p20:8:8-i64:64-i128:128-n32:64-S128-ni:1:10:20"/' \
     -e 's/^target triple = .*/target triple = "wasm64-unknown-unknown"/' \
-    -e '/^attributes/s/ "\(probe-stack\|stack-probe-size\)"="[^"]*"//g' "$scratch/module.ll"
+    -e '/^attributes/s/ "\(probe-stack\|stack-probe-size\)"="[^"]*"//g' bin/module/module.ll > "$scratch/module.ll"
 wasm=(--target=wasm64-unknown-unknown -mcpu=lime1 -mllvm -expand-div-rem-bits=64 -mllvm -expand-fp-convert-bits=64 -mllvm -trap-unreachable
     -ffunction-sections -fdata-sections --no-default-config -Werror)
 "$clang" "${wasm[@]}" -O3 -c -x ir "$scratch/module.ll" -o "$scratch/module.o"

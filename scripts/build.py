@@ -5,7 +5,7 @@
 proves independent crates in parallel, with their tests, from scratch, each once; `make test` reuses
 the result, if the kit keeps it. A line reports each proved crate, and how many are left. Each
 program goes into bin/ as soon as it is built, and runs on an example. Built libraries go to
-crates/mcf_c/out/rlib/, for scripts/static.sh. bin/proofs.log has the output of `rt ci`. If no
+crates/mcf_c/out/rlib/, for scripts/module.sh. bin/proofs.log has the output of `rt ci`. If no
 source has changed since the last time, the script only runs the programs on the example.
 
 With --all it proves every crate with its tests, runs the tests, and runs each program as two
@@ -14,6 +14,8 @@ changed.
 
 Usage: scripts/build.py [CRATE ..]        programs or libraries; mcfcheck, mcf, mcfplan by default
        scripts/build.py --all
+       scripts/build.py --stamp CRATE  prints a hash of the kit and of the sources of a crate and of
+                                       all below it, and proves nothing
 """
 import hashlib
 import os
@@ -281,6 +283,9 @@ def build(names, is_whole):
 
 
 def main():
+    if sys.argv[1:2] == ["--stamp"]:
+        print(stamp(closure(crates(), sys.argv[2:])))
+        return
     is_whole = sys.argv[1:] == ["--all"]
     names = [*crates()] if is_whole else sys.argv[1:] or [*WORDS]
     lacking = [name for name in names if name not in crates()]

@@ -51,7 +51,7 @@ NOT_RUN = {
     ("docs/PAGE.md", "python3 -m http.server -d bin"): "the server runs until it is stopped",
 }
 # The most seconds of a command, and of one that builds.
-SECONDS, BUILDING = 100, 1200
+SECONDS, BUILDING = 100, 3600
 # The characters that manual pages escape.
 ROFF = {"-": "-", "\\": "\\", "(rs": "\\", "(aq": "'"}
 

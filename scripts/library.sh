@@ -5,12 +5,9 @@
 # libraries export only the names of mcf.h.
 set -eu
 cd "$(dirname "$0")/.."
-kit=$(dirname "$(rt doc)") scratch=$(mktemp -d)
-trap 'rm -rf "$scratch"' EXIT
-built=$scratch/libmcf_c.a
-mkdir -p bin
+kit=$(dirname "$(rt doc)") built=bin/module/libmcf_c.a
 
-scripts/module.sh "$scratch"
+scripts/module.sh
 cc -shared -o bin/libmcf.so.1 -Wl,-soname,libmcf.so.1 -Wl,-z,text,-z,defs,-z,relro,-z,now -Wl,--version-script=library/libmcf.map \
     -Wl,--whole-archive "$built" -Wl,--no-whole-archive "$kit/c/liblibc_c.a"
 # Copy the file instead of linking it, because the gate accepts no links in the repository.
@@ -39,7 +36,7 @@ done
 # The library for ARM, if there is a compiler for it.
 rm -f bin/libmcf-aarch64.so
 if command -v aarch64-linux-gnu-gcc > /dev/null; then
-    scripts/arm.sh "$scratch/module.ll" bin/libmcf-aarch64.so
+    scripts/arm.sh bin/module/module.ll bin/libmcf-aarch64.so
 else
     echo "library: skipped: the library for ARM: there is no aarch64-linux-gnu-gcc"
 fi
