@@ -321,6 +321,21 @@ pub mod std {
                 &self.0
             }
         }
+        pub struct HashSet<K>(rust::HashSet<K>);
+        impl<K: Eq + ::std::hash::Hash> HashSet<K> {
+            pub fn new(_: Global) -> HashSet<K> {
+                HashSet(rust::HashSet::new())
+            }
+            pub fn insert(&mut self, key: K) -> Result<bool, AllocError> {
+                Ok(self.0.insert(key))
+            }
+        }
+        impl<K> ::std::ops::Deref for HashSet<K> {
+            type Target = rust::HashSet<K>;
+            fn deref(&self) -> &rust::HashSet<K> {
+                &self.0
+            }
+        }
         pub struct BinaryHeap<T>(rust::BinaryHeap<T>);
         impl<T: Ord> BinaryHeap<T> {
             pub fn new(_: Global) -> BinaryHeap<T> {

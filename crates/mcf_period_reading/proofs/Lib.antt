@@ -1,2 +1,3 @@
 pub mod FirstRows
+mod SeenLemmas
 mod SpotsRead

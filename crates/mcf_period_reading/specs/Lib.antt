@@ -11,6 +11,7 @@ pub mod PeriodFaults
 pub mod PeriodHeads
 pub mod PeriodCells
 pub mod Spots
+pub mod Seen
 pub mod PlaceTimes
 pub mod RouteTimes
 pub mod PeriodReading

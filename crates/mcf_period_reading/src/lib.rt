@@ -16,6 +16,7 @@ mod place_times;
 mod reading;
 mod route_times;
 mod spots;
+mod taken;
 
 pub use heads::{PeriodHead, tells_periods};
 pub use kinds::{PeriodFault, PeriodKind};

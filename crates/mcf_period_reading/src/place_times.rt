@@ -1,10 +1,9 @@
 //! What rows of places say about periods.
-ghost use Rattle.std.specs.Prelude.{◌≡◌, ◌<◌, ◌≤◌, ◌-◌, ◌++◌, IfOk, OnOk, length, map, take};
-ghost use Rattle.std.specs.List.{list_any};
+ghost use Rattle.std.specs.Prelude.{◌≡◌, ◌<◌, ◌++◌, IfOk, OnOk, length, map};
 ghost use Rattle.mcf_names.specs.Names.{number_of};
 ghost use Rattle.mcf_reading.specs.RouteRows.{place_or_none};
 ghost use Rattle.mcf_table.specs.Heads.{cells_of};
-ghost use Rattle.mcf_period_reading.specs.PlaceTimes.{all_place_faults, clashes, filled, first_faults, is_taken, keep_faults, keep_of, last_faults, period_cells, period_faults, period_kind, period_number, periods_in, place_faults, place_time, place_times, spot_of, spots, time_columns};
+ghost use Rattle.mcf_period_reading.specs.PlaceTimes.{all_place_faults, filled, first_faults, is_taken, keep_faults, keep_of, last_faults, period_cells, period_faults, period_kind, period_number, periods_in, place_faults, place_time, place_times, spot_of, spots, time_columns};
 
 use crate::cells::{
     amount, cell_at, is_filled, limit, limit_kind, number_kind, read_amount, read_limit, row_count,
@@ -13,6 +12,7 @@ use crate::cells::{
 use crate::heads::{PeriodHead, only_place, place_under};
 use crate::kinds::{PeriodFault, PeriodKind, if_kind, push_told};
 use crate::spots::{Spot, spot_at};
+use crate::taken::taken_rows;
 use mcf_decimal::{Decimal, Mark};
 use mcf_names::{Names, name_fault};
 use mcf_reading::Table;
@@ -163,40 +163,6 @@ pub(crate) fn spots(
     Ok(made)
 }
 
-// Whether both are of one place, and hold in one period.
-fn clashes(one: Spot, other: Spot) -> bool
-    ensures { result ≡ clashes one other }
-{
-    one.place == other.place && (one.period == 0 || other.period == 0 || one.period == other.period)
-}
-
-// Whether one of these clashes with a place in a period.
-fn clash_among(spot: Spot, earlier: &[Spot]) -> bool
-    ensures { result ≡ list_any (clashes spot) earlier.now }
-{
-    for place in 0..earlier.len() {
-        if clashes(spot, earlier[place]) {
-            return true;
-        }
-    }
-    false
-}
-
-// Those of the rows before a row.
-fn before(all: &[Spot], row: usize) -> &[Spot]
-    ensures { result.now ≡ take (row - 1) all.now }
-{
-    let (earlier, _) = all.split_at(all.len().min(row.saturating_sub(1)));
-    earlier
-}
-
-// Whether an earlier row is of the same place, and holds in one period with it.
-fn is_taken(all: &[Spot], row: usize) -> bool
-    ensures { result ≡ is_taken all.now row }
-{
-    clash_among(spot_at(all, row), before(all, row))
-}
-
 // Why a cell isn't a name, unless it is empty.
 pub(crate) fn period_kind(cell: &[u8]) -> Option<PeriodKind>
     ensures { result ≡ period_kind cell.now }
@@ -299,17 +265,19 @@ fn push_faults(
     faults: &mut Vec<PeriodFault>,
     format: PlaceFormat,
     all: &[Spot],
+    taken: bool,
     records: &Records,
     row: usize,
 ) -> Result<(), NoMemory>
-    requires { row < length records.now }
+    requires taken { taken ≡ is_taken all.now row }
+    requires within { row < length records.now }
     ensures { OnOk result (faults.new.items ≡ faults.old.items ++ place_faults format all.now row (cells_of records.now row)) }
 {
     let columns = format.columns;
     let name = cell_at(records, row, columns.name);
     let period = cell_at(records, row, columns.period);
     let number = spot_at(all, row).period;
-    push_period_faults(faults, row, name, period, is_taken(all, row))?;
+    push_period_faults(faults, row, name, period, taken)?;
     let most = cell_at(records, row, columns.keep_most);
     let cost = cell_at(records, row, columns.keep_cost);
     push_keep_faults(faults, format.mark, row, most, cost)?;
@@ -350,9 +318,10 @@ pub(crate) fn read_places(
     ensures times { IfOk result (λ made. made.items ≡ place_times format all.now records.now) }
     ensures faults { OnOk result (faults.new.items ≡ faults.old.items ++ all_place_faults format all.now records.now) }
 {
+    let taken = taken_rows(alloc, all, row_count(records))?;
     let mut made = Vec::new(alloc);
     for place in 0..row_count(records) {
-        push_faults(faults, format, all, records, place + 1)?;
+        push_faults(faults, format, all, taken[place], records, place + 1)?;
         made.push(place_time(format, all, records, place + 1))?;
     }
     Ok(made)
