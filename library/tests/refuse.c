@@ -102,30 +102,22 @@ struct pair_case {
 };
 
 static const struct pair_case pair_cases[] = {
-    {",X,Y,takes\nA,1,2.5,0..9\nB,3,4,0..1\nneeds,1,2,\n",
-     MCF_FLOW,
-     {MCF_SHOWN_MARK, 0, 1, 0, NULL, 0}},
-    {",X,Y,takes\nA,1,2.5,0..9\nB,3,4,0..1\nneeds,2,2,\n",
-     MCF_BLOCKED,
-     {MCF_SHOWN_MARK, 0, 1, 0, NULL, 0}},
+    {",X,Y,takes\nA,1,2.5,0..9\nB,3,4,0..1\nneeds,1,2,\n", MCF_FLOW, {.maximise = 1}},
+    {",X,Y,takes\nA,1,2.5,0..9\nB,3,4,0..1\nneeds,2,2,\n", MCF_BLOCKED, {.maximise = 1}},
     {"who,what,cost,needs\nA,X,1,0..2\nA,Y,-2,\nB,X,x,\nB,Y,4,1..3\n",
      MCF_FLOW,
-     {MCF_POINT, 0, 0, 0, NULL, 0}},
-    {";X;Y\nA;1,5;2\nB;x;-\nC;;1\n", MCF_BLOCKED, {MCF_COMMA, MCF_EACH_WHO, 0, 0, NULL, 0}},
-    {"who,what,cost\nA,X,1\nB,X,1\n", MCF_BLOCKED, {MCF_SHOWN_MARK, MCF_EACH_BOTH, 1, 0, NULL, 0}},
-    {",X,X\nA,1,z,9\nA,1.000,1e3\n",
-     MCF_INVALID_INPUT,
-     {MCF_SHOWN_MARK, MCF_EACH_WHAT, 0, 0, NULL, 0}},
-    {"who,what,cots,takes\nA,X,1,3..1\nA,X,,2\n",
-     MCF_INVALID_INPUT,
-     {MCF_SHOWN_MARK, 0, 0, 0, NULL, 0}},
+     {.decimal = MCF_POINT}},
+    {";X;Y\nA;1,5;2\nB;x;-\nC;;1\n", MCF_BLOCKED, {.decimal = MCF_COMMA, .each = MCF_EACH_WHO}},
+    {"who,what,cost\nA,X,1\nB,X,1\n", MCF_BLOCKED, {.each = MCF_EACH_BOTH, .maximise = 1}},
+    {",X,X\nA,1,z,9\nA,1.000,1e3\n", MCF_INVALID_INPUT, {.each = MCF_EACH_WHAT}},
+    {"who,what,cots,takes\nA,X,1,3..1\nA,X,,2\n", MCF_INVALID_INPUT, {.each = 0}},
     {"who,what,cost,takes\nA,X,1,3..1\nA,X,2,z\n,Y,1000000000000000000001,\n",
      MCF_INVALID_INPUT,
-     {MCF_SHOWN_MARK, 0, 0, 0, NULL, 0}},
+     {.each = 0}},
     {"who,what,cost\nA,X,1\nB,X,1\nB,Y,2\n",
      MCF_FLOW,
-     {MCF_SHOWN_MARK, 0, 0, 0, (const uint8_t *)"group,what,most\ng,X,1\ng,Y,\n", 27}},
-    {"\"A", MCF_INVALID_INPUT, {MCF_SHOWN_MARK, 0, 0, 0, NULL, 0}}};
+     {.groups = (const uint8_t *)"group,what,most\ng,X,1\ng,Y,\n", .groups_length = 27}},
+    {"\"A", MCF_INVALID_INPUT, {.each = 0}}};
 
 enum {
     FLOW_CASES = sizeof flow_cases / sizeof *flow_cases,
