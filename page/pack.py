@@ -80,6 +80,7 @@ def examples():
                 "unused": "--unused" in words,
                 "short": "--short" in words,
                 "crossing": "--crossing" in words,
+                "each": words[words.index("--each") + 1] if "--each" in words else "",
             }
         )
     return found

@@ -175,7 +175,7 @@ async function take(list) {
 
 /** @type {(number: number) => void} */
 function example(number) {
-  const { kind, texts, heads, unused, short, crossing } = examples()[number];
+  const { kind, texts, heads, unused, short, crossing, each } = examples()[number];
   chooseKind(kind);
   const ids = kind === 'flow' ? ['places', 'routes'] : ['costs', 'groups'];
   ids.forEach((id, k) => put(id, texts[k] || ''));
@@ -183,8 +183,9 @@ function example(number) {
   $('unused').checked = unused;
   $('short').checked = short;
   $('crossing').checked = crossing;
+  $('each').value = each;
   $('penalty').disabled = !short;
-  const others = 'title unit currency penalty decimal encoding each filldown'.split(' ');
+  const others = 'title unit currency penalty decimal encoding filldown'.split(' ');
   for (const id of others) $(id).value = '';
 }
 

@@ -1,6 +1,7 @@
 // @ts-check
 // What becomes of the text of a table before the module reads it: cells that take the value above
-// them, a row of totals that is left out, and a matrix of costs of routes that becomes a list.
+// them, a row of totals that is left out, and a matrix of costs of routes or a sheet of wishes that
+// becomes a list.
 import { decimalsOf, exactOf, isNumber, scaled } from './amounts.js';
 import { BadTable, countOf, listed, shown } from './faults.js';
 import { words } from './words.js';
@@ -12,6 +13,15 @@ const NAMED_HEADS = ['name', 'from', 'to', 'who', 'what'];
 const SUMMED_HEADS = ['supply', 'least', 'most', 'cost'];
 // The cells of a matrix without a route.
 const NO_ROUTE = ['', 'x', '-', '–', '—'];
+// The heads of wishes: 1, 2nd, third, wish 4, 5. Wunsch, Erstwunsch and so on; and the cells that
+// are no wish.
+const ORDINALS = 'first second third fourth fifth erst zweit dritt viert fünft'.split(' ');
+const WISH = new RegExp(
+  '^(?:(?:wish|choice|wunsch|wahl) ?)?'
+    + `(?:([1-9][0-9]?)(?:[.]|st|nd|rd|th)?|(${ORDINALS.join('|')})(?:er?)?)`
+    + '(?: ?(?:wish|choice|wunsch|wahl))?$'
+);
+const NO_WISH = ['', '-', '–', '—'];
 // What stands for a name in a row of totals.
 const TOTALS = ['', 'total', 'totals', 'sum', 'gesamt', 'gesamtsumme', 'summe', 'insgesamt'];
 // The most lines of a row of heads.
@@ -184,7 +194,7 @@ function listMatrix(places, routes) {
       }
     });
   }
-  routes.text = `${lines.map((cells) => written(cells, rows.mark)).join('\n')}\n`;
+  becomeList(routes, rows.mark, lines);
   routes.notes.push(
     `${routes.name} is a matrix: it is read as a list of `
       + `${countOf(lines.length - 1, 'route', 'routes')} without a limit, from the places on the `
@@ -192,14 +202,96 @@ function listMatrix(places, routes) {
   );
 }
 
-// This function fills columns of texts down, leaves rows of totals out, and turns a matrix of costs
-// of routes into a list. The texts get notes on what it did. It throws a BadTable for a column that
-// no text has.
-/** @type {(texts: TableText[], columns: string[]) => void} */
-export function prepare(texts, columns) {
-  if (texts.length === 2 && new TextRows(texts[0]).heads.includes('supply')) {
-    listMatrix(texts[0], texts[1]);
+// This function gives a table the text of a list.
+/** @type {(text: TableText, mark: string, lines: string[][]) => void} */
+function becomeList(text, mark, lines) {
+  const begin = ',;\t'.includes(mark) ? '' : `sep=${mark}\n`;
+  text.text = `${begin}${lines.map((cells) => written(cells, mark)).join('\n')}\n`;
+}
+
+// This function returns the places of the wishes among heads, if these are heads of a sheet of
+// wishes: a name, and two wishes or more in order, and neither a thing nor a cost.
+/** @type {(heads: string[]) => number[]} */
+function wishPlaces(heads) {
+  const ranks = heads.map((head) => {
+    const [, number, word] = WISH.exec(head) || [];
+    return Number(number) || (word ? 1 + ORDINALS.indexOf(word) % 5 : 0);
+  });
+  const places = heads.map((_, k) => k).filter((k) => ranks[k]);
+  const inOrder = places.length > 1 && places.every((place, k) => ranks[place] === k + 1);
+  const hasNames = heads.filter((head) => head === 'who').length === 1;
+  return inOrder && hasNames && !heads.includes('what') && !heads.includes('cost') ? places : [];
+}
+
+// This function returns the rows of a text that is a sheet of wishes, and the places of these; or
+// null. Most of the filled cells of wishes are no numbers.
+/** @type {(text: TableText) => { rows: TextRows, places: number[] } | null} */
+function wishesOf(text) {
+  const rows = new TextRows(text);
+  for (const begin of text.headLines()) {
+    for (const mark of text.separators) {
+      const places = wishPlaces(rows.cells(begin, mark).map(titled));
+      if (!places.length) continue;
+      Object.assign(rows, { begin, mark });
+      const found = rows.below().flatMap(({ cells }) => places.map((place) => cells[place] || ''))
+        .filter((cell) => !NO_ROUTE.includes(cell.toLowerCase()));
+      return 2 * found.filter(isNumber).length < found.length ? { rows, places } : null;
+    }
   }
+  return null;
+}
+
+// This function fills rows up to the last title, and a column needs with its first number, which it
+// returns.
+/** @type {(titles: string[], below: TextRow[]) => string} */
+function shareNeeds(titles, below) {
+  const place = titles.map(titled).indexOf('needs');
+  for (const { cells } of below) while (cells.length < titles.length) cells.push('');
+  if (place < 0) return '';
+  const size = below.map(({ cells }) => cells[place]).find(Boolean) || '';
+  for (const { cells } of below) cells[place] = cells[place] || size;
+  return size;
+}
+
+// This function turns a sheet of wishes, with a row for each person, into a list of pairs that have
+// the numbers of the wishes as their costs. A person without a wish has a forbidden pair. The text
+// gets a note that it did so.
+/** @type {(costs: TableText) => void} */
+function listWishes(costs) {
+  const found = wishesOf(costs);
+  if (!found) return;
+  const { rows, places } = found;
+  const titles = rows.cells(rows.begin, rows.mark), below = rows.below();
+  const size = shareNeeds(titles, below), who = titles.map(titled).indexOf('who');
+  const own = (/** @type {string[]} */ cells) =>
+    cells.filter((_, k) => k !== who && !places.includes(k));
+  const wishes = (/** @type {string[]} */ cells) =>
+    places.map((place, k) => [cells[place], String(k + 1)])
+      .filter(([what]) => !NO_WISH.includes(what));
+  const all = below.flatMap(({ cells }) => wishes(cells)), [[thing]] = all;
+  const lines = below.flatMap(({ cells }) => {
+    const pairs = wishes(cells);
+    return (pairs.length ? pairs : [[thing, '']])
+      .map((pair) => [cells[who], ...pair, ...own(cells)]);
+  });
+  becomeList(costs, rows.mark, [['who', 'what', 'cost', ...own(titles)], ...lines]);
+  costs.notes.push(
+    `${costs.name} is a sheet of wishes: it is read as a list of `
+      + `${countOf(all.length, 'wish', 'wishes')}, of which a first one costs 1, a second one 2 `
+      + 'and so on.',
+    size
+      ? `The number ${shown(size)} of column needs holds for each thing.`
+      : 'No column needs says how many persons a thing takes, such as 0..28: each takes one.'
+  );
+}
+
+// This function fills columns of texts down, leaves rows of totals out, and turns a matrix of costs
+// of routes into a list, a sheet of wishes into one of pairs. The texts get notes on what it did.
+// It throws a BadTable for a column that no text has.
+/** @type {(texts: TableText[], columns: string[], isPairs: boolean) => void} */
+export function prepare(texts, columns, isPairs) {
+  if (isPairs) listWishes(texts[0]);
+  else listMatrix(texts[0], texts[1]);
   for (const text of texts) {
     const last = new TextRows(text).total();
     if (last) {

@@ -126,7 +126,7 @@ export async function flowOf(solver, sources, { reading, policy }) {
  */
 export async function pairsOf(solver, sources, choices) {
   const { reading, each, maximise, crossing } = choices;
-  const faults = new Faults(), [costs, groups] = textsOf(sources, reading, faults);
+  const faults = new Faults(), [costs, groups] = textsOf(sources, reading, faults, true);
   /** @type {Record<string, TableText>} */
   const texts = groups ? { costs, groups } : { costs };
   const asked = { each: each || '', maximise, crossing };

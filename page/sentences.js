@@ -24,8 +24,8 @@ export const NEEDED = {
 // The cells that forbid a pair.
 export const FORBIDDEN = ['', 'x', '-', '–', '—'];
 const WISHES =
-  '; if these are wishes, write a list with a line who, what, cost for each wish: 1 as the cost '
-    + 'of a first one, 2 of a second';
+  '; if these are wishes, call the column of the names who and those of the wishes 1, 2 and so on, '
+    + 'or write a list with a line who, what, cost for each wish';
 const TOO_GREAT = '{this} is beyond the limits, by itself or in total ({limits})';
 // What is wrong, as the module calls it, perhaps with its column, and the sentence.
 /** @type {Record<string, string>} */
@@ -294,7 +294,7 @@ export class Teller {
       : '';
   }
 
-  // This method returns a hint at a list of wishes, if most filled cells of a matrix are words.
+  // This method returns a hint at a sheet of wishes, if most filled cells of a matrix are words.
   /** @type {(word: string) => string} */
   wishes(word) {
     const table = this.tables[word];

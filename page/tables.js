@@ -185,9 +185,14 @@ export class TableText {
 }
 
 // This function returns the texts of some sources, with the wanted heads in place of the planner's
-// own, and notes faults of these.
-/** @type {(sources: Source[], reading: Reading, faults: Faults) => TableText[]} */
-export function textsOf(sources, reading, faults) {
+// own, and notes faults of these. The texts are of places and routes, or of pairs.
+/**
+ * @param {Source[]} sources
+ * @param {Reading} reading
+ * @param {Faults} faults
+ * @returns {TableText[]}
+ */
+export function textsOf(sources, reading, faults, isPairs = false) {
   const texts = sources.map((source) => new TableText(source, reading, faults));
   const last = texts[texts.length - 1], titles = Object.entries(reading.heads || {});
   const missing = texts.map((text) => text.call(titles));
@@ -197,7 +202,7 @@ export function textsOf(sources, reading, faults) {
     const told = `there is no such column, ${words().names(head, own)}${nor}`;
     faults.add(at(last.name, 1, own), 'map', told);
   }
-  prepare(texts, reading.fillDown || []);
+  prepare(texts, reading.fillDown || [], isPairs);
   return texts;
 }
 

@@ -55,6 +55,7 @@ interface Example {
   unused: boolean;
   short: boolean;
   crossing: boolean;
+  each: Choices['each'] | '';
 }
 
 /** A line of a table, with its number. */

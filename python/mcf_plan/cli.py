@@ -123,7 +123,7 @@ def add_pairs(command):
         "tables",
         metavar="COSTS",
         nargs=1,
-        help="a table with the columns who, what and cost; or a matrix, a person in each row",
+        help="a table with the columns who, what and cost; a matrix; or a sheet of wishes",
     )
     add_common(command, pairs_command)
     command.add_argument(

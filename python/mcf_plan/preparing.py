@@ -1,7 +1,9 @@
 """What becomes of the text of a table before `mcfplan` reads it: cells that take the value above
-them, a row of totals that is left out, and a matrix of costs of routes that becomes a list."""
+them, a row of totals that is left out, and a matrix of costs of routes or a sheet of wishes that
+becomes a list."""
 import csv
 import io
+import re
 import unicodedata
 
 from .faults import Stop, shown
@@ -14,6 +16,15 @@ NAMES = ("name", "from", "to", "who", "what")
 NUMBERS = ("supply", "least", "most", "cost")
 # The cells that forbid a pair, or a route of a matrix.
 FORBIDDEN = ("", "x", "-", "–", "—")
+# The heads of wishes: 1, 2nd, third, wish 4, 5. Wunsch, Erstwunsch and so on; and the cells that
+# are no wish.
+ORDINALS = "first second third fourth fifth erst zweit dritt viert fünft".split()
+WISH = re.compile(
+    "(?:(?:wish|choice|wunsch|wahl) ?)?"
+    f"(?:([1-9][0-9]?)(?:[.]|st|nd|rd|th)?|({'|'.join(ORDINALS)})(?:er?)?)"
+    "(?: ?(?:wish|choice|wunsch|wahl))?"
+)
+NO_WISH = ("", "-", "–", "—")
 # What stands for a name in a row of totals.
 TOTALS = ("", "total", "totals", "sum", "gesamt", "gesamtsumme", "summe", "insgesamt")
 BLANKS = " \u00a0\t"
@@ -105,10 +116,15 @@ class Rows:
         return last if is_total and all(is_sum(*one) for one in sums) else None
 
 
+def is_number(cell):
+    """Whether a cell is a number as people write it."""
+    return any(c.isdigit() for c in cell) and MARKED.fullmatch(cell) is not None
+
+
 def is_sum(cells, total):
     """Whether cells are numbers that add up to another cell, by one mark before decimals."""
     cells = [*filter(None, cells), total]
-    if not all(any(c.isdigit() for c in cell) and MARKED.fullmatch(cell) for cell in cells):
+    if not all(map(is_number, cells)):
         return False
     return any(
         sum(value_of(cell, mark) for cell in cells[:-1]) == value_of(total, mark) for mark in ".,"
@@ -137,30 +153,115 @@ def list_matrix(places, routes):
     rows = None if is_list else matrix_of(routes, names)
     if not rows:
         return
-    titles, text, figures = rows.cells(rows.begin, rows.mark), io.StringIO(), {}
-    writer = csv.writer(text, delimiter=rows.mark, lineterminator="\n")
-    writer.writerow(("from", "to", "most", "cost"))
-    count = 0
+    titles, lines = rows.cells(rows.begin, rows.mark), []
     for cells, begin, _ in rows.below():
         for place, cost in list(enumerate(cells))[1 : len(titles)]:
             if cost.lower() not in FORBIDDEN and cells[0] != titles[place]:
-                count += 1
-                writer.writerow((cells[0], titles[place], "", cost))
-                if (begin + 1, place) in routes.figures:
-                    figures[count + 1, 3] = routes.figures[begin + 1, place]
-    routes.text, routes.figures, routes.width = text.getvalue(), figures, routes.width and 4
-    told = count_of(count, "route", "routes")
+                lines.append(((cells[0], titles[place], "", cost), {3: (begin + 1, place)}))
+    become_list(routes, rows.mark, ("from", "to", "most", "cost"), lines)
+    told = count_of(len(lines), "route", "routes")
     routes.notes.append(
         f"{routes.name} is a matrix: it is read as a list of {told} without a limit, from the"
         " places on the left to those above."
     )
 
 
+def become_list(table, mark, heads, lines):
+    """Gives a table the text of a list. Each line comes with the lines and places from which its
+    cells are, by their places in the list, since numbers of a sheet stay such."""
+    text, figures = io.StringIO(), {}
+    if mark not in ",;\t":
+        text.write(f"sep={mark}\n")
+    writer = csv.writer(text, delimiter=mark, lineterminator="\n")
+    writer.writerow(heads)
+    for number, (cells, sources) in enumerate(lines, 2):
+        writer.writerow(cells)
+        found = ((place, table.figures.get(source)) for place, source in sources.items())
+        figures.update({(number, place): one for place, one in found if one is not None})
+    table.text, table.figures, table.width = text.getvalue(), figures, table.width and len(heads)
+
+
+def wish_places(heads):
+    """The places of the wishes among heads, if these are heads of a sheet of wishes: a name, and
+    two wishes or more in order, and neither a thing nor a cost."""
+    found = [(place, WISH.fullmatch(head)) for place, head in enumerate(heads)]
+    ranks = {place: int(one[1] or 1 + ORDINALS.index(one[2]) % 5) for place, one in found if one}
+    in_order = len(ranks) > 1 and list(ranks.values()) == list(range(1, len(ranks) + 1))
+    has_names = heads.count("who") == 1 and not {"what", "cost"} & set(heads)
+    return list(ranks) if in_order and has_names else []
+
+
+def wishes_of(table):
+    """The rows of a table that is a sheet of wishes, and the places of these; or None. Most of the
+    filled cells of wishes are no numbers."""
+    rows = Rows(table, ("who",))
+    for number, _ in table.head_lines():
+        for mark in table.separators:
+            places = wish_places([named(cell) for cell in rows.cells(number - 1, mark)])
+            if places:
+                rows.begin, rows.mark = number - 1, mark
+                pairs = ((cells, place) for cells, _, _ in rows.below() for place in places)
+                found = [cells[place] for cells, place in pairs if place < len(cells)]
+                found = [is_number(cell) for cell in found if cell.lower() not in FORBIDDEN]
+                return (rows, places) if 2 * sum(found) < len(found) else None
+    return None
+
+
+def share_needs(titles, below):
+    """Fills rows up to the last title, and a column needs with its first number, which it
+    returns."""
+    heads = list(map(named, titles))
+    for cells, _, _ in below:
+        cells += [""] * (len(titles) - len(cells))
+    if "needs" not in heads:
+        return ""
+    place = heads.index("needs")
+    size = next((cells[place] for cells, _, _ in below if cells[place]), "")
+    for cells, _, _ in below:
+        cells[place] = cells[place] or size
+    return size
+
+
+def list_wishes(costs):
+    """Turns a sheet of wishes, with a row for each person, into a list of pairs that have the
+    numbers of the wishes as their costs. A person without a wish has a forbidden pair. Notes in the
+    table that it did so."""
+    rows, wishes = wishes_of(costs) or (None, [])
+    if not rows:
+        return
+    titles, below = rows.cells(rows.begin, rows.mark)[: costs.width], list(rows.below())
+    size, who = share_needs(titles, below), list(map(named, titles)).index("who")
+    own, lines, count = [k for k in range(len(titles)) if k not in (who, *wishes)], [], 0
+    thing = next(c[k] for c, _, _ in below for k in wishes if c[k] not in NO_WISH)
+    for cells, begin, _ in below:
+        places = [*own, *range(len(titles), len(cells))]
+        sources = {number: (begin + 1, place) for number, place in enumerate(places, 3)}
+        pairs = [(cells[place], cost) for cost, place in enumerate(wishes, 1)]
+        pairs = [pair for pair in pairs if pair[0] not in NO_WISH]
+        count += len(pairs)
+        for pair in pairs or [(thing, "")]:
+            lines.append(((cells[who], *pair, *(cells[place] for place in places)), sources))
+    become_list(costs, rows.mark, ["who", "what", "cost", *(titles[k] for k in own)], lines)
+    told = count_of(count, "wish", "wishes")
+    costs.notes.append(
+        f"{costs.name} is a sheet of wishes: it is read as a list of {told}, of which a first one"
+        " costs 1, a second one 2 and so on."
+    )
+    costs.notes.append(
+        f"The number {shown(size)} of column needs holds for each thing."
+        if size
+        else "No column needs says how many persons a thing takes, such as 0..28: each takes one."
+    )
+
+
 def prepare(tables, wanted, columns):
     """Fills columns of tables down, leaves rows of totals out, and turns a matrix of costs into a
-    list of routes. Notes in the tables what it did; a column that no table has ends the run."""
+    list of routes, a sheet of wishes into one of pairs. Notes in the tables what it did; a column
+    that no table has ends the run."""
     if "supply" in wanted[0]:
         list_matrix(*tables)
+    else:
+        list_wishes(tables[0])
     for table, heads in zip(tables, wanted):
         last = Rows(table, heads).total()
         if last:

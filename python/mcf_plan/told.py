@@ -25,8 +25,8 @@ NOTHING = (
     " columns who, what and cost, a matrix things in its first line and persons in its first column"
 )
 WISHES = (
-    "; if these are wishes, write a list with a line who, what, cost for each wish: 1 as the cost"
-    " of a first one, 2 of a second"
+    "; if these are wishes, call the column of the names who and those of the wishes 1, 2 and so"
+    " on, or write a list with a line who, what, cost for each wish"
 )
 BEYOND = "{this} is beyond the limits, by itself or in total (LIMITS in `man mcf`)"
 # What is wrong, as `mcfplan` calls it, perhaps with its column, and the sentence.
@@ -280,7 +280,7 @@ class Teller:
         return f"; if cells are merged in the spreadsheet, say --fill-down {title}"
 
     def wishes(self, word):
-        """A hint at a list of wishes, if most filled cells of a matrix are words."""
+        """A hint at a sheet of wishes, if most filled cells of a matrix are words."""
         sheet = self.sheets[word]
         cells = [cell for _, row in sheet.rows for cell in row[1:] if cell.lower() not in FORBIDDEN]
         are_words = 2 * sum(cell[:1].isalpha() for cell in cells) > len(cells)

@@ -7,6 +7,9 @@ import re
 import shutil
 import unittest
 
+from mcf_plan import tables
+from mcf_plan.figures import Figure
+from mcf_plan.preparing import prepare
 from support import PLACES, ROUTES, WithFolder, rows_of, run
 
 # Tables with options, the expected status and message, and what the page shows. The tests of the
@@ -302,6 +305,19 @@ class Reading(WithFolder):
     def test_costs_with_decimals_of_pairs(self):
         self.assertIn("cost 0,3.", self.pairs(";X;Y\nA;0,1;0,7\nB;0,3;0,2\n")[1])
         self.assertEqual((self.out / "pairs.csv").read_text(), "who;what;cost\nA;X;0,1\nB;Y;0,2\n")
+
+    def test_a_workbook_with_a_sheet_of_wishes(self):
+        heads, wanted = ["Pupils; 8a", "who", Figure("1"), Figure("2"), "needs"], ("who", "what")
+        rows = [heads, ["x", "Ann", "Choir", "Chess", Figure("2")], ["y", "Ben", "Choir", "", ""]]
+        table = tables.sheet_with("plan.xlsx", [("a", rows)], wanted, tables.Reading())
+        prepare([table], [wanted], ())
+        self.assertEqual(
+            table.text,
+            "who,what,cost,Pupils; 8a,needs\n"
+            "Ann,Choir,1,x,2\nAnn,Chess,2,x,2\nBen,Choir,1,y,2\n",
+        )
+        self.assertEqual((table.figures, table.width), ({(2, 4): "2", (3, 4): "2"}, 5))
+        self.assertIn("sheet a is a sheet of wishes: it is read as a list of 3 ", table.notes[0])
 
 
 @unittest.skipUnless(importlib.util.find_spec("openpyxl"), "openpyxl isn't there: workbooks")
