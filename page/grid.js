@@ -32,11 +32,12 @@ let viewed = '';
 export class Grid {
   /**
    * @param {Sheet} sheet
-   * @param {{ mark: string, change: Changing }} settings
+   * @param {{ mark: string, change: Changing, viewing: () => void }} settings
    */
-  constructor(sheet, { mark, change }) {
+  constructor(sheet, { mark, change, viewing }) {
     this.mark = mark;
     this.change = change;
+    this.viewing = viewing;
     this.element = el('section');
     if (sheet.views) this.choose(sheet.views, sheet.views.labels.indexOf(viewed));
     else this.put(sheet);
@@ -96,6 +97,7 @@ export class Grid {
       onchange: () => {
         viewed = views.labels[field.selectedIndex];
         this.choose(views, field.selectedIndex);
+        this.viewing();
         this.settle();
         this.element.querySelector('select').focus();
       },

@@ -34,18 +34,23 @@ const RESULTS = [
   FLOW_RESULTS, RANGE_RESULTS, PLACE_RESULTS, THROUGH_RESULTS, ROUTE_PERIODS, PLACE_PERIOD,
 ];
 
-// This function returns the columns of a table that the results copy and nothing else uses: those
-// without these heads, nor with heads of steps where the table has steps. Columns of earlier
-// results are left out, since new results replace them.
-/** @type {(table: Table, known: string[], hasSteps?: boolean) => string[]} */
-export function carriedOf(table, known, hasSteps = false) {
-  const isUsed = (/** @type {string} */ head) =>
+/** @typedef {{ name: string, isUsed: boolean }} Carried a column, and whether sums use it */
+
+// This function returns the columns of a table that the results copy and the module doesn't read:
+// those without these heads, nor with heads of steps where the table has steps. Sums use the places
+// of `used`. Columns of earlier results are left out, since new results replace them.
+/** @type {(table: Table, known: string[], used: number[], hasSteps?: boolean) => Carried[]} */
+export function carriedOf(table, known, used, hasSteps = false) {
+  const isRead = (/** @type {string} */ head) =>
     known.includes(head) || (hasSteps && /^(most|cost) [0-9]+$/.test(head));
   const isThere = (/** @type {number} */ place) =>
     table.titles[place] || table.rows.some(({ cells }) => cellAt(cells, place));
   return table.kept(...RESULTS)
-    .filter((place) => !isUsed(table.heads[place]) && isThere(place))
-    .map((place) => plainHead(table.titles[place]) || `column ${place + 1}`);
+    .filter((place) => !isRead(table.heads[place]) && isThere(place))
+    .map((place) => ({
+      name: plainHead(table.titles[place]) || `column ${place + 1}`,
+      isUsed: used.includes(place),
+    }));
 }
 
 // What no minimum-cost flow says: heads that planners give it, its words, and what does say it.
@@ -70,17 +75,16 @@ const NO_FLOW = [
   ['tour, tours, sequence, reihenfolge', 'tours', 'a vehicle-routing solver such as VROOM'],
 ];
 
-// This function returns a line that lists the copied columns, if there are any, and one on each
-// that says what no minimum-cost flow does.
-/** @type {(columns: string[]) => string[]} */
+// This function returns a line that lists the copied columns without a use, if there are any, and
+// one on each column that says what no minimum-cost flow does.
+/** @type {(columns: Carried[]) => string[]} */
 export function carriedLines(columns) {
-  const names = [...new Set(columns)];
-  return names.length
-    ? [
-      `Columns carried along, not used: ${listed(names, LISTED)}.`,
-      ...names.flatMap(beyondLines),
-    ]
-    : [];
+  const namesOf = (/** @type {Carried[]} */ some) => [...new Set(some.map(({ name }) => name))];
+  const unused = namesOf(columns.filter(({ isUsed }) => !isUsed));
+  return [
+    ...(unused.length ? [`Columns carried along, not used: ${listed(unused, LISTED)}.`] : []),
+    ...namesOf(columns).flatMap(beyondLines),
+  ];
 }
 
 // This function returns a line on a column, if its name is that of what no minimum-cost flow says.

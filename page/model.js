@@ -23,6 +23,7 @@ import { words } from './words.js';
 
 const BOUND_HEADS = ['least', 'most', 'cost'];
 const PLACE_PERIODS = ['period', 'keep most', 'keep cost', 'first stock', 'last stock'];
+const ROUTE_HEADS = [...NEEDED.routes, 'least', 'both', 'period', 'lead'];
 const YES = ['yes', 'y', 'x', '1', 'true', 'ja', 'j'];
 
 /**
@@ -74,15 +75,17 @@ export class Problem {
   /** @type {(place: Place) => bigint | null} */
   penaltyOf({ penalty }) { return penalty === null ? this.penalty : penalty; }
 
-  // This method returns lines on how the tables were read.
-  /** @type {(policy: Policy) => string[]} */
-  told({ short }) {
+  // This method returns lines on how the tables were read, beside sums by these columns.
+  /** @type {(policy: Policy, by?: import('./sums.js').FlowColumn[]) => string[]} */
+  told({ short }, by = []) {
     const { placeTable, routeTable } = this, hasSpots = placeTable.has(SPOT_HEADS);
     const cells = numberCells({ places: placeTable, routes: routeTable });
     const known = [
       ...NEEDED.places, ...BOUND_HEADS, 'penalty', ...(hasSpots ? SPOT_HEADS : []),
       ...PLACE_PERIODS,
     ];
+    const placesIn = (/** @type {string} */ word) =>
+      by.filter(([table]) => table === word).map(([, place]) => place);
     const isUnused = !short && this.places.some(({ penalty }) => penalty !== null);
     const supply = placeTable.heads.indexOf('supply');
     const empty = this.places.filter(({ cells: row }) => !cellAt(row, supply)).length;
@@ -93,8 +96,8 @@ export class Problem {
         ? [`Penalties aren't used, since no demand may be short (${words().short}).`]
         : []),
       ...carriedLines([
-        ...carriedOf(placeTable, known),
-        ...carriedOf(routeTable, [...NEEDED.routes, 'least', 'both', 'period', 'lead'], true),
+        ...carriedOf(placeTable, known, placesIn('places')),
+        ...carriedOf(routeTable, ROUTE_HEADS, placesIn('routes'), true),
       ]),
       ...readLine(settledBy(cells, this.mark), this.mark, this.reading),
     ];

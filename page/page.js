@@ -299,7 +299,9 @@ const headOf = ({ isPlan, headline, caption, result }) => [
 /** @type {(shown: CaptionedRun, change: Change | null, before: FlowPlan | null) => void} */
 function show(shown, change, before) {
   const { result, mark, caption } = shown;
-  const settings = { mark, change: changed };
+  const lead = el('div');
+  const viewing = () => lead.replaceChildren(...shown.lead().map((line) => paragraph(line)));
+  const settings = { mark, change: changed, viewing };
   const drawn = shown.scenes ? shown.scenes(caption).map(svgOf) : [];
   document.title = caption.title || 'Least-cost plans';
   const differs = change && changeParts(shown, change, before);
@@ -313,7 +315,7 @@ function show(shown, change, before) {
   const ms = (/** @type {number} */ time) => `${time < 10 ? time.toFixed(1) : time.toFixed(0)} ms`;
   replaceResult(
     headOf(shown),
-    shown.lead.map((line) => paragraph(line)),
+    lead,
     differs && el('div', { class: 'changed' }, differs.parts, made(differs.sheets)),
     shown.facts.length
       ? el(
@@ -340,6 +342,7 @@ function show(shown, change, before) {
         + `${(result.peak / 2 ** 20).toFixed(1)} MB at most.`
     )
   );
+  viewing();
 }
 
 /** @type {(finding: Finding) => HTMLElement} */

@@ -109,14 +109,15 @@ export class Roster {
     return this.table.rows.some(({ cells }) => read(cells)[0]);
   }
 
-  // This method returns lines on how the table was read. A matrix has no unused columns.
-  told() {
+  // This method returns lines on how the table was read, beside sums by columns at some places. A
+  // matrix has no unused columns.
+  told(by = /** @type {number[]} */ ([])) {
     const known = [...NEEDED.costs, 'takes', 'needs'], cells = numberCells({ costs: this.table });
     return [
       ...this.notes,
       ...carriedLines([
-        ...(this.isList ? carriedOf(this.table, known) : []),
-        ...(this.groupTable ? carriedOf(this.groupTable, GROUP_HEADS) : []),
+        ...(this.isList ? carriedOf(this.table, known, by) : []),
+        ...(this.groupTable ? carriedOf(this.groupTable, GROUP_HEADS, []) : []),
       ]),
       ...readLine(settledBy(cells, this.mark), this.mark, this.reading),
     ];

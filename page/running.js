@@ -158,7 +158,7 @@ export async function runPairs(solver, sources, choices) {
 const withoutTables = (isPlan, headline, line, result, instance) => ({
   isPlan,
   headline,
-  lead: [line],
+  lead: () => [line],
   facts: [],
   findings: [],
   sheets: [],

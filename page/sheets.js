@@ -62,11 +62,11 @@ export function planShown(plan) {
     headline: ({ currency }) =>
       `Least cost: ${grouped(units.total(plan.cost), said.mark, currency)}`,
     mark: said.mark,
-    lead: [
+    lead: () => [
       ...warnings(problem, plan.policy),
       'No plan for these tables costs less.',
       ...besideLines(plan),
-      ...problem.told(plan.policy),
+      ...problem.told(plan.policy, [views.columns[views.chosen]]),
       ...(plan.hasRanges ? [RANGES] : []),
     ],
     facts,
@@ -324,7 +324,7 @@ export function blockedShown(blocked) {
     isPlan: false,
     headline: ({ unit }) => `No plan exists: ${whyBlocked(blocked, unit)}`,
     mark: problem.said.mark,
-    lead: [
+    lead: () => [
       ...warnings(problem, blocked.policy),
       'Whatever way amounts go, these places must send or take more than the routes around them '
         + 'carry.',
@@ -457,7 +457,9 @@ export function pairsShown(roster) {
       `${maximise ? 'Greatest value' : 'Least cost'}: `
         + grouped(units.total(roster.cost), said.mark, currency),
     mark: said.mark,
-    lead: [...pairsSummary(roster).slice(2), ...roster.told()],
+    lead: () => [
+      ...pairsSummary(roster).slice(2), ...roster.told([views.columns[views.chosen]]),
+    ],
     facts: [
       [roster.persons.size, 'persons'],
       [roster.things.size, 'things'],
@@ -489,7 +491,7 @@ export function pairsBlocked(roster) {
     isPlan: false,
     headline: () => 'No such pairs exist',
     mark: roster.said.mark,
-    lead: [...lines.filter((line, k) => k && !line.startsWith(' ')), ...roster.told()],
+    lead: () => [...lines.filter((line, k) => k && !line.startsWith(' ')), ...roster.told()],
     facts: [],
     findings: rivals.map((found) => ({
       figures: found.groups.length ? [] : shortfallOf(found),
@@ -546,7 +548,7 @@ export function textShown(network, plan) {
     isPlan: true,
     headline: ({ currency }) => `Least cost: ${grouped(String(plan.cost), '.', currency)}`,
     mark: '.',
-    lead: [],
+    lead: () => [],
     facts: [[supplies.length, 'nodes'], [arcs.length, 'arcs'], [carrying, 'carry something']],
     findings: [],
     sheets: [arcsSheet(network, plan), nodesSheet(network, plan)],
@@ -577,7 +579,7 @@ export function textBlocked(bottlenecks) {
     isPlan: false,
     headline: () => 'No flow exists',
     mark: '.',
-    lead: [],
+    lead: () => [],
     facts: [],
     findings,
     tables: () => [],

@@ -148,7 +148,7 @@ async function flow(solver, sources, choices) {
     said: [
       ...slips(problem, choices.policy).map((line) => `mcf_plan: warning: ${line}`),
       ...(plan ? flowSummary(plan) : blockedSummary(blocked)),
-      ...problem.told(choices.policy),
+      ...problem.told(choices.policy, columnsOf(problem, choices.by)),
     ],
     status: plan ? 0 : 1,
     mark: problem.mark,
@@ -166,7 +166,10 @@ async function pairs(solver, sources, choices) {
   const { roster, result } = await pairsOf(solver, sources, choices);
   const rivals = result.status === 'flow' ? null : roster.rivals();
   return {
-    said: [...(rivals ? rivalsLines(roster, rivals) : pairsSummary(roster)), ...roster.told()],
+    said: [
+      ...(rivals ? rivalsLines(roster, rivals) : pairsSummary(roster)),
+      ...roster.told(placesOf(roster.table, choices.by)),
+    ],
     status: rivals ? 1 : 0,
     mark: roster.mark,
     tables: rivals
@@ -240,7 +243,8 @@ async function mapped(expect, solver) {
     ],
     asked([])
   );
-  expect(planShown(plan).lead.length === 1, `a place like a word: ${planShown(plan).lead}`);
+  const lead = planShown(plan).lead();
+  expect(lead.length === 1, `a place like a word: ${lead}`);
   const { tables, mark } = await told('flow', solver, sources, asked(['--map', 'cost=total']));
   const flows = csvOf(tables[0], mark);
   expect(

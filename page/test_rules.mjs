@@ -30,7 +30,7 @@ async function shownOf(rule, solver, sources) {
         `${grouped(String(value), mark, units(isAmount))} ${what}`
       );
       const found = findings.flatMap(Object.values);
-      return [headline(caption), ...lead, ...boxes, ...found, heading, ...Object.values(notes), '']
+      return [headline(caption), ...lead(), ...boxes, ...found, heading, ...Object.values(notes), '']
         .join('\n');
     },
     (error) => error.lines.join('\n')

@@ -127,6 +127,11 @@ async function sums(expect) {
   ]) {
     expect(rowsOf(views.sheet(k)) === rows, `${views.labels[k]}: ${rowsOf(views.sheet(k))}`);
   }
+  const told = (columns) => shown.lead().includes(`Columns carried along, not used: ${columns}.`);
+  expect(told('Region, Art'), shown.lead().join('; '));
+  views.chosen = 1;
+  expect(told('Art'), `a column of sums is used: ${shown.lead()}`);
+  views.chosen = 0;
   expect(views.sheet(2).row(1).kind === 'idle' && views.sheet(2).hasIdle, 'routes that are idle');
   const text = () => csvOf(shown.tables()[2], ',');
   expect(!text().includes('Region;') && !text().includes(';carries;'), text());
@@ -160,7 +165,7 @@ async function penalties(expect) {
   expect(headline(caption) === 'Least cost: 5,375 EUR', headline(caption));
   expect(scene.heading === 'A least-cost plan: cost 5,375 EUR', 'the picture');
   expect(scene.notes.flowing.endsWith('(widest 2,5 hl)'), 'the legend');
-  expect(lead.includes(missing), lead.join('; '));
+  expect(lead().includes(missing), lead().join('; '));
   expect(String(facts[4]) === '1.5,are missing,true', String(facts));
   expect(flowSummary(free)[2] === '1,5 are missing at: B 1,5.', flowSummary(free)[2]);
   expect(row(free) === '(missing);B;;;1,5;0;;;;', row(free));
@@ -191,7 +196,8 @@ async function leads(expect) {
   const unmet = [['1', '0'], ['1', '0']], policy = { unused: true };
   const { plan } = await flow('plan', places, routes, { carries: [['0', '0']], unmet }, policy);
   const { blocked } = await flow('no plan', places, routes, {}, policy);
-  for (const { lead } of [planShown(plan), blockedShown(blocked)]) {
+  for (const shown of [planShown(plan), blockedShown(blocked)]) {
+    const lead = shown.lead();
     expect(
       lead[0].startsWith(
         'Warning: no supply is below 0, so no place takes anything, and all that is sent stays: was'

@@ -436,12 +436,15 @@ interface SidePart {
   amount: string;
 }
 
-/** What is shown of an answer. `scenes` are what is drawn, `plan` is only there with routes. */
+/**
+ * What is shown of an answer. `scenes` are what is drawn, `plan` is only there with routes. The lead
+ * names columns without a use, so it changes with the column of the sums that are shown.
+ */
 interface Shown {
   isPlan: boolean;
   headline(caption: Caption): string;
   mark?: string;
-  lead: string[];
+  lead(): string[];
   facts: [value: string | number, what: string, isAmount?: boolean][];
   findings: Finding[];
   scenes?: (caption: Caption) => Scene[];

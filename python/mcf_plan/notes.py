@@ -8,6 +8,7 @@ from .figures import EITHER, figure, mark_in, value_of
 from .problem import SPOT_HEADS
 from .results import kept
 from .roster import is_list
+from .sums import columns_named, tables_of
 from .words import count_of, listed
 
 # The most carried columns to name.
@@ -60,24 +61,26 @@ def known_heads(word, sheet):
 
 
 def carried(word, table, sheet):
-    """The unused columns of a table, which are carried along to the results. Columns of earlier
-    results aren't among them, because the tool writes them again."""
+    """The columns of a table that `mcfplan` doesn't read, which are carried along to the results:
+    each as the word of its table and its place there, with its name. Columns of earlier results
+    aren't among them, because the tool writes them again."""
     return [
-        shown(table.title(sheet.titles[place]))[1:-1] or f"column {place + 1}"
+        ((word, place), shown(table.title(sheet.titles[place]))[1:-1] or f"column {place + 1}")
         for place in kept(sheet)
         if sheet.heads[place] not in known_heads(word, sheet)
         and (sheet.titles[place] or any(cell_at(cells, place) for _, cells in sheet.rows))
     ]
 
 
-def carried_lines(words, tables, sheets):
-    """A line on the columns that are carried along, if there are any, and one on each that says
-    what no minimum-cost flow does."""
-    columns = [name for one in zip(words, tables, sheets) for name in carried(*one)]
-    columns = list(dict.fromkeys(columns))
-    names = listed(columns, NAMED)
+def carried_lines(words, tables, sheets, used):
+    """A line on the columns that are carried along and not used, if there are any, and one on each
+    that says what no minimum-cost flow does. The used ones are those of sums."""
+    columns = [column for one in zip(words, tables, sheets) for column in carried(*one)]
+    names = listed(list(dict.fromkeys(name for one, name in columns if one not in used)), NAMED)
     lines = [f"Columns carried along, not used: {names}."] if names else []
-    return lines + [line for name in columns for line in beyond_lines(name)]
+    return lines + [
+        line for name in dict.fromkeys(name for _, name in columns) for line in beyond_lines(name)
+    ]
 
 
 def beyond_lines(name):
@@ -147,5 +150,6 @@ def notes_of(problem):
     sheets = problem.place_sheet, problem.route_sheet
     cells = [cell for one in zip(words, tables, sheets) for cell in number_cells(*one)]
     lines = prepared_lines(tables) + supply_lines(problem) + penalty_lines(problem)
-    lines += carried_lines(words, tables, sheets)
+    used = columns_named(problem.options.by, tables_of(problem))
+    lines += carried_lines(words, tables, sheets, used)
     return lines + reading_lines(cells, problem, problem.options.decimal)

@@ -3,6 +3,7 @@ from . import groups, notes
 from .competitions import competitions_of
 from .figures import Figure
 from .roster import PAIR_HEADS
+from .sums import pair_columns
 from .words import TOLD_NAMES, count_of, listed
 
 
@@ -12,7 +13,8 @@ def notes_of(roster):
     lines, words = notes.prepared_lines([table, roster.group_table]), []
     words += [("costs", table, sheet)] if roster.is_list else []
     words += [("groups", roster.group_table, roster.group_sheet)] if roster.group_sheet else []
-    lines += notes.carried_lines(*zip(*words)) if words else []
+    used = [("costs", place) for place in pair_columns(roster.options.by, roster)]
+    lines += notes.carried_lines(*zip(*words), used) if words else []
     cells = notes.number_cells("costs", table, sheet)
     return lines + notes.reading_lines(cells, roster, roster.options.decimal)
 
