@@ -39,6 +39,10 @@ class Comparison:
             for key in keys
         ]
 
+    def can_differ(self):
+        """Whether at least two of the plans exist."""
+        return sum(plan.cost is not None for plan in self.plans) > 1
+
     def difference(self, values):
         """How far the numbers of plans are apart, where a route that isn't there carries 0."""
         known = [value or 0 for value, plan in zip(values, self.plans) if plan.cost is not None]
@@ -72,7 +76,7 @@ class Comparison:
         rows = [(name_text(key), values) for key, values in found[:TOLD]]
         told = f"{len(found)} of {len(self.parts)} {word} differ"
         lines = self.table([("", self.labels)], self.figures) + self.notes()
-        if sum(plan.cost is not None for plan in self.plans) < 2:
+        if not self.can_differ():
             return lines
         if not found:
             return lines + [told + "."]

@@ -40,11 +40,8 @@ def page_of(comparison):
     """The page of a comparison."""
     word, found = "amounts" if comparison.is_flow else "pairs", comparison.differing()
     plans = len(comparison.plans)
-    facts = [
-        (Figure(plans), "plans"),
-        (Figure(len(comparison.parts)), word),
-        (Figure(len(found)), "differ"),
-    ]
+    facts = [(Figure(plans), "plans"), (Figure(len(comparison.parts)), word)]
+    facts += [(Figure(len(found)), "differ")] if comparison.can_differ() else []
     title = f"{plans} plans side by side"
     sheets = [figures_sheet(comparison), parts_sheet(comparison, found)]
     return Page(title, title, True, comparison.notes(), facts, [], [], sheets)
@@ -58,14 +55,16 @@ def figures_sheet(comparison):
 
 
 def parts_sheet(comparison, differing):
-    """The table of the routes or pairs: those that differ, most of all first, then the others."""
+    """The table of the routes or pairs: those that differ, most of all first, then the others; and
+    by how much, if at least two plans exist."""
     ends = ["from", "to"] if comparison.is_flow else ["who", "what"]
     others = [row for row in comparison.parts if not comparison.difference(row[1])]
-    rows = []
+    columns, rows = [(head, "") for head in [*ends, *comparison.labels]], []
     for key, values in differing + others:
-        kind = "" if any(values) else "idle"
-        rows.append((kind, [*key[:2], *map(figure, values), figure(comparison.difference(values))]))
-    columns = [(head, "") for head in [*ends, *comparison.labels]]
-    columns.append(("differ by", "the greatest less the least; not there: 0"))
+        rows.append(("" if any(values) else "idle", [*key[:2], *map(figure, values)]))
+        if comparison.can_differ():
+            rows[-1][1].append(figure(comparison.difference(values)))
+    if comparison.can_differ():
+        columns.append(("differ by", "the greatest less the least; not there: 0"))
     rows, note = listed_rows(rows)
     return Sheet("Amounts" if comparison.is_flow else "Pairs", columns, rows, (), note)

@@ -98,9 +98,12 @@ class Compare(WithFolder):
             self.made(name, f"name,supply\nA,{amount}\nB,-{amount}\n", routes)
             for name, amount in (("a", 2), ("b", 3))
         ]
-        said = run("compare", *plans)[1]
+        said = run("compare", *plans, "-o", self.folder / "c")[1]
         self.assertIn("b: no plan exists: ", said)
         self.assertNotIn("differ", said)
+        page = (self.folder / "c/compare.html").read_text(encoding="utf-8")
+        self.assertIn("b: no plan exists: ", page)
+        self.assertNotIn("differ", page)
 
     def test_tables_with_a_byte_order_mark(self):
         plan = self.made("plan", "\ufeff" + PLACES, "\ufeff" + ROUTES)
