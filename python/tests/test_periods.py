@@ -10,58 +10,58 @@ from test_planner import PROGRAM, Answering, repeated, rows_of
 
 CASES, FIGURE_CASES = 500, 60
 
-# Tables of places and of routes with faults about periods, and these: the table, the line, the
-# column, and what is wrong.
+
+def faulty(places, routes, *faults):
+    """Texts of places and of routes, and their faults: the table, the line, the column and what is
+    wrong, with commas between them."""
+    return places, routes, [tuple(fault.split(", ", 3)) for fault in faults]
+
+
+# Tables with faults about periods.
 FAULTS = [
-    (
+    faulty(
         "name,supply,period\nA,1,Jan\nA,-1,Jan\n",
         "from,to,most,cost\nA,A,1,1\n",
-        [("places", "3", "period", "named twice in a period")],
+        "places, 3, period, named twice in a period",
     ),
-    (
+    faulty(
         "name,supply,period,keep most,keep cost\nA,1,Jan,-1,\nA,-1,,x,y\n",
         "from,to,most,cost,lead\nA,A,1,1,1.5\nA,A,1,1,-1\n",
-        [
-            ("places", "2", "keep most", "below 0"),
-            ("places", "3", "period", "named twice in a period"),
-            ("places", "3", "keep most", "no number"),
-            ("places", "3", "keep cost", "no number"),
-            ("routes", "2", "lead", "no number of periods"),
-            ("routes", "3", "lead", "no number of periods"),
-        ],
+        "places, 2, keep most, below 0",
+        "places, 3, period, named twice in a period",
+        "places, 3, keep most, no number",
+        "places, 3, keep cost, no number",
+        "routes, 2, lead, no number of periods",
+        "routes, 3, lead, no number of periods",
     ),
-    (
+    faulty(
         "name,supply,period,first stock,last stock\nA,1,Jan,,2\nA,-1,Feb,2,-1\n",
         "from,to,most,cost,period\nA,A,1,1,March\n",
-        [
-            ("places", "2", "last stock", "not in the last period"),
-            ("places", "3", "first stock", "not in the first period"),
-            ("places", "3", "last stock", "below 0"),
-            ("routes", "2", "period", "no such period"),
-        ],
+        "places, 2, last stock, not in the last period",
+        "places, 3, first stock, not in the first period",
+        "places, 3, last stock, below 0",
+        "routes, 2, period, no such period",
     ),
-    (
+    faulty(
         "name,supply\nA,0\n",
         "from,to,most,cost,lead\nA,A,1,1,1\n",
-        [("routes", "1", "lead", "not read without period")],
+        "routes, 1, lead, not read without period",
     ),
-    (
+    faulty(
         "name,supply,period\nA,0,Jan\n",
         "from,to,most,cost,lead\nA,A,1,1,1\nA,B,1,1,0\n",
-        [("routes", "3", "to", "no such place")],
+        "routes, 3, to, no such place",
     ),
-    (
+    faulty(
         "name,supply,period\nA,0,Jan\n",
         "from,to,most,cost,lead\nA,A,1,1,1\nA,A,1,1,0\n",
-        [("routes", "2", "lead", "arrives after the last period")],
+        "routes, 2, lead, arrives after the last period",
     ),
-    (
+    faulty(
         "name,supply,period,keep most,keep cost\nA,0,Jan,,\nA,0,Feb,,-1\nA,0,March,,\n",
         "from,to,most,cost,most 2,cost 2,lead\nA,A,1,5,4,2,2\n",
-        [
-            ("places", "3", "keep most", "no limit, but a cost below 0"),
-            ("routes", "2", "cost", "falling cost"),
-        ],
+        "places, 3, keep most, no limit, but a cost below 0",
+        "routes, 2, cost, falling cost",
     ),
 ]
 
