@@ -1,5 +1,5 @@
 // @ts-check
-// This file draws a picture of many places as SVG: dots, with as many names and amounts as fit.
+// This file draws pictures of many places as SVG: dots, with as many names and amounts as fit.
 import {
   COLOURS,
   PAGE,
@@ -24,13 +24,29 @@ const BLOCKING = ` stroke="${COLOURS.limits}" stroke-width="2"`;
 // between blocks, and how many names and amounts the picture tries to place.
 const ROUND = 3.4, STEP = 16, FAR = 220, CLOSE = 90, TRIED = 1000;
 
-// This function draws dots on a map, or in blocks by their distance from the places that send.
-// Routes that matter are arrows.
-/** @type {(scene: Scene) => string} */
-export function dotsSvg(scene) {
-  const links = scene.links.filter((link) => !isQuiet(link));
-  const blocking = new Set(scene.groups.flatMap((group) => [...group]));
-  const weights = weightsOf(scene, links, blocking), spots = dotSpots(scene, weights);
+// This function draws scenes, beside one that has all of their routes. Dots are on a map, or in
+// blocks by their distance from the places that send.
+/** @type {(scenes: Scene[], whole: Scene) => string[]} */
+export function dotsSvgs(scenes, whole) {
+  const spots = dotSpots(whole, weightsOf(whole, importantOf(whole), blockingOf(whole)));
+  const drawn = scenes.map((scene) => contentOf(scene, spots));
+  const corners = drawn.flatMap(({ corners: found }) => found);
+  return drawn.map(({ body }, k) =>
+    framed(corners, scenes[k], body, legendOf(scenes[k], dotSwatch, dotSample), 'dots')
+  );
+}
+
+/** @type {(scene: Scene) => SceneLink[]} */
+const importantOf = ({ links }) => links.filter((link) => !isQuiet(link));
+
+/** @type {(scene: Scene) => Set<number>} */
+const blockingOf = ({ groups }) => new Set(groups.flatMap((group) => [...group]));
+
+// This function returns what a picture has, and its corners. Routes that matter are arrows.
+/** @type {(scene: Scene, spots: Spot[]) => { body: string[], corners: Spot[] }} */
+function contentOf(scene, spots) {
+  const links = importantOf(scene), blocking = blockingOf(scene);
+  const weights = weightsOf(scene, links, blocking);
   const [tags, [left, top, right, bottom]] = dotLabels(scene.nodes, links, weights, spots);
   const marked = (/** @type {SceneLink} */ { kind }) => Number(kind !== 'flowing');
   const order = [...links].sort((a, b) => marked(a) - marked(b) || b.width - a.width);
@@ -46,13 +62,7 @@ export function dotsSvg(scene) {
         + `<title>${title}</title></circle>`
     );
   });
-  return framed(
-    [[left, top], [right, bottom]],
-    scene,
-    [...body, ...tags],
-    legendOf(scene, dotSwatch, dotSample),
-    'dots'
-  );
+  return { body: [...body, ...tags], corners: [[left, top], [right, bottom]] };
 }
 
 // This function weighs the places: those in bottlenecks come first, then those with the widest

@@ -5,7 +5,7 @@ import { Comparison, changesShown } from './compare.js';
 import { BadTable } from './faults.js';
 import { Grid } from './grid.js';
 import { headsOf } from './heads.js';
-import { svgOf } from './picture.js';
+import { svgsOf } from './picture.js';
 import { csvOf } from './report.js';
 import { runFlow, runPairs, runText } from './running.js';
 import { textOf } from './tables.js';
@@ -302,7 +302,7 @@ function show(shown, change, before) {
   const lead = el('div');
   const viewing = () => lead.replaceChildren(...shown.lead().map((line) => paragraph(line)));
   const settings = { mark, change: changed, viewing };
-  const drawn = shown.scenes ? shown.scenes(caption).map(svgOf) : [];
+  const drawn = shown.scenes ? svgsOf(shown.scenes(caption)) : [];
   document.title = caption.title || 'Least-cost plans';
   const differs = change && changeParts(shown, change, before);
   grids = [];

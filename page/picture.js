@@ -1,7 +1,7 @@
 // @ts-check
-// This file draws a scene as SVG: boxes and arrows; dots if there are many places; rows if there
-// are many places and each only sends or only takes.
-import { dotsSvg } from './dots.js';
+// This file draws scenes as SVG: boxes and arrows; dots if there are many places; rows if there are
+// many places and each only sends or only takes.
+import { dotsSvgs } from './dots.js';
 import {
   SHADE,
   SOFT,
@@ -23,6 +23,7 @@ import {
 import { laidOut, samples } from './layout.js';
 import { Room } from './room.js';
 import { rowsAreBetter, rowsSvg } from './rows.js';
+import { slotsOf, together } from './together.js';
 
 // If there are more places or routes than this, the picture has dots.
 const BOXES = 300, CURVES = 1500;
@@ -30,9 +31,16 @@ const BOXES = 300, CURVES = 1500;
 const INNER = 3;
 
 /** @type {(scene: Scene) => string} */
-export function svgOf(scene) {
-  if (scene.nodes.length > BOXES || scene.links.length > CURVES) return dotsSvg(scene);
-  return rowsAreBetter(scene) ? rowsSvg(scene) : boxesSvg(scene);
+export const svgOf = (scene) => svgsOf([scene])[0];
+
+// This function draws scenes of the same places, each of which is at the same spot in all pictures.
+/** @type {(scenes: Scene[]) => string[]} */
+export function svgsOf(scenes) {
+  const whole = together(scenes);
+  if (whole.nodes.length > BOXES || whole.links.length > CURVES) return dotsSvgs(scenes, whole);
+  if (rowsAreBetter(whole)) return scenes.map((scene) => rowsSvg(scene, whole));
+  const layout = laidOut(taskOf(whole));
+  return scenes.map((scene) => boxesSvg(scene, layout, slotsOf(scene, whole)));
 }
 
 /** @type {(node: SceneNode) => Size} */
@@ -52,10 +60,13 @@ function taskOf({ nodes, links }) {
   };
 }
 
-/** @type {(scene: Scene) => string} */
-function boxesSvg(scene) {
-  const { boxes, curves, labels } = laidOut(taskOf(scene));
-  const { links, nodes, groups } = scene;
+// This function draws a scene with boxes and curves, by a layout of perhaps more routes. There
+// those of the scene have the numbers in `slots`.
+/** @type {(scene: Scene, layout: Layout, slots: number[]) => string} */
+function boxesSvg(scene, layout, slots) {
+  const { links, nodes, groups } = scene, { boxes } = layout;
+  const curves = slots.map((slot) => layout.curves[slot]);
+  const labels = slots.map((slot) => layout.labels[slot]);
   const body = [
     ...shades(scene, boxes, curves),
     ...orderOf(links).map((k) => arrow(links[k], curves[k])),
@@ -68,7 +79,7 @@ function boxesSvg(scene) {
       [x - width / 2, y - height / 2],
       [x + width / 2, y + height / 2],
     ])),
-    ...curves.flatMap((curve) => samples(curve, 6)),
+    ...layout.curves.flatMap((curve) => samples(curve, 6)),
   ];
   return framed(corners, scene, body, legendOf(scene, boxSwatch));
 }

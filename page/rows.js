@@ -1,5 +1,5 @@
 // @ts-check
-// This file draws a picture of many places, each of which only sends or only takes, as SVG: a row
+// This file draws pictures of many places, each of which only sends or only takes, as SVG: a row
 // for each route, in columns. The rows of one place stand together, beside its box. The place at
 // the other end may appear several times.
 import {
@@ -16,9 +16,10 @@ import {
   textWidth,
   xmlText,
 } from './drawing.js';
+import { slotsOf } from './together.js';
 
-// The routes of a place that stand beside its box.
-/** @typedef {{ node: number, links: SceneLink[] }} Block */
+// The routes of a place that stand beside its box, by their numbers.
+/** @typedef {{ node: number, links: number[] }} Block */
 
 // A side with more places than MANY is drawn as rows. Then: the height of a row, the least height
 // of a block, the gaps between blocks and between columns, the greatest width of all columns (names
@@ -43,10 +44,11 @@ export function rowsAreBetter({ nodes, links }) {
     && !nodes.every(({ spot }) => spot);
 }
 
-/** @type {(scene: Scene) => string} */
-export function rowsSvg(scene) {
-  const [tails, heads] = endsOf(scene.links);
-  const drawing = new Rows(scene, tails.size <= heads.size ? 0 : 1);
+// This function draws a scene. Its routes have the rows that they have in a scene with all routes.
+/** @type {(scene: Scene, whole: Scene) => string} */
+export function rowsSvg(scene, whole) {
+  const [tails, heads] = endsOf(whole.links);
+  const drawing = new Rows(scene, whole, tails.size <= heads.size ? 0 : 1);
   const { blocks, wide } = drawing;
   const columns = inColumns(blocks, wide);
   const body = columns.flatMap((column, number) => {
@@ -77,16 +79,18 @@ export function rowsSvg(scene) {
   );
 }
 
-// A picture of rows. The places of one side have blocks of rows; side 0 is the side that sends.
+// A picture of a scene, with a row for each route of another one that has all of its routes. The
+// places of one side have blocks of rows; side 0 is the side that sends.
 class Rows {
   /**
    * @param {Scene} scene
+   * @param {Scene} whole
    * @param {number} side
    */
-  constructor(scene, side) {
-    const { nodes, links, groups } = scene;
+  constructor(scene, whole, side) {
+    const { nodes, links, groups } = whole;
     const ends = endsOf(links).map((set) => [...set]);
-    const blocks = blocksOf(scene, side);
+    const blocks = blocksOf(whole, side);
     ends[side] = blocks.map(({ node }) => node);
     /** @type {(node: SceneNode, hasNote: boolean) => number} */
     const nameWidth = ({ short, note }, hasNote) =>
@@ -100,7 +104,9 @@ class Rows {
     const other = links.map(({ tail, head }) => (side ? tail : head));
     for (const node of [...ends[side], ...other]) count.set(node, (count.get(node) || 0) + 1);
     const blocking = new Set(groups.flatMap((group) => [...group]));
-    this.nodes = nodes;
+    this.nodes = scene.nodes;
+    this.links = links;
+    this.drawn = new Map(slotsOf(scene, whole).map((slot, k) => [slot, scene.links[k]]));
     this.side = side;
     this.blocks = blocks;
     this.widths = widths;
@@ -116,12 +122,13 @@ class Rows {
   /** @type {(block: Block, left: number, top: number) => string[]} */
   block({ node, links }, left, top) {
     const high = heightOf({ links }), begin = left + this.widths[0], end = begin + this.between;
-    const rows = links.flatMap((link, place) => {
-      const y = top + (place + 0.5) * high / links.length;
+    const rows = links.flatMap((number, place) => {
+      const y = top + (place + 0.5) * high / links.length, link = this.drawn.get(number);
+      const { tail, head } = this.links[number];
       return [
-        arrow(link, lineBetween(begin, y, end)),
-        link.label ? labelAt(link, (begin + end) / 2 - 6, y) : '',
-        this.place(this.side ? link.tail : link.head, 1 - this.side, left, y, ROW - 3),
+        link ? arrow(link, lineBetween(begin, y, end)) : '',
+        link && link.label ? labelAt(link, (begin + end) / 2 - 6, y) : '',
+        this.place(this.side ? tail : head, 1 - this.side, left, y, ROW - 3),
       ];
     });
     return [...rows, this.place(node, this.side, left, top + high / 2, high)];
@@ -155,15 +162,15 @@ class Rows {
 // route. A place with many routes gets several blocks. The widest routes come first.
 /** @type {(scene: Scene, side: number) => Block[]} */
 function blocksOf({ nodes, links }, side) {
-  /** @type {SceneLink[][]} */
+  /** @type {number[][]} */
   const own = nodes.map(() => []);
   /** @type {Block[]} */
   const blocks = [];
   const others = endsOf(links)[1 - side];
-  for (const link of links) own[side ? link.head : link.tail].push(link);
+  links.forEach(({ tail, head }, number) => own[side ? head : tail].push(number));
   own.forEach((found, node) => {
     if (!found.length && others.has(node)) return;
-    found.sort((a, b) => b.width - a.width);
+    found.sort((a, b) => links[b].width - links[a].width);
     for (let begin = 0; begin < Math.max(1, found.length); begin += ROWS) {
       blocks.push({ node, links: found.slice(begin, begin + ROWS) });
     }
@@ -171,7 +178,7 @@ function blocksOf({ nodes, links }, side) {
   return blocks;
 }
 
-/** @type {(block: { links: SceneLink[] }) => number} */
+/** @type {(block: { links: number[] }) => number} */
 const heightOf = ({ links }) => Math.max(LEAST, ROW * links.length);
 
 // This function returns the height of a column of blocks.

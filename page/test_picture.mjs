@@ -4,11 +4,10 @@ import fs from 'node:fs';
 import path from 'node:path';
 import { fileURLToPath } from 'node:url';
 import { laidOut, levelsOf } from './layout.js';
-import { svgOf } from './picture.js';
+import { svgOf, svgsOf } from './picture.js';
 import { flowOf } from './running.js';
 import { blockedScene, planScene, shortNames } from './scene.js';
-import { loaded } from './test_module.mjs';
-import { asked, solverOf } from './test_plans.mjs';
+import { asked, solverHere } from './test_plans.mjs';
 
 const plans = path.join(path.dirname(fileURLToPath(import.meta.url)), '..', 'examples', 'plans');
 const count = (text, part) => text.split(part).length - 1;
@@ -228,6 +227,47 @@ function dots(expect) {
   }
 }
 
+// This function returns a scene of one of some periods, of which no two have the same routes, kinds
+// and notes.
+function sceneIn(period, many) {
+  const half = many / 2, numbers = Array.from({ length: many }, (_, k) => k);
+  const nodes = numbers.map((k) => ({
+    name: `P${k}`,
+    short: `P${k}`,
+    note: (k + period) % 3 ? `keeps ${'1234567'.slice(0, 1 + (k + period) % 7)}` : '',
+    kind: (k + period) % 4 === 0 ? 'passes' : k < half ? 'sends' : 'takes',
+    spot: null,
+  }));
+  const links = numbers.slice(0, half).filter((k) => (k + period) % 3).map((k) => ({
+    tail: k,
+    head: half + k * 7 % half,
+    width: 1.5 + (k + period) % 5,
+    kind: 'flowing',
+    label: String(10 ** period),
+    title: '',
+  }));
+  return { heading: `Month ${period}`, nodes, links, groups: [], notes: {} };
+}
+
+// Over periods, each place stands at the same spot in all pictures.
+function periods(expect) {
+  const spot = /<(?:rect class="(?:sends|takes|passes)" x|circle cx)="[^"]*" c?y="[^"]*"/g;
+  for (const [many, kind] of [[10, 'boxes'], [60, 'rows'], [400, 'dots']]) {
+    const scenes = [0, 1, 2].map((period) => sceneIn(period, many)), all = svgsOf(scenes);
+    const spots = (svg) => [...svg.matchAll(spot), /viewBox="[^"]*"/.exec(svg)[0]]
+      .map((found) => String(found).replace(/class="\w+"/, '')).join('\n');
+    all.forEach((svg, k) => {
+      expect(svg.includes(` class="${kind}"`), `a picture of a period: ${kind}`);
+      expect(svg.includes(`>Month ${k}</text>`), `the heading of period ${k}`);
+      expect(spots(svg) === spots(all[0]), `${kind}: spots in period ${k}`);
+      expect(
+        [...svg.matchAll(/<(?:g|path) class="flowing"/g)].length === scenes[k].links.length,
+        `${kind}: routes of period ${k}`
+      );
+    });
+  }
+}
+
 // The title, the date and the tables stand above the picture. Numbers have spaces between
 // thousands.
 async function titles(expect, solver) {
@@ -307,8 +347,8 @@ function far(expect) {
 }
 
 export default async function test(expect) {
-  for (const pure of [columns, shorts, dots, labels, rowsBegin, apart, far]) pure(expect);
-  const solver = solverOf(loaded());
+  for (const pure of [columns, shorts, dots, labels, rowsBegin, apart, far, periods]) pure(expect);
+  const solver = solverHere();
   await rowsDrawn(expect, solver);
   await titles(expect, solver);
   for (const name of [

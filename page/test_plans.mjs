@@ -81,7 +81,11 @@ function solverBy(program) {
       });
       const command = 'each' in options ? 'pairs' : 'flow';
       if (command === 'pairs' && files.length > 1) files.splice(1, 0, '--groups');
-      const { status, stdout } = spawnSync(program, [command, ...wordsOf(options), ...files]);
+      const { status, stdout } = spawnSync(
+        program,
+        [command, ...wordsOf(options), ...files],
+        { maxBuffer: 1e9 }
+      );
       return {
         status: ['flow', 'blocked', 'refused'][status] ?? 'failed',
         answer: new TextDecoder().decode(stdout),

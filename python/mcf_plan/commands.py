@@ -146,12 +146,13 @@ def blocked_results(blocked, results, options):
 def drawn_in(folder, scenes, options):
     """Draws and writes the pictures, unless the options say not to: plan.svg, or plan-1.svg and so
     on if there are several."""
-    drawn = []
-    for number, shown in enumerate([] if options.no_picture else scenes, 1):
-        with life.doing("draws the picture"):
-            drawn.append(picture.svg_of(shown))
-        name = f"plan-{number}.svg" if len(scenes) > 1 else "plan.svg"
-        (folder / name).write_text(drawn[-1], encoding="utf-8")
+    if options.no_picture:
+        return []
+    with life.doing("draws the picture"):
+        drawn = picture.svgs_of(scenes)
+    for number, text in enumerate(drawn, 1):
+        name = f"plan-{number}.svg" if len(drawn) > 1 else "plan.svg"
+        (folder / name).write_text(text, encoding="utf-8")
     return drawn
 
 

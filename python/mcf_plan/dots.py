@@ -1,4 +1,4 @@
-"""The picture of many places, as SVG: dots, with as many names and amounts as fit."""
+"""Pictures of many places, as SVG: dots, with as many names and amounts as fit."""
 import itertools
 import math
 
@@ -23,12 +23,28 @@ DOTS = {"sends": "#5b9a52", "takes": "#4d7fb3", "passes": "#8a949e"}
 ROUND, STEP, FAR, NEAR, TRIED = 3.4, 16, 220, 90, 1000
 
 
-def dots_svg(scene):
-    """The picture of a scene with many places. The dots are on a map, or in blocks by their
-    distance from the places that send. Important routes are arrows."""
-    chosen = [link for link in scene.links if link.kind not in QUIET]
+def dots_svgs(scenes, whole):
+    """The pictures of scenes with many places, beside a scene that has all of their routes. The
+    dots are on a map, or in blocks by their distance from the places that send."""
+    spots = dot_spots(whole, weights_of(whole, important(whole)))
+    drawn = [content_of(scene, spots) for scene in scenes]
+    corners = [corner for _, edges in drawn for corner in (edges[:2], edges[2:])]
+    edges = layout.edges_of(corners)
+    return [
+        framed(edges, scene, body, legend_of(scene, dot_swatch, route_sample), "dots")
+        for scene, (body, _) in zip(scenes, drawn)
+    ]
+
+
+def important(scene):
+    """The routes that matter."""
+    return [link for link in scene.links if link.kind not in QUIET]
+
+
+def content_of(scene, spots):
+    """What a picture has, and the edges of that. Important routes are arrows."""
+    chosen = important(scene)
     weights, blocking = weights_of(scene, chosen), set().union(*scene.groups)
-    spots = dot_spots(scene, weights)
     tags, edges = labels(scene, chosen, weights, spots, growth_of(layout.edges_of(spots)))
     body = [
         route(link.kind, link.width / 2, link.title, spots[link.tail], spots[link.head])
@@ -41,7 +57,7 @@ def dots_svg(scene):
             f'<circle cx="{x:.1f}" cy="{y:.1f}" r="{ROUND if node.note else 2.2}"'
             f' fill="{DOTS[node.kind]}"{edge}><title>{xml_text(told)}</title></circle>'
         )
-    return framed(edges, scene, body + tags, legend_of(scene, dot_swatch, route_sample), "dots")
+    return body + tags, edges
 
 
 def weights_of(scene, links):

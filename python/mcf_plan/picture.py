@@ -1,7 +1,7 @@
-"""The picture of a scene, as SVG. It has boxes and arrows; for many places it has dots, or rows if
-some places send and the others take."""
+"""The pictures of scenes, as SVG. They have boxes and arrows; for many places they have dots, or
+rows if some places send and the others take."""
 from . import layout, rows
-from .dots import dots_svg
+from .dots import dots_svgs
 from .drawing import (
     CENTRED,
     QUIET,
@@ -22,6 +22,7 @@ from .drawing import (
     xml_text,
 )
 from .room import Room
+from .together import slots_of, together
 
 # With more places or routes than these, a picture has dots instead of boxes.
 BOXES, CURVES = 300, 1500
@@ -31,9 +32,18 @@ INNER = 3
 
 def svg_of(scene):
     """The picture of a scene."""
-    if len(scene.nodes) > BOXES or len(scene.links) > CURVES:
-        return dots_svg(scene)
-    return rows.rows_svg(scene) if rows.are_better(scene) else boxes_svg(scene)
+    return svgs_of([scene])[0]
+
+
+def svgs_of(scenes):
+    """The pictures of scenes of the same places, each of which is at the same spot in all."""
+    whole = together(scenes)
+    if len(whole.nodes) > BOXES or len(whole.links) > CURVES:
+        return dots_svgs(scenes, whole)
+    if rows.are_better(whole):
+        return [rows.rows_svg(scene, whole) for scene in scenes]
+    found = layout.laid_out(task_of(whole))
+    return [boxes_svg(scene, found, slots_of(scene, whole)) for scene in scenes]
 
 
 def task_of(scene):
@@ -55,9 +65,10 @@ def box_size(node):
     return max(44, wide + 16), 38 if node.note else 24
 
 
-def boxes_svg(scene):
-    """The picture of a scene with boxes and curves."""
-    boxes, curves, labels = layout.laid_out(task_of(scene))
+def boxes_svg(scene, found, slots):
+    """The picture of a scene with boxes and curves, by a layout of perhaps more routes, among which
+    those of the scene have these numbers."""
+    boxes, curves = found.boxes, [found.curves[slot] for slot in slots]
     links, order = scene.links, order_of(scene.links)
     blocking = set().union(*scene.groups)
     body = shades(scene, boxes, curves)
@@ -66,13 +77,13 @@ def boxes_svg(scene):
         place_box(node, boxes[number], number in blocking)
         for number, node in enumerate(scene.nodes)
     ]
-    body += free_labels(links, boxes, labels)
+    body += free_labels(links, boxes, [found.labels[slot] for slot in slots])
     corners = [
         (box.x + sign * box.width / 2, box.y + sign * box.height / 2)
         for box in boxes
         for sign in (-1, 1)
     ]
-    corners += [point for curve in curves for point in layout.samples(curve, 6)]
+    corners += [point for curve in found.curves for point in layout.samples(curve, 6)]
     return framed(layout.edges_of(corners), scene, body, legend_of(scene, box_swatch))
 
 

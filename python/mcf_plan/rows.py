@@ -1,4 +1,4 @@
-"""The picture of many places that send and others that take, as SVG. Each route has a row, and the
+"""Pictures of many places that send and others that take, as SVG. Each route has a row, and the
 rows are in columns. The rows of one place are together, beside its box. The place at the other end
 may appear several times."""
 import collections
@@ -19,6 +19,7 @@ from .drawing import (
     text_width,
     xml_text,
 )
+from .together import slots_of
 
 # With more places than MANY on a side, a picture has rows. Then: the height of a row; the least
 # height of a block; the gap between blocks; the gap between columns; the greatest width; the most
@@ -27,7 +28,7 @@ MANY, ROW, LEAST, GAP, APART, WIDE, LONGEST = 20, 20, 36, 8, 40, 1440, 40
 # The edge of a place that appears several times.
 DASHED = ' stroke-dasharray="4 3"'
 
-# The rows of one place: its number, and its links.
+# The rows of one place: its number, and the numbers of its links.
 Block = collections.namedtuple("Block", "node links")
 
 
@@ -39,10 +40,10 @@ def are_better(scene):
     return max(len(tails), len(heads)) > MANY and not tails & heads and not is_map
 
 
-def rows_svg(scene):
-    """The picture."""
-    tails, heads = ({link[side] for link in scene.links} for side in (0, 1))
-    drawing = Rows(scene, 0 if len(tails) <= len(heads) else 1)
+def rows_svg(scene, whole):
+    """The picture of a scene, whose routes have the rows that they have in one with all routes."""
+    tails, heads = ({link[side] for link in whole.links} for side in (0, 1))
+    drawing = Rows(scene, whole, 0 if len(tails) <= len(heads) else 1)
     columns = columns_of(drawing.blocks, drawing.wide)
     body = []
     for number, column in enumerate(columns):
@@ -56,22 +57,23 @@ def rows_svg(scene):
 
 
 class Rows:
-    """The content of the picture. The places of one side (0 is the side that sends) have blocks of
-    rows."""
+    """The content of the picture of a scene, with a row for each route of another one that has all
+    of its routes. The places of one side (0 is the side that sends) have blocks of rows."""
 
-    def __init__(self, scene, side):
-        self.scene, self.side = scene, side
-        self.blocks = blocks_of(scene, side)
-        ends = [{link[end] for link in scene.links} for end in (0, 1)]
+    def __init__(self, scene, whole, side):
+        self.scene, self.whole, self.side = scene, whole, side
+        self.drawn = dict(zip(slots_of(scene, whole), scene.links))
+        self.blocks = blocks_of(whole, side)
+        ends = [{link[end] for link in whole.links} for end in (0, 1)]
         ends[side] |= {block.node for block in self.blocks}
         self.widths = [
-            14 + max(name_width(scene.nodes[node], end == side) for node in ends[end])
+            14 + max(name_width(whole.nodes[node], end == side) for node in ends[end])
             for end in (0, 1)
         ]
-        self.between = max(90, 56 + max(label_size(link.label)[0] for link in scene.links))
+        self.between = max(90, 56 + max(label_size(link.label)[0] for link in whole.links))
         self.wide = sum(self.widths) + self.between
         self.count = collections.Counter(block.node for block in self.blocks)
-        self.count.update(link[1 - side] for link in scene.links)
+        self.count.update(link[1 - side] for link in whole.links)
         self.blocking = set().union(*scene.groups)
 
     def has_several(self):
@@ -82,14 +84,15 @@ class Rows:
         """A place, its routes, and the other ends of these."""
         high, lines = height_of(block), []
         ends = left + self.widths[0], left + self.widths[0] + self.between
-        for place, link in enumerate(block.links):
-            y = top + (place + 0.5) * high / len(block.links)
-            lines.append(
-                arrow(link.kind, link.width, link.title, line_between(ends[0], y, ends[1]))
-            )
-            if link.label:
+        for place, number in enumerate(block.links):
+            y, link = top + (place + 0.5) * high / len(block.links), self.drawn.get(number)
+            if link:
+                line = line_between(ends[0], y, ends[1])
+                lines.append(arrow(link.kind, link.width, link.title, line))
+            if link and link.label:
                 lines.append(label_at(link, (ends[0] + ends[1]) / 2 - 6, y))
-            lines.append(self.place(link[1 - self.side], 1 - self.side, left, (y, ROW - 3)))
+            other = self.whole.links[number][1 - self.side]
+            lines.append(self.place(other, 1 - self.side, left, (y, ROW - 3)))
         return lines + [self.place(block.node, self.side, left, (top + high / 2, high))]
 
     def place(self, number, side, left, upright):
@@ -123,11 +126,11 @@ def blocks_of(scene, side):
     """The blocks of the places on a side, and of the places without a drawn route. A place with
     many routes has several blocks. The widest routes come first."""
     links, other = collections.defaultdict(list), {link[1 - side] for link in scene.links}
-    for link in scene.links:
-        links[link[side]].append(link)
+    for number, link in enumerate(scene.links):
+        links[link[side]].append(number)
     blocks = []
     for node in range(len(scene.nodes)):
-        found = sorted(links[node], key=lambda link: -link.width)
+        found = sorted(links[node], key=lambda number: -scene.links[number].width)
         if found or node not in other:
             begins = range(0, max(1, len(found)), LONGEST)
             blocks += [Block(node, found[begin : begin + LONGEST]) for begin in begins]

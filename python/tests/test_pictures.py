@@ -61,6 +61,27 @@ def overlap(one, other, within=0.11):
     )
 
 
+def scene_in(period, count):
+    """A scene of one of some periods, of which no two have the same routes, kinds and notes."""
+    half = count // 2
+    nodes = [
+        scene.Node(
+            f"P{k}",
+            f"P{k}",
+            f"keeps {10 ** (k + period)}"[:12] if (k + period) % 3 else "",
+            "passes" if (k + period) % 4 == 0 else "sends" if k < half else "takes",
+            None,
+        )
+        for k in range(count)
+    ]
+    links = [
+        scene.Link(k, half + k * 7 % half, 1.5 + (k + period) % 5, "flowing", str(10**period), "")
+        for k in range(half)
+        if (k + period) % 3
+    ]
+    return scene.Scene(f"Month {period}", nodes, links, [], {})
+
+
 class Pictures(WithFolder):
     """The picture, with Graphviz if it is installed, and without it."""
 
@@ -270,6 +291,21 @@ class Pictures(WithFolder):
                 self.assertIn(f'<svg xmlns="http://www.w3.org/2000/svg" class="{kind}"', drawn)
                 for node in nodes:
                     self.assertIn(f">{node.name}</text>", drawn)
+
+    def test_places_keep_their_spots_over_periods(self):
+        spot = '<(?:rect class="(?:sends|takes|passes)" x|circle cx)="([^"]*)" c?y="([^"]*)"'
+        for count, kind in ((10, "boxes"), (60, "rows"), (400, "dots")):
+            scenes = [scene_in(period, count) for period in range(3)]
+            with mock.patch.dict(os.environ, PATH=""):
+                drawn = picture.svgs_of(scenes)
+            for shown, text in zip(scenes, drawn):
+                with self.subTest(kind=kind, period=shown.heading):
+                    self.assertIn(f'<svg xmlns="http://www.w3.org/2000/svg" class="{kind}"', text)
+                    self.assertIn(f">{shown.heading}</text>", text)
+                    arrows = re.findall('<(?:g|path) class="flowing"', text)
+                    self.assertEqual(len(arrows), len(shown.links))
+                    for look in (spot, 'viewBox="[^"]*"'):
+                        self.assertEqual(re.findall(look, text), re.findall(look, drawn[0]))
 
     def test_title_date_tables_and_units(self):
         places, routes = "name;supply\nA;12500\nB;-12500\n", "from;to;most;cost\nA;B;;1,25\n"
