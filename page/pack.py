@@ -18,8 +18,9 @@ IMPORT = re.compile(r"^import \{[^}]*\} from '\./(\w+)\.js';\n", re.M)
 DECLARED = re.compile(r"^(?:export )?(?:async )?(?:function|class) (\w+)", re.M)
 STORED = re.compile(r"^(?:export )?(?:const|let) (.*)", re.M)
 BRACKETS = re.compile(r"\([^()]*\)|\[[^][]*\]")
-# A comment on lines of its own.
+# A comment on lines of its own, and the blanks before a line.
 COMMENT = re.compile(r"^ *(?://.*|/\*\*(?:[^*]|\*(?!/))*\*/ *)\n", re.M)
+INDENT = re.compile(r"^ +", re.M)
 NAMED = re.compile(r"(?:^|, )(\w+)(?= =|;|,)")
 
 
@@ -32,8 +33,8 @@ def names(text):
 
 
 def script(begin):
-    """This function returns a source and all that it imports, without comments and without the
-    words import and export.
+    """This function returns a source and all that it imports, without comments, without the words
+    import and export, and without the blanks before lines, which no text runs over.
 
     Each source appears once, after the sources that it imports.
     """
@@ -51,7 +52,8 @@ def script(begin):
                 declared.setdefault(word, name) == name
             ), f"{word} is declared in {declared[word]}.js and in {name}.js"
         text = COMMENT.sub("", IMPORT.sub("", text))
-        parts.append(re.sub(r"^export ", "", text, flags=re.M))
+        assert not any(line.count("`") % 2 for line in text.split("\n")), f"{name}.js: a long text"
+        parts.append(INDENT.sub("", re.sub(r"^export ", "", text, flags=re.M)))
 
     add(begin)
     return "\n".join(parts)
