@@ -11,6 +11,11 @@ use std::alloc::Global;
 // The slack falls by 2 to this power from phase to phase.
 const FACTOR: u32 = 4;
 
+// The search looks for exact prices once the slack is this power of 2 below the greatest cost, even
+// if it is more than a unit. With costs up to 10^8 the search then takes 0.7 to 0.8 of the work on
+// 2^15 nodes (family `large`).
+const FINE: u32 = 14;
+
 // No more phases than this are begun.
 const MOST_PHASES: u32 = 100;
 
@@ -22,7 +27,7 @@ const MOST_PHASES: u32 = 100;
 /// A phase augments the flow along paths of at most four arcs (Goldberg, The partial
 /// augment-relabel algorithm for the maximum flow problem, 2008), with global price updates and
 /// price refinement (Goldberg, An efficient implementation of a scaling minimum-cost flow
-/// algorithm, 1997). At a slack below a unit passes in topological order (Goldberg and Radzik, A
+/// algorithm, 1997). At a small slack passes in topological order (Goldberg and Radzik, A
 /// heuristic improvement of the Bellman-Ford algorithm, 1993) look for prices that are exact.
 #[derive(Drop)]
 pub(crate) struct Search {
@@ -79,14 +84,13 @@ impl Search {
     /// for others to judge.
     pub(crate) fn run(&mut self) -> bool {
         // the slack of the first phase lies below the greatest cost
-        let bits = 64u32.saturating_sub(self.greatest_cost.leading_zeros());
-        self.star.power = bits.saturating_sub(FACTOR);
+        self.star.power = self.cost_bits().saturating_sub(FACTOR);
         'phases: for phase in 0..MOST_PHASES {
             let is_refined = phase > 0 && self.refine_prices();
             if !is_refined && !self.run_phase() {
                 return false;
             }
-            if self.star.power < self.star.shift && self.finish_in_units() {
+            if self.is_fine() && self.finish_in_units() {
                 return true;
             }
             if self.work > self.budget || !self.deepen() {
@@ -117,6 +121,17 @@ impl Search {
     pub(crate) fn next_room(&mut self, node: u32) -> i64 {
         let place = count_up(&mut self.currents, node);
         self.star.room(place)
+    }
+
+    // The number of bits of the greatest cost.
+    fn cost_bits(&self) -> u32 {
+        64u32.saturating_sub(self.greatest_cost.leading_zeros())
+    }
+
+    // Whether the slack is small enough to seek exact prices.
+    fn is_fine(&self) -> bool {
+        let power = self.star.power;
+        power < self.star.shift || power.saturating_add(FINE) <= self.cost_bits()
     }
 
     // Seeks prices that are exact, at the costs as they are, from those of the phase rounded down.
