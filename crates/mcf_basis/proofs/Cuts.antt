@@ -1,20 +1,19 @@
 -- At a last basis where an artificial arc carries something, the nodes of price above 0 can't send
 -- what they must.
-use Rattle.std.proofs.Common.{◌≡◌, ◌≢◌, ℕ, zero, suc, ◌+◌, ◌-◌, ◌*◌, ◌<◌, ◌≤◌, ◌⊎◌, inl, inr, Bool, true, false, not, eqb, List, length, map, drop, sum, set}
+use Rattle.std.proofs.Common.{◌≡◌, ◌≢◌, ℕ, zero, suc, ◌+◌, ◌-◌, ◌*◌, ◌<◌, ◌≤◌, ◌⊎◌, inl, inr, Bool, true, false, not, List, length, map, drop, sum, set}
 use Rattle.std.proofs.Common.{get_or, refl, sym, ap, ◌∙◌, subst, arith, ℤ, pos, neg_ℤ, ◌+ℤ◌, ◌-ℤ◌, ◌≤ℤ◌, ◌<ℤ◌, length-set}
 use Rattle.std.specs.Prelude.{int_lt, max, unsigned_abs}
 use Rattle.std.specs.List.{AllZip}
 use Rattle.std.proofs.Math.Nat.{le-max_right, mul-le-mul_left}
 use Rattle.std.proofs.lemmas.Bool.{and_parts, cases_Bool, cases_eq}
 use Rattle.std.proofs.lemmas.Int.{ints}
-use Rattle.std.proofs.lemmas.List.{get_or-drop, get_or-map, get_or-set_other, length-drop, length-map}
-use Rattle.std.proofs.lemmas.List.FromFn.{length-map-range_with_len}
+use Rattle.std.proofs.lemmas.List.{get_or-map, get_or-set_other, length-map}
 use Rattle.std.proofs.lemmas.List.Sums.{sum_by-set}
 use Rattle.mcf_flows.specs.declared.arc.Arc.{Arc}
 use Rattle.mcf_flows.specs.declared.problem.Side.TheVariants.{Send}
 use Rattle.mcf_flows.specs.Blocking.{Blocks, cap_leaving, enters, leaves, low_entering, supply_in}
-use Rattle.mcf_flows.specs.Flow.{inflow, net, outflow}
-use Rattle.mcf_flows.specs.Network.{Network, IsArcNumber, IsNode, at_node, flow_sum, node_count, node_sum, when}
+use Rattle.mcf_flows.specs.Flow.{net}
+use Rattle.mcf_flows.specs.Network.{IsArcNumber, IsNode, at_node, flow_sum, node_count, node_sum, when}
 use Rattle.mcf_flows.specs.WellFormed.{HasEnds, IsUpTo, weight}
 use Rattle.mcf_flows.proofs.AllZips.{AllZip_from}
 use Rattle.mcf_flows.proofs.ArcSums.{arc_sum-same, arc_sum-zero, flow_sum-arc_sum, flow_sum-same_at, flow_sum-zero}
@@ -23,29 +22,27 @@ use Rattle.mcf_flows.proofs.Hoffman.{nets_across}
 use Rattle.mcf_flows.proofs.NodeSums.{nets_cancel, node_sum-add, node_sum-same, node_sum-sub, node_sum_above_zero}
 use Rattle.mcf_links.specs.Rooted.{climb}
 use Rattle.mcf_links.proofs.Depths.{climb_apart}
-use Rattle.mcf_links.proofs.Paths.{above_root, climb-add, climb-suc, climb-within, depth-climb, root_from_depth}
+use Rattle.mcf_links.proofs.Paths.{climb-add, climb-suc}
 use Rattle.mcf_network.specs.Nets.{IsNetArc}
 use Rattle.mcf_network.specs.Residual.{no_arc, arc_at}
 use Rattle.mcf_network.proofs.ArcLaws.{ends_at, net_arc_at}
-use Rattle.mcf_network.proofs.StateLaws.{when-add, when-other, when-same, when-zero}
-use Rattle.mcf_tree.specs.SpanningTree.{depth_of, label_of, parent_of, size_of}
+use Rattle.mcf_network.proofs.StateLaws.{when-add, when-zero}
+use Rattle.mcf_tree.specs.SpanningTree.{depth_of, label_of, parent_of}
 use Rattle.mcf_basis.specs.Artificial.{artificial_arc, artificial_cost, is_sender, with_artificial}
 use Rattle.mcf_basis.specs.Bases.{CanHold, HasTreeArc, IsBasis}
 use Rattle.mcf_basis.specs.Laws.{HasNoArtificial}
-use Rattle.mcf_basis.specs.Structures.{TreeStructure, IsInTree, Joins, carried, price_at, reduced_at, state_of}
-use Rattle.mcf_basis.specs.Structures.Joins.{out_of, into}
+use Rattle.mcf_basis.specs.Structures.{TreeStructure, Joins, carried, price_at, reduced_at, state_of}
 use Rattle.mcf_basis.specs.Violations.{HasNoEligible}
 use Rattle.mcf_basis.proofs.Cycles.{tree_of}
 use Rattle.mcf_basis.proofs.Around.{arcs_of}
-use Rattle.mcf_basis.proofs.Flows.{amount_count, own_count, split_sum}
-use Rattle.mcf_basis.proofs.Labels.{added_arc, added_label, inner_arc, own_arc, own_label, root_arc}
-use Rattle.mcf_basis.proofs.LastBases.{node_count_added, read_arc, read_own, supply_added, zero_or_more}
-use Rattle.mcf_basis.proofs.Offers.{not_in_tree, own_reduced}
-use Rattle.mcf_basis.proofs.PricesTurned.{cases_in_tree}
-use Rattle.mcf_basis.proofs.StarBases.{added_arcs, apart_dst, apart_src, arc_at_place, sender_dst, sender_src, taker_dst, taker_src}
-use Rattle.mcf_basis.proofs.StrongPivot.{labels_apart}
-use Rattle.mcf_basis.proofs.TreeFlows.{single_term}
-use Rattle.mcf_basis.proofs.TreePrices.{in_tree}
+use Rattle.mcf_basis.proofs.Flows.{added_arcs, amount_count, own_count, read_added, rest_count, split_net}
+use Rattle.mcf_basis.proofs.Labels.{added_arc, added_label, cases_in_tree, inner_arc, own_arc, own_label}
+use Rattle.mcf_basis.proofs.LastBases.{empty_above, full_below, node_count_added, read_arc, read_own, supply_added, zero_or_more}
+use Rattle.mcf_basis.proofs.Offers.{own_reduced}
+use Rattle.mcf_basis.proofs.Pushed.{node_of}
+use Rattle.mcf_basis.proofs.StarBases.{sender_dst, sender_net, sender_src, taker_dst, taker_net, taker_src}
+use Rattle.mcf_basis.proofs.StrongPivot.{IsStep, labels_apart, step_at}
+use Rattle.mcf_basis.proofs.TreePrices.{in_tree, one_step, top, top_near}
 
 -- the arcs of the net that are in the tree can carry something
 abbrev pub HasWideTree : TreeStructure → Type 0
@@ -103,31 +100,6 @@ pub data NodeCase (b : TreeStructure) (v : ℕ) : Type 0 where
   sends : unsent b v ≡ artificial_amount b v → (pos 0 <ℤ artificial_amount b v → price_at b v ≡ pos (artificial_cost b.net)) → NodeCase b v
   takes : unsent b v ≡ neg_ℤ (artificial_amount b v) → (pos 0 <ℤ artificial_amount b v → price_at b v ≡ neg_ℤ (pos (artificial_cost b.net))) → NodeCase b v
 
--- of the artificial arcs one alone is at v
-module _ (g : Network) (flow : List ℤ) (count : length flow ≡ node_count g) (v : ℕ) (h : IsNode (node_count g) v) where
-  added_size : length flow ≡ length (added_arcs g)
-  added_size = count ∙ sym (length-map-range_with_len (artificial_arc g) 1 (node_count g))
-
-  added_out : outflow (added_arcs g) flow v ≡ when (eqb (artificial_arc g v).src v) (get_or flow (v - 1) (pos 0))
-  added_out =
-      let n = length-map-range_with_len (artificial_arc g) 1 (node_count g) in
-      let back : v - 1 + 1 ≡ v = omega arith in
-      single_term (λ a f. when (eqb a.src v) f) (added_arcs g) flow (v - 1) added_size (omega (arith, n, h))
-      (λ i l ne. (let m : i < node_count g = omega (arith, n, l) in
-      subst (λ a. when (eqb a.src v) (get_or flow i (pos 0)) ≡ pos 0) (sym (arc_at_place g i m))
-      (when-other (artificial_arc g (i + 1)).src v _ (λ q. apart_src g (i + 1) v (omega arith) (λ e. ne (omega arith)) (sym q)))))
-      ∙ ap (λ a. when (eqb a.src v) (get_or flow (v - 1) (pos 0))) (arc_at_place g (v - 1) (omega arith) ∙ ap (artificial_arc g) back)
-
-  added_in : inflow (added_arcs g) flow v ≡ when (eqb (artificial_arc g v).dst v) (get_or flow (v - 1) (pos 0))
-  added_in =
-      let n = length-map-range_with_len (artificial_arc g) 1 (node_count g) in
-      let back : v - 1 + 1 ≡ v = omega arith in
-      single_term (λ a f. when (eqb a.dst v) f) (added_arcs g) flow (v - 1) added_size (omega (arith, n, h))
-      (λ i l ne. (let m : i < node_count g = omega (arith, n, l) in
-      subst (λ a. when (eqb a.dst v) (get_or flow i (pos 0)) ≡ pos 0) (sym (arc_at_place g i m))
-      (when-other (artificial_arc g (i + 1)).dst v _ (λ q. apart_dst g (i + 1) v (omega arith) (λ e. ne (omega arith)) (sym q)))))
-      ∙ ap (λ a. when (eqb a.dst v) (get_or flow (v - 1) (pos 0))) (arc_at_place g (v - 1) (omega arith) ∙ ap (artificial_arc g) back)
-
 module _ (b : TreeStructure) (ok : IsBasis b) where
   pub artificial_low : (v : ℕ) → IsNode (node_count b.net) v → pos 0 ≤ℤ artificial_amount b v
   artificial_low v h = (ok.flow.within_bounds (length b.net.arcs + v) (added_label b.net v h)).low
@@ -147,58 +119,32 @@ module _ (b : TreeStructure) (ok : IsBasis b) where
       reduced_at b (length b.net.arcs + v) ≡ pos (artificial_cost b.net) -ℤ price_at b (artificial_arc b.net v).src +ℤ price_at b (artificial_arc b.net v).dst
   added_reduced v h = ap (λ a. a.cost -ℤ price_at b a.src +ℤ price_at b a.dst) (added_arc b.net v (length b.net.arcs + v) h refl)
 
-  read_added : (v : ℕ) → IsNode (node_count b.net) v → get_or (drop (length b.net.arcs) b.amounts) (v - 1) (pos 0) ≡ artificial_amount b v
-  read_added v h =
-      let place : length b.net.arcs + v - 1 ≡ length b.net.arcs + (v - 1) = omega arith in
-      get_or-drop (length b.net.arcs) b.amounts (v - 1) (pos 0) ∙ sym (ap (λ j. get_or b.amounts j (pos 0)) place)
-
-  rest_count : length (drop (length b.net.arcs) b.amounts) ≡ node_count b.net
-  rest_count = let e = amount_count b ok in let l = length-drop (length b.net.arcs) b.amounts in omega (arith, e, l)
-
-  -- what a node sends along its artificial arc
-  unsent_by : (v : ℕ) → IsNode (node_count b.net) v →
-      unsent b v ≡ when (eqb (artificial_arc b.net v).src v) (artificial_amount b v) -ℤ when (eqb (artificial_arc b.net v).dst v) (artificial_amount b v)
-  unsent_by v h =
+  -- what a node has unsent goes along its artificial arc
+  unsent_is : (v : ℕ) → IsNode (node_count b.net) v → unsent b v ≡ net (added_arcs b.net) (drop (length b.net.arcs) b.amounts) v
+  unsent_is v h =
       let e = amount_count b ok in
       let s = ok.flow.no_surplus v (subst (λ n. IsNode n v) (node_count_added b.net) h) in
       let sup = supply_added b.net v in
-      let out : outflow (with_artificial b.net).arcs b.amounts v
-      ≡ outflow b.net.arcs (state_of b).amounts v +ℤ outflow (added_arcs b.net) (drop (length b.net.arcs) b.amounts) v =
-      split_sum (λ a f. when (eqb a.src v) f) b.net b.amounts (omega (arith, e)) in
-      let inn : inflow (with_artificial b.net).arcs b.amounts v
-      ≡ inflow b.net.arcs (state_of b).amounts v +ℤ inflow (added_arcs b.net) (drop (length b.net.arcs) b.amounts) v =
-      split_sum (λ a f. when (eqb a.dst v) f) b.net b.amounts (omega (arith, e)) in
-      let one : outflow (added_arcs b.net) (drop (length b.net.arcs) b.amounts) v ≡ when (eqb (artificial_arc b.net v).src v) (artificial_amount b v) =
-      added_out b.net (drop (length b.net.arcs) b.amounts) rest_count v h ∙ ap (when (eqb (artificial_arc b.net v).src v)) (read_added v h) in
-      let two : inflow (added_arcs b.net) (drop (length b.net.arcs) b.amounts) v ≡ when (eqb (artificial_arc b.net v).dst v) (artificial_amount b v) =
-      added_in b.net (drop (length b.net.arcs) b.amounts) rest_count v h ∙ ap (when (eqb (artificial_arc b.net v).dst v)) (read_added v h) in
-      omega (arith, ints, s, sup, out, inn, one, two)
+      let split = split_net b.net b.amounts v (omega (arith, e)) in
+      omega (arith, ints, s, sup, split)
 
   sender_case : (v : ℕ) → IsNode (node_count b.net) v → is_sender b.net v ≡ true → NodeCase b v
   sender_case v h e =
-      let src = sender_src b.net v e in
-      let dst = sender_dst b.net v e in
-      let by = unsent_by v h in
-      let s = when-same (artificial_arc b.net v).src v (artificial_amount b v) (sym src) in
-      let d = when-other (artificial_arc b.net v).dst v (artificial_amount b v) (λ q. (let z : v ≡ 0 = q ∙ dst in omega (arith, z, h))) in
-      sends (omega (arith, ints, by, s, d)) (λ some. (let zero_cost = carrying v h some in
+      sends (unsent_is v h ∙ (sender_net b.net (drop (length b.net.arcs) b.amounts) (rest_count b ok) v h e ∙ read_added b (v - 1) v (omega arith)))
+      (λ some. (let zero_cost = carrying v h some in
       let r = added_reduced v h in
-      let at_src = ap (price_at b) src in
-      let at_dst = ap (price_at b) dst in
+      let at_src = ap (price_at b) (sender_src b.net v e) in
+      let at_dst = ap (price_at b) (sender_dst b.net v e) in
       let root = ok.prices.root in
       omega (arith, ints, zero_cost, r, at_src, at_dst, root)))
 
   taker_case : (v : ℕ) → IsNode (node_count b.net) v → is_sender b.net v ≡ false → NodeCase b v
   taker_case v h e =
-      let src = taker_src b.net v e in
-      let dst = taker_dst b.net v e in
-      let by = unsent_by v h in
-      let s = when-other (artificial_arc b.net v).src v (artificial_amount b v) (λ q. (let z : v ≡ 0 = q ∙ src in omega (arith, z, h))) in
-      let d = when-same (artificial_arc b.net v).dst v (artificial_amount b v) (sym dst) in
-      takes (omega (arith, ints, by, s, d)) (λ some. (let zero_cost = carrying v h some in
+      takes (unsent_is v h ∙ (taker_net b.net (drop (length b.net.arcs) b.amounts) (rest_count b ok) v h e ∙ ap neg_ℤ (read_added b (v - 1) v (omega arith))))
+      (λ some. (let zero_cost = carrying v h some in
       let r = added_reduced v h in
-      let at_src = ap (price_at b) src in
-      let at_dst = ap (price_at b) dst in
+      let at_src = ap (price_at b) (taker_src b.net v e) in
+      let at_dst = ap (price_at b) (taker_dst b.net v e) in
       let root = ok.prices.root in
       omega (arith, ints, zero_cost, r, at_src, at_dst, root)))
 
@@ -209,10 +155,6 @@ module _ (b : TreeStructure) (ok : IsBasis b) where
   ]
 
 -- ---- how far a price lies from that of the child of the root above it
-
--- the child of the root on the path from a node
-abbrev pub top : TreeStructure → ℕ → ℕ
-top b v = climb b.tree.parents (depth_of b.tree v - 1) v
 
 abbrev weights : TreeStructure → List ℕ
 weights b = map weight b.net.arcs
@@ -228,11 +170,6 @@ weight_of b v i = get_or (weights b) (place_of b v i) 0
 abbrev path_weight : TreeStructure → ℕ → ℕ
 path_weight b v = total (weight_of b v) (depth_of b.tree v - 1)
 
--- the price of that child, from which path_weight is how far v's can lie
-pub data TopCase (b : TreeStructure) (v : ℕ) : Type 0 where
-  high : price_at b (top b v) ≡ pos (artificial_cost b.net) → TopCase b v
-  low : price_at b (top b v) ≡ neg_ℤ (pos (artificial_cost b.net)) → TopCase b v
-
 -- an arc that can carry something weighs no less than the size of its cost
 weight_wide : (a : Arc) → pos 0 <ℤ a.cap → unsigned_abs a.cost ≤ weight a
 weight_wide a h =
@@ -242,25 +179,6 @@ weight_wide a h =
     mul-le-mul_left (unsigned_abs a.cost) (omega (arith, ints, size, right, h)) in
     omega (arith, le)
 
--- the prices of the ends of an arc of reduced cost 0 differ by its cost
-step_price : (b : TreeStructure) (label u v m : ℕ) → Joins b.net label u v → reduced_at b label ≡ pos 0
-    → IsUpTo m (arc_at (with_artificial b.net) label).cost → IsUpTo m (price_at b u -ℤ price_at b v)
-step_price b label u v m (out_of s d) r c =
-    let e : ((arc_at (with_artificial b.net) label).cost -ℤ price_at b u) +ℤ price_at b v ≡ pos 0 = rw (s, d) at r in
-    (omega (arith, ints), omega (arith, ints))
-step_price b label u v m (into s d) r c =
-    let e : ((arc_at (with_artificial b.net) label).cost -ℤ price_at b v) +ℤ price_at b u ≡ pos 0 = rw (s, d) at r in
-    (omega (arith, ints), omega (arith, ints))
-
-top_price : (b : TreeStructure) (label u m : ℕ) → Joins b.net label u 0 → reduced_at b label ≡ pos 0 → price_at b 0 ≡ pos 0
-    → (arc_at (with_artificial b.net) label).cost ≡ pos m → (price_at b u ≡ pos m) ⊎ (price_at b u ≡ neg_ℤ (pos m))
-top_price b label u m (out_of s d) r root c =
-    let e : ((arc_at (with_artificial b.net) label).cost -ℤ price_at b u) +ℤ price_at b 0 ≡ pos 0 = rw (s, d) at r in
-    inl (omega (arith, ints))
-top_price b label u m (into s d) r root c =
-    let e : ((arc_at (with_artificial b.net) label).cost -ℤ price_at b 0) +ℤ price_at b u ≡ pos 0 = rw (s, d) at r in
-    inr (omega (arith, ints))
-
 module _ (b : TreeStructure) (ok : IsBasis b) where
   abbrev ps : List ℕ
   ps = b.tree.parents
@@ -268,20 +186,11 @@ module _ (b : TreeStructure) (ok : IsBasis b) where
   abbrev depth : ℕ → ℕ
   depth = depth_of b.tree
 
-  deep_at : (v i : ℕ) → v ≤ node_count b.net → i ≤ depth v → depth (climb ps i v) + i ≡ depth v
-  deep_at v i h le = depth-climb ps (depth_of b.tree) ok.spanning.rooted i v (in_tree b ok v h) le
-
-  at_within : (v i : ℕ) → v ≤ node_count b.net → climb ps i v < length ps
-  at_within v i h = climb-within ps (depth_of b.tree) ok.spanning.rooted i v (in_tree b ok v h)
-
-  at_above : (v i : ℕ) → v ≤ node_count b.net → i < depth v → 0 < climb ps i v
-  at_above v i h lt = let e = deep_at v i h (omega arith) in above_root ps (depth_of b.tree) ok.spanning.rooted (climb ps i v) (omega (arith, e, lt))
+  at : (v i : ℕ) → v ≤ node_count b.net → i < depth v → IsStep ps (depth_of b.tree) v i
+  at v i h lt = step_at ps (depth_of b.tree) ok.spanning.rooted v (depth v) i (in_tree b ok v h) (omega arith) lt
 
   at_node_of : (v i : ℕ) → v ≤ node_count b.net → i < depth v → IsNode (node_count b.net) (climb ps i v)
-  at_node_of v i h lt =
-      let size : size_of b.tree ≡ node_count b.net + 1 = ok.size in
-      let w = at_within v i h in
-      let up = at_above v i h lt in (omega (arith, up), omega (arith, w, size))
+  at_node_of v i h lt = let w = at v i h lt in node_of b ok (climb ps i v) w.above w.within
 
   node_deep : (v : ℕ) → IsNode (node_count b.net) v → 0 < depth v
   node_deep v h = let e = ok.spanning.rooted.falls v h.0 (in_tree b ok v h.1) in omega (arith, e)
@@ -293,8 +202,8 @@ module _ (b : TreeStructure) (ok : IsBasis b) where
   own_at : (v i : ℕ) → v ≤ node_count b.net → suc i < depth v → IsArcNumber b.net (label_of b.tree (climb ps i v))
   own_at v i h lt =
       let arc : HasTreeArc b (climb ps i v) = ok.tree_arcs (climb ps i v) (at_node_of v i h (omega arith)) in
-      inner_arc b.net (label_of b.tree (climb ps i v)) (climb ps i v) (parent_of b.tree (climb ps i v)) arc.label (at_above v i h (omega arith))
-      (subst (λ u. 0 < u) (sym (up_one v i)) (at_above v (suc i) h lt)) arc.joins
+      inner_arc b.net (label_of b.tree (climb ps i v)) (climb ps i v) (parent_of b.tree (climb ps i v)) arc.label ((at v i h (omega arith)).above)
+      (subst (λ u. 0 < u) (sym (up_one v i)) ((at v (suc i) h lt).above)) arc.joins
 
   place_within : (v i : ℕ) → v ≤ node_count b.net → suc i < depth v → place_of b v i < length (weights b)
   place_within v i h lt = let own = own_at v i h lt in let n = length-map b.net.arcs weight in omega (arith, own, n)
@@ -308,9 +217,10 @@ module _ (b : TreeStructure) (ok : IsBasis b) where
   places_apart u v i j hu hv li lj ne e =
       let own = own_at u i hu li in
       let other = own_at v j hv lj in
+      let one = at u i hu (omega arith) in
+      let two = at v j hv (omega arith) in
       labels_apart (arcs_of b.net) ps b.tree.labels (depth_of b.tree) (tree_of b ok) (climb ps i u) (climb ps j v)
-      (at_above u i hu (omega arith)) (at_within u i hu)
-      (at_above v j hv (omega arith)) (at_within v j hv) ne (omega (arith, own, other, e))
+      one.above one.within two.above two.within ne (omega (arith, own, other, e))
 
   own_apart : (v i j : ℕ) → v ≤ node_count b.net → i < j → suc j < depth v → place_of b v i ≢ place_of b v j
   own_apart v i j h lt le =
@@ -319,7 +229,7 @@ module _ (b : TreeStructure) (ok : IsBasis b) where
   -- a node of the path has the same child of the root above it
   top_same : (v i : ℕ) → v ≤ node_count b.net → i < depth v → top b (climb ps i v) ≡ top b v
   top_same v i h lt =
-      let e = deep_at v i h (omega arith) in
+      let e = (at v i h lt).deep in
       let steps : depth (climb ps i v) - 1 ≡ depth v - 1 - i = omega (arith, e) in
       let all : i + (depth v - 1 - i) ≡ depth v - 1 = omega arith in
       ap (λ n. climb ps n (climb ps i v)) steps ∙ (sym (climb-add ps i (depth v - 1 - i) v) ∙ ap (λ n. climb ps n v) all)
@@ -328,23 +238,6 @@ module _ (b : TreeStructure) (ok : IsBasis b) where
       → suc i < depth u → suc j < depth v → place_of b u i ≢ place_of b v j
   sides_apart u v i j hu hv ne li lj =
       places_apart u v i j hu hv li lj (λ e. ne (sym (top_same u i hu (omega arith)) ∙ (ap (top b) e ∙ top_same v j hv (omega arith))))
-
-  pub top_case : (v : ℕ) → IsNode (node_count b.net) v → TopCase b v
-  top_case v h =
-      let deep = node_deep v h in
-      let e = deep_at v (depth v - 1) h.1 (omega arith) in
-      let node = at_node_of v (depth v - 1) h.1 (omega (arith, deep)) in
-      let inside = at_within v (depth v - 1) h.1 in
-      let f : depth (top b v) ≡ depth (parent_of b.tree (top b v)) + 1 = ok.spanning.rooted.falls (top b v) node.0 inside in
-      let z : parent_of b.tree (top b v) ≡ 0 = root_from_depth ps (depth_of b.tree) ok.spanning.rooted (parent_of b.tree (top b v))
-      (ok.spanning.rooted.within (top b v) inside) (omega (arith, e, f, deep)) in
-      let arc : HasTreeArc b (top b v) = ok.tree_arcs (top b v) node in
-      let joins : Joins b.net (label_of b.tree (top b v)) (top b v) 0 = subst (Joins b.net (label_of b.tree (top b v)) (top b v)) z arc.joins in
-      elim (top_price b (label_of b.tree (top b v)) (top b v) (artificial_cost b.net) joins (ok.prices.balanced (top b v) node) ok.prices.root
-      (root_arc b.net (label_of b.tree (top b v)) (top b v) ok.of_net arc.label node.0 joins)) [
-        | inl p ↦ high p
-        | inr p ↦ low p
-      ]
 
   -- the weights of a path are among those of all arcs
   rest_of_path : (v : ℕ) → v ≤ node_count b.net → HasRest (weights b) (place_of b v) (depth v - 1)
@@ -380,9 +273,10 @@ module _ (b : TreeStructure) (ok : IsBasis b) where
         let size = up_to_size (arc_at b.net (label_of b.tree (climb ps i v))).cost in
         let same : (arc_at (with_artificial b.net) (label_of b.tree (climb ps i v))).cost
         ≡ (arc_at b.net (label_of b.tree (climb ps i v))).cost = ap (λ a. a.cost) (own_arc b.net (label_of b.tree (climb ps i v)) own) in
-        step_price b (label_of b.tree (climb ps i v)) (climb ps i v) (climb ps (suc i) v) (weight_of b v i)
+        let step = one_step b (label_of b.tree (climb ps i v)) (climb ps i v) (climb ps (suc i) v) (weight_of b v i) 0 (price_at b (climb ps (suc i) v))
         (subst (Joins b.net (label_of b.tree (climb ps i v)) (climb ps i v)) (up_one v i) arc.joins) (ok.prices.balanced (climb ps i v) node)
-        (omega (arith, ints, le, read, size, same), omega (arith, ints, le, read, size, same))
+        (omega (arith, ints, le, read, size, same), omega (arith, ints, le, read, size, same)) (omega (arith, ints), omega (arith, ints)) in
+        (omega (arith, ints, step), omega (arith, ints, step))
 
     near_up : (v n : ℕ) → v ≤ node_count b.net → n < depth v → IsUpTo (total (weight_of b v) n) (price_at b v -ℤ price_at b (climb ps n v))
     near_up v zero h lt = (omega (arith, ints), omega (arith, ints))
@@ -402,11 +296,11 @@ module _ (b : TreeStructure) (ok : IsBasis b) where
         let near_v = near_top v hv in
         let within_u = path_within u hu.1 in
         let within_v = path_within v hv.1 in
-        elim (top_case u hu) [
-          | low pu ↦ absurd (omega (arith, ints, near_u, within_u, pu, up))
-          | high pu ↦ elim (top_case v hv) [
-            | high pv ↦ absurd (omega (arith, ints, near_v, within_v, pv, down))
-            | low pv ↦ (let ne : top b u ≢ top b v = (λ e. (let same = ap (price_at b) e in omega (arith, ints, same, pu, pv))) in
+        elim (top_near b ok u hu.0 hu.1) [
+          | inr pu ↦ absurd (omega (arith, ints, near_u, within_u, pu, up))
+          | inl pu ↦ elim (top_near b ok v hv.0 hv.1) [
+            | inl pv ↦ absurd (omega (arith, ints, near_v, within_v, pv, down))
+            | inr pv ↦ (let ne : top b u ≢ top b v = (λ e. (let same = ap (price_at b) e in omega (arith, ints, same, pu, pv))) in
                 let both = paths_within u v hu.1 hv.1 ne in
                 omega (arith, ints, near_u, near_v, pu, pv, both))
           ]
@@ -457,31 +351,6 @@ find_carrying b ok (suc n) h =
     ]
 
 module _ (b : TreeStructure) (ok : IsBasis b) (none : HasNoEligible b) where
-  -- an arc of reduced cost below 0 is full, and one of reduced cost above 0 is empty
-  full_below : (k : ℕ) → IsArcNumber b.net k → reduced_at b k <ℤ pos 0 → carried b k ≡ (arc_at b.net k).cap
-  full_below k h fall =
-      let a : IsNetArc (arc_at b.net k) = net_arc_at b.net k ok.of_net h in
-      let out : ¬ IsInTree b k = not_in_tree b k ok (λ z. omega (arith, ints, z, fall)) in
-      elim (ok.at_bounds k (own_label b.net k h) out) [
-        | inl z ↦ elim (zero_or_more (arc_at b.net k).cap a.width_low) [
-          | inl c ↦ z ∙ sym c
-          | inr wide ↦ absurd (none k (record { arc = h; outside = out; wide = wide; gains = inl (z, fall) }))
-        ]
-        | inr f ↦ f.1
-      ]
-
-  empty_above : (k : ℕ) → IsArcNumber b.net k → pos 0 <ℤ reduced_at b k → carried b k ≡ pos 0
-  empty_above k h rise =
-      let a : IsNetArc (arc_at b.net k) = net_arc_at b.net k ok.of_net h in
-      let out : ¬ IsInTree b k = not_in_tree b k ok (λ z. omega (arith, ints, z, rise)) in
-      elim (ok.at_bounds k (own_label b.net k h) out) [
-        | inl z ↦ z
-        | inr f ↦ elim (zero_or_more (arc_at b.net k).cap a.width_low) [
-          | inl c ↦ f.1 ∙ c
-          | inr wide ↦ absurd (none k (record { arc = h; outside = out; wide = wide; gains = inr (f.1, rise) }))
-        ]
-      ]
-
   abbrev side : ℕ → Bool
   side v = int_lt (pos 0) (price_at b v)
 
@@ -509,12 +378,12 @@ module _ (b : TreeStructure) (ok : IsBasis b) (none : HasNoEligible b) where
               let apart = prices_apart b ok wide (arc_at b.net k).src (arc_at b.net k).dst ends.src_is_node ends.dst_is_node
               (above_zero (price_at b (arc_at b.net k).src) p.0)
               (not_above_zero (price_at b (arc_at b.net k).dst) (not_true (side (arc_at b.net k).dst) p.1)) in
-              full_below k h (omega (arith, ints, r, size, le, all, apart))),
+              full_below b ok none k h (omega (arith, ints, r, size, le, all, apart))),
           λ e. (let p = and_parts (side (arc_at b.net k).dst) (not (side (arc_at b.net k).src)) e in
               let apart = prices_apart b ok wide (arc_at b.net k).dst (arc_at b.net k).src ends.dst_is_node ends.src_is_node
               (above_zero (price_at b (arc_at b.net k).dst) p.0)
               (not_above_zero (price_at b (arc_at b.net k).src) (not_true (side (arc_at b.net k).src) p.1)) in
-              empty_above k h (omega (arith, ints, r, size, le, all, apart))),
+              empty_above b ok none k h (omega (arith, ints, r, size, le, all, apart))),
         )
 
     crossing_arc : (k : ℕ) → IsArcNumber b.net k → Crosses (arc_at b.net k) (carried b k)
@@ -566,40 +435,20 @@ module _ (b : TreeStructure) (ok : IsBasis b) (none : HasNoEligible b) where
         parts : (s t : ℤ) → s ≡ t +ℤ (s -ℤ t)
         parts = λ s t. omega (arith, ints)
 
-    -- in the set a node has something to send, elsewhere something to take
-    in_low : (v : ℕ) → IsNode (node_count b.net) v → side v ≡ true → pos 0 ≤ℤ unsent b v
-    in_low v h t =
-        let low = artificial_low b ok v h in
-        elim (node_case b ok v h) [
-          | sends e p ↦ omega (arith, ints, e, low)
-          | takes e p ↦ elim (zero_or_more (artificial_amount b v) low) [
-            | inl z ↦ omega (arith, ints, e, z)
-            | inr some ↦ absurd (let price = p some in let up = above_zero (price_at b v) t in omega (arith, ints, price, up))
+    -- a node of the set has what its artificial arc carries left to send, and another left to take
+    by_side : (v : ℕ) → IsNode (node_count b.net) v
+        → (side v ≡ true → unsent b v ≡ artificial_amount b v) × (side v ≡ false → unsent b v ≡ neg_ℤ (artificial_amount b v))
+    by_side v h =
+        elim (zero_or_more (artificial_amount b v) (artificial_low b ok v h)) [
+          | inl z ↦ elim (node_case b ok v h) [
+            | sends e p ↦ (λ t. e, λ f. omega (arith, ints, e, z))
+            | takes e p ↦ (λ t. omega (arith, ints, e, z), λ f. e)
+          ]
+          | inr some ↦ elim (node_case b ok v h) [
+            | sends e p ↦ (λ t. e, λ f. absurd (let price = p some in let down = not_above_zero (price_at b v) f in omega (arith, ints, price, down)))
+            | takes e p ↦ (λ t. absurd (let price = p some in let up = above_zero (price_at b v) t in omega (arith, ints, price, up)), λ f. e)
           ]
         ]
-
-    out_high : (v : ℕ) → IsNode (node_count b.net) v → side v ≡ false → unsent b v ≤ℤ pos 0
-    out_high v h t =
-        let low = artificial_low b ok v h in
-        elim (node_case b ok v h) [
-          | takes e p ↦ omega (arith, ints, e, low)
-          | sends e p ↦ elim (zero_or_more (artificial_amount b v) low) [
-            | inl z ↦ omega (arith, ints, e, z)
-            | inr some ↦ absurd (let price = p some in let down = not_above_zero (price_at b v) t in omega (arith, ints, price, down))
-          ]
-        ]
-
-    some_in : (u : ℕ) → IsNode (node_count b.net) u → pos 0 <ℤ artificial_amount b u → side u ≡ true → pos 0 <ℤ unsent b u
-    some_in u h some t = elim (node_case b ok u h) [
-      | sends e p ↦ omega (arith, ints, e, some)
-      | takes e p ↦ absurd (let price = p some in let up = above_zero (price_at b u) t in omega (arith, ints, price, up))
-    ]
-
-    some_out : (u : ℕ) → IsNode (node_count b.net) u → pos 0 <ℤ artificial_amount b u → side u ≡ false → unsent b u <ℤ pos 0
-    some_out u h some t = elim (node_case b ok u h) [
-      | takes e p ↦ omega (arith, ints, e, some)
-      | sends e p ↦ absurd (let price = p some in let down = not_above_zero (price_at b u) t in omega (arith, ints, price, down))
-    ]
 
     module _ (balanced : supply_in b.net.supplies (λ v. true) ≡ pos 0) where
       all_unsent : node_sum (unsent b) (node_count b.net) ≡ pos 0
@@ -613,15 +462,17 @@ module _ (b : TreeStructure) (ok : IsBasis b) (none : HasNoEligible b) where
       left_over : HasCarrying b → pos 0 <ℤ node_sum (λ v. when (side v) (unsent b v)) (node_count b.net)
       left_over c = elim (cases_Bool (side c.node)) [
         | inl t ↦ node_sum_above_zero (λ v. when (side v) (unsent b v)) (node_count b.net) c.node c.is_node
-            (let up = some_in c.node c.is_node c.some t in
-            let is : when (side c.node) (unsent b c.node) ≡ unsent b c.node = ap (λ s. when s (unsent b c.node)) t in omega (arith, ints, up, is))
-            (λ v h. when_low (side v) (unsent b v) (in_low v h))
+            (let up = (by_side c.node c.is_node).0 t in
+            let some = c.some in
+            let is : when (side c.node) (unsent b c.node) ≡ unsent b c.node = ap (λ s. when s (unsent b c.node)) t in omega (arith, ints, up, some, is))
+            (λ v h. when_low (side v) (unsent b v) (λ u. (let e = (by_side v h).0 u in let low = artificial_low b ok v h in omega (arith, ints, e, low))))
         | inr f ↦ (let all = all_unsent in
             let apart = node_sum-sub (λ v. when (side v) (unsent b v)) (unsent b) (node_count b.net) in
             let more = node_sum_above_zero (λ v. when (side v) (unsent b v) -ℤ unsent b v) (node_count b.net) c.node c.is_node
-            (let down = some_out c.node c.is_node c.some f in
-            let is : when (side c.node) (unsent b c.node) ≡ pos 0 = ap (λ s. when s (unsent b c.node)) f in omega (arith, ints, down, is))
-            (λ v h. when_gap (side v) (unsent b v) (out_high v h)) in
+            (let down = (by_side c.node c.is_node).1 f in
+            let some = c.some in
+            let is : when (side c.node) (unsent b c.node) ≡ pos 0 = ap (λ s. when s (unsent b c.node)) f in omega (arith, ints, down, some, is))
+            (λ v h. when_gap (side v) (unsent b v) (λ u. (let e = (by_side v h).1 u in let low = artificial_low b ok v h in omega (arith, ints, e, low)))) in
             omega (arith, ints, all, apart, more))
       ]
 

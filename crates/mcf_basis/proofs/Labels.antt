@@ -9,8 +9,10 @@ use Rattle.mcf_network.specs.Nets.{IsNet}
 use Rattle.mcf_network.specs.Residual.{no_arc, arc_at}
 use Rattle.mcf_network.proofs.ArcLaws.{ends_at}
 use Rattle.mcf_basis.specs.Artificial.{IsLabel, artificial_arc, artificial_cost, is_sender, with_artificial}
-use Rattle.mcf_basis.specs.Structures.{Joins}
+use Rattle.mcf_tree.specs.SpanningTree.{label_of}
+use Rattle.mcf_basis.specs.Structures.{TreeStructure, IsInTree, Joins}
 use Rattle.mcf_basis.specs.Structures.Joins.{out_of, into}
+use Rattle.mcf_basis.proofs.Pushes.{cases_found}
 
 pub label_count : (g : Network) → length (with_artificial g).arcs ≡ length g.arcs + node_count g
 unfolding with_artificial
@@ -88,4 +90,19 @@ inner_arc g label u v h pu pv joins =
               | into a b ↦ (let z : u ≡ 0 = sym b ∙ (ap (λ x. x.dst) same ∙ d) in omega arith)
             ]
           ])
+    ]
+
+-- an arc joins its ends in either order
+pub joins_back : (g : Network) (label u w : ℕ) → Joins g label u w → Joins g label w u
+joins_back g label u w (out_of a b) = into a b
+joins_back g label u w (into a b) = out_of a b
+
+-- a label is in the tree, or it isn't
+pub cases_in_tree : (b : TreeStructure) (label : ℕ) → IsInTree b label ⊎ (¬ IsInTree b label)
+cases_in_tree b label =
+    elim (cases_found (λ i. label_of b.tree (i + 1)) (node_count b.net) label) [
+      | inl t ↦ inl (let h : t.at < node_count b.net = t.short in record { node = t.at + 1; is_node = (omega arith, omega arith); labelled = t.is })
+      | inr none ↦ inr (λ t. (let h = t.is_node in
+          let e : t.node - 1 + 1 ≡ t.node = omega arith in
+          none (t.node - 1) (omega arith) (ap (label_of b.tree) e ∙ t.labelled)))
     ]

@@ -86,31 +86,35 @@ module _ (b : TreeStructure) (ok : IsBasis b) where
 
   module _ (none : HasNoEligible b) where
     -- an arc of positive reduced cost carries nothing, one of negative reduced cost all that it can
+    pub empty_above : (k : ℕ) → IsArcNumber b.net k → pos 0 <ℤ reduced_at b k → carried b k ≡ pos 0
+    empty_above k h rise =
+        let a : IsNetArc (arc_at b.net k) = net_arc_at b.net k ok.of_net h in
+        let out : ¬ IsInTree b k = not_in_tree b k ok (λ z. omega (arith, ints, z, rise)) in
+        elim (ok.at_bounds k (own_label b.net k h) out) [
+          | inl z ↦ z
+          | inr f ↦ elim (zero_or_more (arc_at b.net k).cap a.width_low) [
+            | inl c ↦ f.1 ∙ c
+            | inr wide ↦ absurd (none k (record { arc = h; outside = out; wide = wide; gains = inr (f.1, rise) }))
+          ]
+        ]
+
+    pub full_below : (k : ℕ) → IsArcNumber b.net k → reduced_at b k <ℤ pos 0 → carried b k ≡ (arc_at b.net k).cap
+    full_below k h fall =
+        let a : IsNetArc (arc_at b.net k) = net_arc_at b.net k ok.of_net h in
+        let out : ¬ IsInTree b k = not_in_tree b k ok (λ z. omega (arith, ints, z, fall)) in
+        elim (ok.at_bounds k (own_label b.net k h) out) [
+          | inl z ↦ elim (zero_or_more (arc_at b.net k).cap a.width_low) [
+            | inl c ↦ z ∙ sym c
+            | inr wide ↦ absurd (none k (record { arc = h; outside = out; wide = wide; gains = inl (z, fall) }))
+          ]
+          | inr f ↦ f.1
+        ]
+
     shown : (k : ℕ) → IsArcNumber b.net k → IsComplementary (drop 1 b.prices) (arc_at b.net k) (carried b k)
     shown k h =
         let r = own_reduced_cost k h in
         let a : IsNetArc (arc_at b.net k) = net_arc_at b.net k ok.of_net h in
-        let no_low = a.no_low in
-        let width = a.width_low in (
-          λ high. (let rise : pos 0 <ℤ reduced_at b k = omega (arith, ints, r, high) in
-              let out : ¬ IsInTree b k = not_in_tree b k ok (λ z. omega (arith, ints, z, rise)) in
-              elim (ok.at_bounds k (own_label b.net k h) out) [
-                | inl z ↦ (omega (arith, ints, z, no_low))
-                | inr f ↦ elim (zero_or_more (arc_at b.net k).cap width) [
-                  | inl c ↦ (let full = f.1 in omega (arith, ints, full, c, no_low))
-                  | inr wide ↦ absurd (none k (record { arc = h; outside = out; wide = wide; gains = inr (f.1, rise) }))
-                ]
-              ]),
-          λ low. (let fall : reduced_at b k <ℤ pos 0 = omega (arith, ints, r, low) in
-              let out : ¬ IsInTree b k = not_in_tree b k ok (λ z. omega (arith, ints, z, fall)) in
-              elim (ok.at_bounds k (own_label b.net k h) out) [
-                | inl z ↦ elim (zero_or_more (arc_at b.net k).cap width) [
-                  | inl c ↦ (omega (arith, ints, z, c))
-                  | inr wide ↦ absurd (none k (record { arc = h; outside = out; wide = wide; gains = inl (z, fall) }))
-                ]
-                | inr f ↦ f.1
-              ]),
-        )
+        (λ high. empty_above k h (omega (arith, ints, r, high)) ∙ sym a.no_low, λ low. full_below k h (omega (arith, ints, r, low)))
 
     pub shows : Shows b.net.arcs (drop 1 b.prices) (state_of b).amounts
     shows =

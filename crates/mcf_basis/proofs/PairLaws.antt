@@ -1,9 +1,9 @@
 -- Each pivot lowers the pair of the cost and the sum of the prices.
-use Rattle.std.proofs.Common.{◌≡◌, ℕ, ◌+◌, ◌<◌, ◌≤◌, Bool, true, false, length, refl, sym, ap, ◌∙◌, subst, arith, inl, inr, ℤ, pos}
+use Rattle.std.proofs.Common.{◌≡◌, ℕ, ◌+◌, ◌<◌, Bool, true, false, length, sym, ap, ◌∙◌, subst, arith, inl, inr, ℤ, pos}
 use Rattle.std.proofs.Common.{◌+ℤ◌, ◌-ℤ◌, ◌≤ℤ◌, ◌<ℤ◌}
 use Rattle.std.specs.Prelude.{int_lt}
 use Rattle.std.proofs.Math.IntN.{◌*ℤ◌, *ℤ_comm}
-use Rattle.std.proofs.lemmas.Bool.{cases_Bool, cases_eq, both_ways}
+use Rattle.std.proofs.lemmas.Bool.{both_ways, false_from_ne_true}
 use Rattle.std.proofs.lemmas.Int.{ints}
 use Rattle.mcf_flows.specs.Flow.{cost}
 use Rattle.mcf_flows.specs.Network.{Network, IsNode, node_count, node_sum, when}
@@ -21,25 +21,20 @@ use Rattle.mcf_basis.specs.Laws.{PivotsLowerThePair}
 use Rattle.mcf_basis.specs.Pivots.{IsEligible, IsExchanged, IsMended, IsPivot, PairFalls, entering, full_cost, price_sum}
 use Rattle.mcf_basis.specs.Pivots.IsMended.{exchanged, kept}
 use Rattle.mcf_basis.specs.Structures.{TreeStructure, CanTake, price_at, reduced_at}
-use Rattle.mcf_basis.proofs.Around.{IsAround, IsLeaving, arcs_of, from_of, left_node, left_steps, right_node, right_steps, to_of, up_arc}
+use Rattle.mcf_basis.proofs.Around.{IsAround, IsLeaving, arcs_of, from_of, left_node, left_steps, right_node, to_of}
 use Rattle.mcf_basis.proofs.Around.IsLeaving.{enter, left, right}
-use Rattle.mcf_basis.proofs.CyclePlaces.{leaving_of_last, up_at}
+use Rattle.mcf_basis.proofs.CyclePlaces.{leaving_of_last}
 use Rattle.mcf_basis.proofs.Cycles.{HasTwoEnds, around, two_ends}
 use Rattle.mcf_basis.proofs.LastBases.{zero_or_more}
-use Rattle.mcf_basis.proofs.Pushed.{left_outside, left_step, node_of, step_at}
+use Rattle.mcf_basis.proofs.Pushed.{left_outside, left_step, right_step}
 use Rattle.mcf_basis.proofs.PushedSums.{entering_cost, entering_low, is_turned, none_turned, not_turned, round_cost, turned_reduced}
-use Rattle.mcf_basis.proofs.StrongKept.{moved_low}
-use Rattle.mcf_basis.proofs.StrongPivot.{labels_apart}
+use Rattle.mcf_basis.proofs.StrongKept.{moved_low, strong_up}
+use Rattle.mcf_basis.proofs.StrongPivot.{same_node}
+use Rattle.mcf_basis.proofs.TreePrices.{in_tree}
 
 not_above_zero : (b : Bool) (z : ℤ) → z <ℤ pos 0 → when b z ≤ℤ pos 0
 not_above_zero true z h = omega (arith, ints, h)
 not_above_zero false z h = omega (arith, ints)
-
-when_true : (b : Bool) (z : ℤ) → b ≡ true → when b z ≡ z
-when_true b z e = rw e refl
-
-when_false : (b : Bool) (z : ℤ) → b ≡ false → when b z ≡ pos 0
-when_false b z e = rw e refl
 
 -- one unit can go along the residual arc that enters
 entering_takes : (b : TreeStructure) (k : ℕ) → IsEligible b k → CanTake b (entering b k) (pos 1)
@@ -61,7 +56,7 @@ module _ (old new : TreeStructure) (k : ℕ) (moved : ℤ) (ok : IsBasis old) (p
   cost_after : full_cost new ≡ full_cost old +ℤ moved *ℤ entering_cost old k
   cost_after =
       ap (λ g. cost (with_artificial g).arcs new.amounts) pivot.net
-      ∙ (ap (λ amounts. cost (with_artificial old.net).arcs amounts) pivot.amounts ∙ round_cost old k pivot.apex moved ok pivot.eligible is_around)
+      ∙ (ap (λ amounts. cost (with_artificial old.net).arcs amounts) pivot.amounts ∙ round_cost old k pivot.apex ok pivot.eligible is_around moved)
 
   -- where something moves, the cost falls
   cost_falls : pos 0 <ℤ moved → full_cost new <ℤ full_cost old
@@ -80,19 +75,9 @@ module _ (old new : TreeStructure) (k : ℕ) (moved : ℤ) (ok : IsBasis old) (p
   ends_of : HasTwoEnds old.net k (from_of old k) (to_of old k)
   ends_of = two_ends old.net k (int_lt (pos 0) (reduced_at old k)) ok.of_net pivot.eligible.arc pivot.eligible.wide
 
-  -- a node of the tree by its label
-  same_node : (u v : ℕ) → 0 < u → u < length old.tree.parents → 0 < v → v < length old.tree.parents → label_of old.tree u ≡ label_of old.tree v → u ≡ v
-  same_node u v pu hu pv hv e = elim (cases_eq u v) [
-    | inl same ↦ same
-    | inr n ↦ absurd (labels_apart (arcs_of old.net) old.tree.parents old.tree.labels (depth_of old.tree) is_around.tree u v pu hu pv hv n e)
-  ]
-
   -- the part that hangs anew has the end that the entering residual arc leaves
   module _ (out inner outer : ℕ) (x : IsExchanged old (entering old k) out inner outer new)
       (at_from : inner ≡ from_of old k) (at_to : outer ≡ to_of old k) where
-    in_tree : (v : ℕ) → v ≤ node_count old.net → v < length old.tree.parents
-    in_tree v h = let size : length old.tree.parents ≡ node_count old.net + 1 = ok.size in omega arith
-
     inner_node : IsNode (node_count old.net) inner
     inner_node = subst (IsNode (node_count old.net)) (sym at_from) ends_of.first
 
@@ -100,24 +85,21 @@ module _ (old new : TreeStructure) (k : ℕ) (moved : ℤ) (ok : IsBasis old) (p
     outer_node = subst (IsNode (node_count old.net)) (sym at_to) ends_of.second
 
     inner_moved : is_above old.tree out inner ≡ true
-    inner_moved = over-from_path old.tree.parents (depth_of old.tree) ok.spanning.rooted out inner (in_tree inner inner_node.1) x.inside
+    inner_moved = over-from_path old.tree.parents (depth_of old.tree) ok.spanning.rooted out inner (in_tree old ok inner inner_node.1) x.inside
 
     outer_stays : is_above old.tree out outer ≡ false
-    outer_stays = elim (cases_Bool (is_above old.tree out outer)) [
-      | inl e ↦ absurd (x.outside (path-from_over old.tree.parents (depth_of old.tree) out outer e))
-      | inr e ↦ e
-    ]
+    outer_stays = false_from_ne_true (is_above old.tree out outer) (λ e. x.outside (path-from_over old.tree.parents (depth_of old.tree) out outer e))
 
     from_price : price_at new (from_of old k) ≡ price_at old (from_of old k) +ℤ x.change
     from_price =
         subst (λ v. price_at new v ≡ price_at old v +ℤ x.change) at_from
-        (x.prices inner inner_node.1 ∙ ap (λ z. price_at old inner +ℤ z) (when_true (is_above old.tree out inner) x.change inner_moved))
+        (x.prices inner inner_node.1 ∙ ap (λ z. price_at old inner +ℤ z) (ap (λ t. when t x.change) inner_moved))
 
     to_price : price_at new (to_of old k) ≡ price_at old (to_of old k)
     to_price =
         subst (λ v. price_at new v ≡ price_at old v) at_to
         (let at = x.prices outer outer_node.1 in
-        let none = when_false (is_above old.tree out outer) x.change outer_stays in omega (arith, ints, at, none))
+        let none : when (is_above old.tree out outer) x.change ≡ pos 0 = ap (λ t. when t x.change) outer_stays in omega (arith, ints, at, none))
 
     -- the reduced cost of the entering residual arc by the new prices, in a net
     abbrev reduced_over : Network → ℤ
@@ -146,7 +128,7 @@ module _ (old new : TreeStructure) (k : ℕ) (moved : ℤ) (ok : IsBasis old) (p
     prices_fall =
         let low = change_low in
         let falls : (price_at new inner) <ℤ price_at old inner = (let at = x.prices inner inner_node.1 in
-        let moves = when_true (is_above old.tree out inner) x.change inner_moved in omega (arith, ints, at, moves, low)) in
+        let moves : when (is_above old.tree out inner) x.change ≡ x.change = ap (λ t. when t x.change) inner_moved in omega (arith, ints, at, moves, low)) in
         let sum : pos 0 <ℤ node_sum (λ v. price_at old v -ℤ price_at new v) (node_count old.net) =
         node_sum_above_zero (λ v. price_at old v -ℤ price_at new v) (node_count old.net) inner inner_node (omega (arith, ints, falls))
         (λ v h. (let at = x.prices v h.1 in
@@ -162,7 +144,8 @@ module _ (old new : TreeStructure) (k : ℕ) (moved : ℤ) (ok : IsBasis old) (p
       let size : length old.tree.parents ≡ node_count old.net + 1 = ok.size in
       let node = x.is_node in
       let step = left_step old k pivot.apex ok pivot.eligible is_around m h in
-      let is : left_node old k m ≡ out = same_node (left_node old k m) out step.above step.within (omega (arith, node)) (omega (arith, node, size)) named in
+      let is : left_node old k m ≡ out = same_node (arcs_of old.net) old.tree.parents old.tree.labels (depth_of old.tree) is_around.tree
+      (left_node old k m) out step.above step.within (omega (arith, node)) (omega (arith, node, size)) named in
       elim x.ends [
         | inl e ↦ prices_fall out inner outer x e.0 e.1
         | inr e ↦ absurd (x.outside (record { steps = m; leads = ap (climb old.tree.parents m) e.1 ∙ is }))
@@ -173,19 +156,10 @@ module _ (old new : TreeStructure) (k : ℕ) (moved : ℤ) (ok : IsBasis old) (p
     one_more : (r : Rid) → ¬ CanTake old r (moved +ℤ pos 1) → ¬ CanTake old r (pos 1)
     one_more r full = subst (λ z. ¬ CanTake old r (z +ℤ pos 1)) still full
 
-    up_takes : (m : ℕ) → m < right_steps old k pivot.apex → CanTake old (up_arc old (right_node old k m)) (pos 1)
-    up_takes m h =
-        let step =
-        step_at old.tree.parents (depth_of old.tree) ok.spanning.rooted (to_of old k)
-        (right_steps old k pivot.apex) m is_around.cycle.right_in_range is_around.cycle.right_short h in
-        let short = is_around.cycle.right_short in
-        let deep = step.deep in
-        up_at old (λ r. CanTake old r (pos 1)) (depth_of old.tree (right_node old k m)) (right_node old k m)
-        (ok.strong (right_node old k m) (node_of old ok (right_node old k m) step.above step.within)) 0 (omega (arith, short, deep, h))
-
     still_falls : (q : Rid) → IsLeaving old k pivot.apex moved q → IsMended old (entering old k) q new → price_sum new <ℤ price_sum old
     still_falls q (right m h is full free) mended =
-        absurd (one_more q full (subst (λ r. CanTake old r (pos 1)) (sym is) (up_takes m h)))
+        absurd (let step = right_step old k pivot.apex ok pivot.eligible is_around m h in
+        one_more q full (subst (λ r. CanTake old r (pos 1)) (sym is) (strong_up old ok (right_node old k m) step.above step.within)))
     still_falls q (enter is full free) mended =
         absurd (one_more q full (subst (λ r. CanTake old r (pos 1)) (sym is) (entering_takes old k pivot.eligible)))
     still_falls q (left m h is full free first above) (kept same stay) =

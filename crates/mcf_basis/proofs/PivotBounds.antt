@@ -1,25 +1,25 @@
 -- The amounts after a pivot: within their bounds, and at a bound outside the new tree.
-use Rattle.std.proofs.Common.{◌≡◌, ◌≢◌, ℕ, ◌+◌, ◌<◌, ◌≤◌, ◌⊎◌, inl, inr, true, false, not, length, sym, ap, ◌∙◌, subst, arith, ℤ, pos}
+use Rattle.std.proofs.Common.{◌≡◌, ◌≢◌, ℕ, ◌<◌, ◌≤◌, ◌⊎◌, inl, inr, true, false, not, length, sym, ap, ◌∙◌, subst, arith, ℤ, pos}
 use Rattle.std.proofs.Common.{◌+ℤ◌, ◌-ℤ◌, ◌≤ℤ◌}
 use Rattle.std.proofs.lemmas.Int.{ints}
 use Rattle.std.proofs.lemmas.Bool.{both_ways, cases_eq, cases_lt, eq-eqb, ne_eqb}
 use Rattle.mcf_flows.specs.Network.{IsNode, node_count}
 use Rattle.mcf_links.specs.Rooted.{climb}
-use Rattle.mcf_links.proofs.Paths.{above_root, climb-within, depth-climb}
 use Rattle.mcf_network.specs.Residual.{arc_at}
-use Rattle.mcf_tree.specs.SpanningTree.{depth_of, label_of, parent_of, size_of}
+use Rattle.mcf_tree.specs.SpanningTree.{depth_of, label_of, parent_of}
 use Rattle.mcf_basis.specs.Artificial.{IsLabel, with_artificial}
 use Rattle.mcf_basis.specs.Bases.{CanHold, IsAtBound, IsBasis}
 use Rattle.mcf_basis.specs.Pivots.{IsPivot, entering}
 use Rattle.mcf_basis.specs.Structures.{TreeStructure, CanTake, IsInTree, carried, leaving}
-use Rattle.mcf_basis.proofs.Labels.{own_label}
 use Rattle.mcf_basis.proofs.Around.{CanGoRound, IsAround, IsLeaving, WentRound, arcs_of, from_of, left_node, left_steps, right_node, right_steps, round_amount}
 use Rattle.mcf_basis.proofs.Around.{to_of}
 use Rattle.mcf_basis.proofs.Around.IsLeaving.{right, enter, left}
 use Rattle.mcf_basis.proofs.LastBases.{zero_or_more}
-use Rattle.mcf_basis.proofs.PricesTurned.{cases_found, new_tree}
-use Rattle.mcf_basis.proofs.Pushes.{Leaves}
+use Rattle.mcf_basis.proofs.PricesTurned.{new_tree}
+use Rattle.mcf_basis.proofs.Pushed.{node_of}
+use Rattle.mcf_basis.proofs.Pushes.{Leaves, cases_found}
 use Rattle.mcf_basis.proofs.StrongKept.{entering_leaves, pivoted_amount}
+use Rattle.mcf_basis.proofs.StrongPivot.{step_at}
 
 -- one residual arc along which x went
 module _ (b : TreeStructure) (label v : ℕ) (x : ℤ) (new : ℕ → ℤ)
@@ -84,12 +84,8 @@ module _ (b : TreeStructure) (label v : ℕ) (x : ℤ) (new : ℕ → ℤ)
 pub side_node : (b : TreeStructure) → IsBasis b → (u n p : ℕ) → u < length b.tree.parents → n ≤ depth_of b.tree u → p < n
     → IsNode (node_count b.net) (climb b.tree.parents p u)
 side_node b ok u n p h short lt =
-    let e : depth_of b.tree (climb b.tree.parents p u) + p ≡ depth_of b.tree u =
-    depth-climb b.tree.parents (depth_of b.tree) ok.spanning.rooted p u h (omega arith) in
-    let w : climb b.tree.parents p u < length b.tree.parents = climb-within b.tree.parents (depth_of b.tree) ok.spanning.rooted p u h in
-    let up : 0 < climb b.tree.parents p u = above_root b.tree.parents (depth_of b.tree) ok.spanning.rooted (climb b.tree.parents p u) (omega arith) in
-    let size : size_of b.tree ≡ node_count b.net + 1 = ok.size in
-    (omega arith, omega (arith, w, size))
+    let w = step_at b.tree.parents (depth_of b.tree) ok.spanning.rooted u n p h short lt in
+    node_of b ok (climb b.tree.parents p u) w.above w.within
 
 module _ (old new : TreeStructure) (k : ℕ) (moved : ℤ) (ok : IsBasis old) (pivot : IsPivot old k moved new) (around : IsAround old k pivot.apex)
     (went : WentRound old k pivot.apex moved) (can : CanGoRound old k pivot.apex moved) where
@@ -108,36 +104,26 @@ module _ (old new : TreeStructure) (k : ℕ) (moved : ℤ) (ok : IsBasis old) (p
   old_hold : (label : ℕ) → IsLabel old.net label → CanHold old.net label (carried old label)
   old_hold label h = ok.flow.within_bounds label h
 
-  hold_left : (label p : ℕ) → IsLabel old.net label → p < left_steps old k pivot.apex → label_of old.tree (left_node old k p) ≡ label
-      → CanHold old.net label (now label)
-  hold_left label p h short is =
-      subst (λ l. CanHold old.net l (now l)) is
-      (pushed_hold old (label_of old.tree (left_node old k p)) (parent_of old.tree (left_node old k p)) moved now
-      (went.left p short) (can.left p short) went.some
-      (old_hold (label_of old.tree (left_node old k p)) (subst (IsLabel old.net) (sym is) h)))
-
-  hold_right : (label p : ℕ) → IsLabel old.net label → p < right_steps old k pivot.apex → label_of old.tree (right_node old k p) ≡ label
-      → CanHold old.net label (now label)
-  hold_right label p h short is =
-      subst (λ l. CanHold old.net l (now l)) is
-      (pushed_hold old (label_of old.tree (right_node old k p)) (right_node old k p) moved now (went.right p short) (can.right p short) went.some
-      (old_hold (label_of old.tree (right_node old k p)) (subst (IsLabel old.net) (sym is) h)))
-
   -- every amount is within its bounds
   round_hold : (label : ℕ) → IsLabel old.net label → CanHold old.net label (now label)
   round_hold label h =
-      elim (cases_eq label k) [
-        | inl e ↦ subst (λ l. CanHold old.net l (now l)) (sym e)
-            (pushed_hold old k (from_of old k) moved now went.entering can_enter went.some (old_hold k (own_label old.net k pivot.eligible.arc)))
+      elim (cases_eq k label) [
+        | inl e ↦ on_cycle k (from_of old k) went.entering can_enter e
         | inr ne ↦ elim (cases_found (λ p. label_of old.tree (left_node old k p)) (left_steps old k pivot.apex) label) [
-          | inl t ↦ hold_left label t.at h t.short t.is
+          | inl t ↦ on_cycle (label_of old.tree (left_node old k t.at)) (parent_of old.tree (left_node old k t.at))
+              (went.left t.at t.short) (can.left t.at t.short) t.is
           | inr off_left ↦ elim (cases_found (λ p. label_of old.tree (right_node old k p)) (right_steps old k pivot.apex) label) [
-            | inl t ↦ hold_right label t.at h t.short t.is
-            | inr off_right ↦ subst (CanHold old.net label) (sym (went.others label ne (λ i l e. off_left i l (sym e)) (λ i l e. off_right i l (sym e))))
-                (old_hold label h)
+            | inl t ↦ on_cycle (label_of old.tree (right_node old k t.at)) (right_node old k t.at) (went.right t.at t.short) (can.right t.at t.short) t.is
+            | inr off_right ↦ subst (CanHold old.net label)
+                (sym (went.others label (λ e. ne (sym e)) (λ i l e. off_left i l (sym e)) (λ i l e. off_right i l (sym e)))) (old_hold label h)
           ]
         ]
       ]
+    where
+      on_cycle : (l v : ℕ) → Leaves (arcs_of old.net) (carried old) now l v moved → CanTake old (leaving old.net l v) moved → l ≡ label
+          → CanHold old.net label (now label)
+      on_cycle = λ l v leaves takes e. subst (λ i. CanHold old.net i (now i)) e
+          (pushed_hold old l v moved now leaves takes went.some (old_hold l (subst (IsLabel old.net) (sym e) h)))
 
   -- an arc outside the old tree that doesn't enter keeps its amount
   round_kept : (label : ℕ) → label ≢ k → ¬ IsInTree old label → now label ≡ carried old label
@@ -159,18 +145,17 @@ module _ (old new : TreeStructure) (k : ℕ) (moved : ℤ) (ok : IsBasis old) (p
 
   -- the arc that leaves is at a bound
   leaving_bound : IsLeaving old k pivot.apex moved pivot.leaves → IsBound pivot.leaves.arc
-  leaving_bound (right m h is full rest) =
-      subst (λ r. IsBound r.arc) (sym is)
-      (pushed_bound old (label_of old.tree (right_node old k m)) (right_node old k m) moved now (went.right m h) (can.right m h) went.some
-      (subst (λ r. ¬ CanTake old r (moved +ℤ pos 1)) is full))
-  leaving_bound (enter is full rest) =
-      subst (λ r. IsBound r.arc) (sym is)
-      (pushed_bound old k (from_of old k) moved now went.entering can_enter went.some
-      (subst (λ r. ¬ CanTake old r (moved +ℤ pos 1)) (is ∙ enters_from) full))
-  leaving_bound (left m h is full rest more side) =
-      subst (λ r. IsBound r.arc) (sym is)
-      (pushed_bound old (label_of old.tree (left_node old k m)) (parent_of old.tree (left_node old k m)) moved now (went.left m h) (can.left m h) went.some
-      (subst (λ r. ¬ CanTake old r (moved +ℤ pos 1)) is full))
+  leaving_bound leaves = elim leaves [
+    | right m h is full rest ↦ on_cycle (label_of old.tree (right_node old k m)) (right_node old k m) (went.right m h) (can.right m h) is full
+    | enter is full rest ↦ on_cycle k (from_of old k) went.entering can_enter (is ∙ enters_from) full
+    | left m h is full rest more side ↦
+        on_cycle (label_of old.tree (left_node old k m)) (parent_of old.tree (left_node old k m)) (went.left m h) (can.left m h) is full
+  ]
+    where
+      on_cycle : (l v : ℕ) → Leaves (arcs_of old.net) (carried old) now l v moved → CanTake old (leaving old.net l v) moved → pivot.leaves ≡ leaving old.net l v
+          → ¬ CanTake old pivot.leaves (moved +ℤ pos 1) → IsBound pivot.leaves.arc
+      on_cycle = λ l v leaves takes is full. subst (λ r. IsBound r.arc) (sym is)
+          (pushed_bound old l v moved now leaves takes went.some (subst (λ r. ¬ CanTake old r (moved +ℤ pos 1)) is full))
 
   old_bound : (label : ℕ) → IsLabel old.net label → label ≢ k → ¬ IsInTree old label → IsBound label
   old_bound label h ne out =

@@ -46,7 +46,7 @@ module _ (old new : TreeStructure) (k : ℕ) (moved : ℤ) (ok : IsBasis old) (p
     one_per_label = ap (λ (xs : List ℤ). length xs) pivot.amounts
         ∙ (round_count old k pivot.apex moved ok ∙ ap (λ g. length (with_artificial g).arcs) (sym pivot.net));
     within_bounds = new_within old new k moved ok pivot is_around went leaves.1;
-    no_surplus = subst HasNoSurplus round_state (round_surplus old k pivot.apex moved ok pivot.eligible is_around);
+    no_surplus = subst HasNoSurplus round_state (round_surplus old k pivot.apex ok pivot.eligible is_around moved);
   }
 
   spans : IsSpanning new.tree

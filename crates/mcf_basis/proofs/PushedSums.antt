@@ -28,6 +28,7 @@ use Rattle.mcf_basis.specs.Pivots.{IsEligible, entering, full_cost}
 use Rattle.mcf_basis.specs.Structures.{TreeStructure, Joins, cycle_of, down_path, full_state, leaving, price_at, reduced_at, up_path}
 use Rattle.mcf_basis.specs.Structures.Joins.{out_of, into}
 use Rattle.mcf_basis.proofs.Around.{IsAround, down_arc, from_of, left_node, left_steps, right_node, right_steps, to_of, up_arc}
+use Rattle.mcf_basis.proofs.Labels.{joins_back}
 use Rattle.mcf_basis.proofs.Pushed.{along_count, cycle_labels, node_of, pushed_count}
 
 -- ---- pushes along a walk, where there is one amount for each arc
@@ -112,10 +113,6 @@ leaving_ends g label u v (out_of s d) =
 leaving_ends g label u v (into s d) =
     ends_back (arc_at (with_artificial g) label).src (arc_at (with_artificial g) label).dst u v s d
 
-Joins-turned : (g : Network) (label u v : ℕ) → Joins g label u v → Joins g label v u
-Joins-turned g label u v (out_of s d) = into s d
-Joins-turned g label u v (into s d) = out_of s d
-
 -- the reduced cost of a residual arc
 pub turned_reduced : (b : TreeStructure) (k : ℕ) (back : Bool) →
     unit_cost (with_artificial b.net) (rid k back) -ℤ price_at b (tail (with_artificial b.net) (rid k back)) +ℤ price_at b
@@ -169,7 +166,7 @@ module _ (b : TreeStructure) (ok : IsBasis b) where
       let f : depth_of b.tree v ≡ depth_of b.tree (parent_of b.tree v) + 1 = ok.spanning.rooted.falls v up h in
       let node : IsNode (node_count b.net) v = node_of b ok v up h in
       let joins : Joins b.net (label_of b.tree v) (parent_of b.tree v) v =
-      Joins-turned b.net (label_of b.tree v) v (parent_of b.tree v) (ok.tree_arcs v node).joins in
+      joins_back b.net (label_of b.tree v) v (parent_of b.tree v) (ok.tree_arcs v node).joins in
       priced_append b (down_path b k (parent_of b.tree v)) (down_arc b v ∷ []) (climb b.tree.parents k (parent_of b.tree v)) (parent_of b.tree v) v
       (down_walk k (parent_of b.tree v) (ok.spanning.rooted.within v h) (omega arith))
       (priced_one b (label_of b.tree v) (parent_of b.tree v) v joins (ok.prices.balanced v node))
@@ -228,8 +225,9 @@ module _ (b : TreeStructure) (k apex : ℕ) (ok : IsBasis b) (el : IsEligible b 
   one_each : length b.amounts ≡ length (with_artificial b.net).arcs
   one_each = ok.flow.one_per_label
 
-  pub surplus_kept : (x : ℤ) → HasNoSurplus (pushed_along (full_state b) (cycle_of b (entering b k) apex) x)
-  surplus_kept x v h =
+  -- nodes have no surplus afterwards either
+  pub round_surplus : (x : ℤ) → HasNoSurplus (pushed_along (full_state b) (cycle_of b (entering b k) apex) x)
+  round_surplus x v h =
       let node : IsNode (node_count (with_artificial b.net)) v =
       subst (λ g. IsNode (node_count g) v) (along_net (full_state b) (cycle_of b (entering b k) apex) x) h in
       let moves =
@@ -239,23 +237,14 @@ module _ (b : TreeStructure) (k apex : ℕ) (ok : IsBasis b) (el : IsEligible b 
       let same = ap (λ u. when (eqb u v) x) around.cycle.closed in
       omega (arith, ints, moves, none, same)
 
-  pub cost_changed : (x : ℤ) →
+  -- the cost changes by the reduced cost of the residual arc that enters, for each unit
+  pub round_cost : (x : ℤ) →
       cost (with_artificial b.net).arcs (pushed_along (full_state b) (cycle_of b (entering b k) apex) x).amounts ≡ full_cost b +ℤ x *ℤ entering_cost b k
-  cost_changed x =
+  round_cost x =
       paid_along (full_state b) (cycle_of b (entering b k) apex) x one_each (cycle_labels b k apex ok el around)
       ∙ ap (λ z. full_cost b +ℤ z) (ap (λ z. z *ℤ x) cycle_cost ∙ *ℤ_comm (entering_cost b k) x)
 
--- nodes have no surplus afterwards either
-pub round_surplus : (b : TreeStructure) (k apex : ℕ) (x : ℤ) → IsBasis b → IsEligible b k → IsAround b k apex →
-    HasNoSurplus (pushed_along (full_state b) (cycle_of b (entering b k) apex) x)
-round_surplus b k apex x ok el around = surplus_kept b k apex ok el around x
-
--- and there is an amount for each label
+-- there is an amount for each label
 pub round_count : (b : TreeStructure) (k apex : ℕ) (x : ℤ) → IsBasis b →
     length (pushed_along (full_state b) (cycle_of b (entering b k) apex) x).amounts ≡ length (with_artificial b.net).arcs
 round_count b k apex x ok = along_count (full_state b) (cycle_of b (entering b k) apex) x ∙ ok.flow.one_per_label
-
--- the cost changes by the reduced cost of the residual arc that enters, for each unit
-pub round_cost : (b : TreeStructure) (k apex : ℕ) (x : ℤ) → IsBasis b → IsEligible b k → IsAround b k apex →
-    cost (with_artificial b.net).arcs (pushed_along (full_state b) (cycle_of b (entering b k) apex) x).amounts ≡ full_cost b +ℤ x *ℤ entering_cost b k
-round_cost b k apex x ok el around = cost_changed b k apex ok el around x

@@ -1,6 +1,7 @@
 -- Arcs by their labels, what they can still carry, and what a push along an arc leaves of its room.
-use Rattle.std.proofs.Common.{◌≡◌, ◌≢◌, ℕ, ◌<◌, ◌≤◌, List, length, Option, Some, None, sym, ◌∙◌, arith, ℤ, pos, ◌+ℤ◌, ◌≤ℤ◌}
+use Rattle.std.proofs.Common.{◌≡◌, ◌≢◌, ℕ, zero, suc, ◌<◌, ◌≤◌, ◌⊎◌, inl, inr, List, length, Option, Some, None, sym, ap, ◌∙◌, arith, ℤ, pos, ◌+ℤ◌, ◌≤ℤ◌}
 use Rattle.std.specs.Prelude.{slice_index}
+use Rattle.std.proofs.lemmas.Bool.{cases_eq}
 use Rattle.std.proofs.lemmas.Int.{ints}
 use Rattle.mcf_links.specs.Rooted.{climb, IsRooted}
 
@@ -110,3 +111,24 @@ CanLeave-same g old new arc v d e c = record {
   forward = λ t. rw e (c.forward t);
   backward = λ t. rw e (c.backward t);
 }
+
+-- ---- a number among those of a table
+
+pub record IsFound (f : ℕ → ℕ) (n x : ℕ) : Type 0 where
+  pub at : ℕ
+  pub short : at < n
+  pub is : f at ≡ x
+
+pub cases_found : (f : ℕ → ℕ) (n x : ℕ) → IsFound f n x ⊎ ((i : ℕ) → i < n → f i ≢ x)
+cases_found f zero x = inr (λ i h. absurd (omega arith))
+cases_found f (suc n) x =
+    elim (cases_eq (f n) x) [
+      | inl e ↦ inl (record { at = n; short = omega arith; is = e })
+      | inr ne ↦ elim (cases_found f n x) [
+        | inl t ↦ inl (let h : t.at < n = t.short in record { at = t.at; short = omega arith; is = t.is })
+        | inr none ↦ inr (λ i h. elim (cases_eq i n) [
+          | inl e ↦ (λ q. ne (ap f (sym e) ∙ q))
+          | inr other ↦ none i (omega arith)
+        ])
+      ]
+    ]

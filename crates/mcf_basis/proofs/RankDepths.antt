@@ -1,11 +1,9 @@
 -- No rank lies far below 0.
-use Rattle.std.proofs.Common.{◌≡◌, ℕ, suc, ◌+◌, ◌-◌, ◌*◌, ◌<◌, List, [], ◌∷◌, length, map, drop, sum, get_or, refl, sym, ap, ◌∙◌, arith, ℤ, pos, negsuc, neg_ℤ}
+use Rattle.std.proofs.Common.{◌≡◌, ℕ, suc, ◌+◌, ◌*◌, ◌<◌, List, [], ◌∷◌, length, map, drop, sum, get_or, refl, ap, arith, ℤ, pos, negsuc, neg_ℤ}
 use Rattle.std.proofs.Common.{◌+ℤ◌, ◌*ℤ◌, ◌≤ℤ◌}
 use Rattle.std.specs.Prelude.{unsigned_abs}
-use Rattle.std.specs.List.{range_with_len}
 use Rattle.std.proofs.lemmas.Int.{ints}
-use Rattle.std.proofs.lemmas.List.{get_or-drop}
-use Rattle.std.proofs.lemmas.List.FromFn.{get_or-map-range_with_len, length-map-range_with_len}
+use Rattle.std.proofs.lemmas.List.FromFn.{length-map-range_with_len}
 use Rattle.mcf_flows.specs.declared.arc.Arc.{Arc}
 use Rattle.mcf_flows.specs.Flow.{cost}
 use Rattle.mcf_flows.specs.Network.{IsNode, flow_sum, node_count}
@@ -18,8 +16,8 @@ use Rattle.mcf_basis.specs.Bases.{IsBasis}
 use Rattle.mcf_basis.specs.Laws.{RanksCountDown}
 use Rattle.mcf_basis.specs.Pivots.{full_cost, price_sum}
 use Rattle.mcf_basis.specs.Ranks.{price_reach, rank_above, rank_depth, rank_of}
-use Rattle.mcf_basis.specs.Structures.{TreeStructure, carried, state_of}
-use Rattle.mcf_basis.proofs.Flows.{amount_count, split_sum}
+use Rattle.mcf_basis.specs.Structures.{TreeStructure, state_of}
+use Rattle.mcf_basis.proofs.Flows.{added_arcs, amount_count, arc_at_place, read_added, split_sum}
 use Rattle.mcf_basis.proofs.Labels.{added_label}
 use Rattle.mcf_basis.proofs.LastBases.{within}
 use Rattle.mcf_basis.proofs.RankLaws.{price_sum_reached, rank_falls}
@@ -33,33 +31,27 @@ sum_low t (a ∷ arcs) (f ∷ flow) each =
     let rest : pos 0 ≤ℤ flow_sum t arcs flow = sum_low t arcs flow (λ i l m. each (suc i) (omega arith) (omega arith)) in
     omega (arith, ints, first, rest)
 
-artificial_paid : (b : TreeStructure) → IsBasis b → (i : ℕ) → i < length (map (artificial_arc b.net) (range_with_len 1 (node_count b.net))) →
-    pos 0 ≤ℤ ((get_or (map (artificial_arc b.net) (range_with_len 1 (node_count b.net))) i no_arc).cost *ℤ get_or (drop (length b.net.arcs) b.amounts) i
-    (pos 0))
+artificial_paid : (b : TreeStructure) → IsBasis b → (i : ℕ) → i < length (added_arcs b.net)
+    → pos 0 ≤ℤ ((get_or (added_arcs b.net) i no_arc).cost *ℤ get_or (drop (length b.net.arcs) b.amounts) i (pos 0))
 artificial_paid b ok i h =
-    let n : length (map (artificial_arc b.net) (range_with_len 1 (node_count b.net))) ≡ node_count b.net =
-    length-map-range_with_len (artificial_arc b.net) 1 (node_count b.net) in
-    let arc = get_or-map-range_with_len (artificial_arc b.net) 1 (node_count b.net) i (i + 1) no_arc (omega (arith, n, h)) (omega arith) in
+    let n : length (added_arcs b.net) ≡ node_count b.net = length-map-range_with_len (artificial_arc b.net) 1 (node_count b.net) in
     let node : IsNode (node_count b.net) (i + 1) = (omega arith, omega (arith, n, h)) in
     let held = ok.flow.within_bounds (length b.net.arcs + (i + 1)) (added_label b.net (i + 1) node) in
-    let place : length b.net.arcs + (i + 1) - 1 ≡ length b.net.arcs + i = omega arith in
-    let read : get_or (drop (length b.net.arcs) b.amounts) i (pos 0) ≡ carried b (length b.net.arcs + (i + 1)) =
-    get_or-drop (length b.net.arcs) b.amounts i (pos 0) ∙ sym (ap (λ j. get_or b.amounts j (pos 0)) place) in
     let low = held.low in
-    let paid = ap (λ a. a.cost) arc in
-    mul_at_least_zero (get_or (map (artificial_arc b.net) (range_with_len 1 (node_count b.net))) i no_arc).cost
+    let read = read_added b i (i + 1) refl in
+    let paid = ap (λ a. a.cost) (arc_at_place b.net i (omega (arith, n, h))) in
+    mul_at_least_zero (get_or (added_arcs b.net) i no_arc).cost
     (get_or (drop (length b.net.arcs) b.amounts) i (pos 0)) (omega (arith, ints, paid)) (omega (arith, ints, read, low))
 
 -- a basis costs no less than all arcs of the net can earn
 cost_low : (b : TreeStructure) → IsBasis b → neg_ℤ (pos (artificial_cost b.net)) ≤ℤ full_cost b
 cost_low b ok =
     let count = amount_count b ok in
-    let split : full_cost b ≡ cost b.net.arcs (state_of b).amounts +ℤ flow_sum (λ a f. a.cost *ℤ f)
-    (map (artificial_arc b.net) (range_with_len 1 (node_count b.net))) (drop (length b.net.arcs) b.amounts) =
+    let split : full_cost b ≡ cost b.net.arcs (state_of b).amounts +ℤ flow_sum (λ a f. a.cost *ℤ f) (added_arcs b.net) (drop (length b.net.arcs) b.amounts) =
     split_sum (λ a f. a.cost *ℤ f) b.net b.amounts (omega (arith, count)) in
     let own : IsUpTo (sum (map weight b.net.arcs)) (cost b.net.arcs (state_of b).amounts) =
     cost_up_to b.net.arcs (state_of b).amounts (sum (map weight b.net.arcs)) (omega arith) (within b ok) in
-    let paid = sum_low (λ a f. a.cost *ℤ f) (map (artificial_arc b.net) (range_with_len 1 (node_count b.net))) (drop (length b.net.arcs) b.amounts)
+    let paid = sum_low (λ a f. a.cost *ℤ f) (added_arcs b.net) (drop (length b.net.arcs) b.amounts)
     (λ i l m. artificial_paid b ok i l) in
     omega (arith, ints, split, own, paid)
 

@@ -9,21 +9,21 @@ use Rattle.std.proofs.lemmas.List.{get_or-replicate, get_or_append_left, get_or-
 use Rattle.std.proofs.lemmas.List.Elements.{All-nil, All-cons}
 use Rattle.std.proofs.lemmas.List.FromFn.{get_or-map-range_with_len, length-map-range_with_len}
 use Rattle.mcf_flows.specs.declared.arc.Arc.{Arc}
-use Rattle.mcf_flows.specs.Flow.{net, outflow, inflow}
+use Rattle.mcf_flows.specs.Flow.{net}
 use Rattle.mcf_flows.specs.Network.{Network, IsArcNumber, IsNode, at_node, flow_sum, node_count, when}
 use Rattle.mcf_flows.proofs.IntLaws.{at_most, at_most_passes}
 use Rattle.mcf_network.specs.Nets.{IsNet, IsNetArc}
-use Rattle.mcf_network.specs.Residual.{no_arc, arc_at}
+use Rattle.mcf_network.specs.Residual.{arc_at}
 use Rattle.mcf_network.specs.States.{HasNoSurplus}
 use Rattle.mcf_network.proofs.ArcLaws.{net_arc_at}
-use Rattle.mcf_network.proofs.StateLaws.{when-same, when-other, when-zero}
+use Rattle.mcf_network.proofs.StateLaws.{when-same, when-other}
 use Rattle.mcf_tree.specs.SpanningTree.{IsSpanning, IsStar, depth_of, label_of, parent_of, size_of}
 use Rattle.mcf_basis.specs.Artificial.{IsLabel, artificial_arc, artificial_cost, is_sender, with_artificial}
 use Rattle.mcf_basis.specs.Bases.{CanHold, HasTreeArc, HasTreePrices, IsAtBound, IsBasis}
 use Rattle.mcf_basis.specs.Starts.{start_amounts, start_price, start_prices}
 use Rattle.mcf_basis.specs.Structures.{TreeStructure, CanTake, IsInTree, carried, full_state, leaving, price_at, reduced_at, up_path}
 use Rattle.mcf_basis.specs.Structures.Joins.{out_of, into}
-use Rattle.mcf_basis.proofs.Flows.{split_sum, sum_of_zeros}
+use Rattle.mcf_basis.proofs.Flows.{added_arcs, arc_at_place, net_of_zeros, split_net}
 use Rattle.mcf_basis.proofs.Labels.{added_arc, added_label, label_case, label_count}
 use Rattle.mcf_basis.proofs.Labels.LabelCase.{own, added}
 use Rattle.mcf_basis.proofs.LastBases.{node_count_added, supply_added}
@@ -67,66 +67,55 @@ apart_dst g u v up ne q = elim (cases_Bool (is_sender g u)) [
   | inr e ↦ ne (sym (taker_dst g u e) ∙ q)
 ]
 
--- the artificial arcs, and what they carry at the start
-abbrev pub added_arcs : Network → List Arc
-added_arcs g = map (artificial_arc g) (range_with_len 1 (node_count g))
-
+-- what the artificial arcs carry at the start
 abbrev star_amount : Network → ℕ → ℤ
 star_amount g u = pos (unsigned_abs (at_node g.supplies u))
 
 abbrev star_flow : Network → List ℤ
 star_flow g = map (λ u. pos (unsigned_abs (at_node g.supplies u))) (range_with_len 1 (node_count g))
 
-pub arc_at_place : (g : Network) (i : ℕ) → i < node_count g → get_or (added_arcs g) i no_arc ≡ artificial_arc g (i + 1)
-arc_at_place g i l = get_or-map-range_with_len (artificial_arc g) 1 (node_count g) i (i + 1) no_arc l (omega arith)
+-- of the artificial arcs one alone is at v
+module _ (g : Network) (flow : List ℤ) (count : length flow ≡ node_count g) (v : ℕ) (h : IsNode (node_count g) v) where
+  at_end : (end : Arc → ℕ) → ((u : ℕ) → u ≢ v → end (artificial_arc g u) ≢ v) →
+      flow_sum (λ a f. when (eqb (end a) v) f) (added_arcs g) flow ≡ when (eqb (end (artificial_arc g v)) v) (get_or flow (v - 1) (pos 0))
+  at_end end apart =
+      let n = length-map-range_with_len (artificial_arc g) 1 (node_count g) in
+      let back : v - 1 + 1 ≡ v = omega arith in
+      single_term (λ a f. when (eqb (end a) v) f) (added_arcs g) flow (v - 1) (count ∙ sym n) (omega (arith, n, h))
+      (λ i l ne. (let m : i < node_count g = omega (arith, n, l) in
+      subst (λ a. when (eqb (end a) v) (get_or flow i (pos 0)) ≡ pos 0) (sym (arc_at_place g i m))
+      (when-other (end (artificial_arc g (i + 1))) v _ (λ q. apart (i + 1) (λ e. ne (omega arith)) (sym q)))))
+      ∙ ap (λ a. when (eqb (end a) v) (get_or flow (v - 1) (pos 0))) (arc_at_place g (v - 1) (omega arith) ∙ ap (artificial_arc g) back)
+
+  -- a sender sends away along it, a taker takes
+  pub sender_net : is_sender g v ≡ true → net (added_arcs g) flow v ≡ get_or flow (v - 1) (pos 0)
+  sender_net e =
+      let out = at_end (λ a. a.src) (λ u ne. apart_src g u v h.0 ne) in
+      let inn = at_end (λ a. a.dst) (λ u ne. apart_dst g u v h.0 ne) in
+      let s = when-same (artificial_arc g v).src v (get_or flow (v - 1) (pos 0)) (sym (sender_src g v e)) in
+      let d = when-other (artificial_arc g v).dst v (get_or flow (v - 1) (pos 0)) (λ q. (let z : v ≡ 0 = q ∙ sender_dst g v e in omega (arith, z, h))) in
+      omega (arith, ints, out, inn, s, d)
+
+  pub taker_net : is_sender g v ≡ false → net (added_arcs g) flow v ≡ neg_ℤ (get_or flow (v - 1) (pos 0))
+  taker_net e =
+      let out = at_end (λ a. a.src) (λ u ne. apart_src g u v h.0 ne) in
+      let inn = at_end (λ a. a.dst) (λ u ne. apart_dst g u v h.0 ne) in
+      let s = when-other (artificial_arc g v).src v (get_or flow (v - 1) (pos 0)) (λ q. (let z : v ≡ 0 = q ∙ taker_src g v e in omega (arith, z, h))) in
+      let d = when-same (artificial_arc g v).dst v (get_or flow (v - 1) (pos 0)) (sym (taker_dst g v e)) in
+      omega (arith, ints, out, inn, s, d)
 
 -- what the artificial arcs carry away from a node is its supply
-module _ (g : Network) (v : ℕ) (h : IsNode (node_count g) v) where
-  star_size : length (star_flow g) ≡ length (added_arcs g)
-  star_size = length-map-range_with_len (λ u. pos (unsigned_abs (at_node g.supplies u))) 1 (node_count g) ∙ sym
-      (length-map-range_with_len (artificial_arc g) 1 (node_count g))
-
-  flow_at_place : (i : ℕ) → i < node_count g → get_or (star_flow g) i (pos 0) ≡ pos (unsigned_abs (at_node g.supplies (i + 1)))
-  flow_at_place i l = get_or-map-range_with_len (λ u. pos (unsigned_abs (at_node g.supplies u))) 1 (node_count g) i (i + 1) (pos 0) l (omega arith)
-
-  star_out : outflow (added_arcs g) (star_flow g) v ≡ when (eqb (artificial_arc g v).src v) (pos (unsigned_abs (at_node g.supplies v)))
-  star_out =
-      let n = length-map-range_with_len (artificial_arc g) 1 (node_count g) in
-      let back : v - 1 + 1 ≡ v = omega arith in
-      single_term (λ a f. when (eqb a.src v) f) (added_arcs g) (star_flow g) (v - 1) star_size (omega (arith, n, h))
-      (λ i l ne. (let m : i < node_count g = omega (arith, n, l) in
-      subst (λ a. when (eqb a.src v) (get_or (star_flow g) i (pos 0)) ≡ pos 0) (sym (arc_at_place g i m))
-      (when-other (artificial_arc g (i + 1)).src v _ (λ q. apart_src g (i + 1) v (omega arith) (λ e. ne (omega arith)) (sym q)))))
-      ∙ (ap (λ a. when (eqb a.src v) (get_or (star_flow g) (v - 1) (pos 0))) (arc_at_place g (v - 1) (omega arith) ∙ ap (artificial_arc g) back)
-      ∙ ap (when (eqb (artificial_arc g v).src v)) (flow_at_place (v - 1) (omega arith) ∙ ap (λ u. pos (unsigned_abs (at_node g.supplies u))) back))
-
-  star_in : inflow (added_arcs g) (star_flow g) v ≡ when (eqb (artificial_arc g v).dst v) (pos (unsigned_abs (at_node g.supplies v)))
-  star_in =
-      let n = length-map-range_with_len (artificial_arc g) 1 (node_count g) in
-      let back : v - 1 + 1 ≡ v = omega arith in
-      single_term (λ a f. when (eqb a.dst v) f) (added_arcs g) (star_flow g) (v - 1) star_size (omega (arith, n, h))
-      (λ i l ne. (let m : i < node_count g = omega (arith, n, l) in
-      subst (λ a. when (eqb a.dst v) (get_or (star_flow g) i (pos 0)) ≡ pos 0) (sym (arc_at_place g i m))
-      (when-other (artificial_arc g (i + 1)).dst v _ (λ q. apart_dst g (i + 1) v (omega arith) (λ e. ne (omega arith)) (sym q)))))
-      ∙ (ap (λ a. when (eqb a.dst v) (get_or (star_flow g) (v - 1) (pos 0))) (arc_at_place g (v - 1) (omega arith) ∙ ap (artificial_arc g) back)
-      ∙ ap (when (eqb (artificial_arc g v).dst v)) (flow_at_place (v - 1) (omega arith) ∙ ap (λ u. pos (unsigned_abs (at_node g.supplies u))) back))
-
-  pub star_net : net (added_arcs g) (star_flow g) v ≡ at_node g.supplies v
-  star_net =
-      let out = star_out in
-      let inn = star_in in
-      elim (cases_Bool (is_sender g v)) [
-        | inl e ↦ (let s = when-same (artificial_arc g v).src v (pos (unsigned_abs (at_node g.supplies v))) (sym (sender_src g v e)) in
-            let d = when-other (artificial_arc g v).dst v (pos (unsigned_abs (at_node g.supplies v)))
-            (λ q. (let z : v ≡ 0 = q ∙ sender_dst g v e in omega (arith, z, h))) in
-            let size = size_low (at_node g.supplies v) (at_most (pos 0) (at_node g.supplies v) e) in
-            omega (arith, ints, out, inn, s, d, size))
-        | inr e ↦ (let s = when-other (artificial_arc g v).src v (pos (unsigned_abs (at_node g.supplies v)))
-            (λ q. (let z : v ≡ 0 = q ∙ taker_src g v e in omega (arith, z, h))) in
-            let d = when-same (artificial_arc g v).dst v (pos (unsigned_abs (at_node g.supplies v))) (sym (taker_dst g v e)) in
-            let size = size_below (at_node g.supplies v) (below_zero (at_node g.supplies v) e) in
-            omega (arith, ints, out, inn, s, d, size))
-      ]
+star_net : (g : Network) (v : ℕ) → IsNode (node_count g) v → net (added_arcs g) (star_flow g) v ≡ at_node g.supplies v
+star_net g v h =
+    let count = length-map-range_with_len (λ u. pos (unsigned_abs (at_node g.supplies u))) 1 (node_count g) in
+    let read : get_or (star_flow g) (v - 1) (pos 0) ≡ star_amount g v =
+    get_or-map-range_with_len (λ u. pos (unsigned_abs (at_node g.supplies u))) 1 (node_count g) (v - 1) v (pos 0) (omega arith) (omega arith) in
+    elim (cases_Bool (is_sender g v)) [
+      | inl e ↦ sender_net g (star_flow g) count v h e ∙ (read ∙ size_low (at_node g.supplies v) (at_most (pos 0) (at_node g.supplies v) e))
+      | inr e ↦ (let n = taker_net g (star_flow g) count v h e in
+          let size = size_below (at_node g.supplies v) (below_zero (at_node g.supplies v) e) in
+          omega (arith, ints, n, read, size))
+    ]
 
 dropped : (n : ℕ) (xs : List ℤ) → drop n (replicate n (pos 0) ++ xs) ≡ xs
 dropped zero xs = refl
@@ -245,21 +234,12 @@ module _ (b : TreeStructure) (ok : IsNet b.net) (spanning : IsSpanning b.tree) (
       ap (λ xs. net (with_artificial b.net).arcs xs v) amounts in
       let size : length b.net.arcs ≤ length (start_amounts b.net) =
       (let a = length-append (replicate (length b.net.arcs) (pos 0)) (star_flow b.net) in omega (arith, a, r)) in
-      let out = split_sum (λ a f. when (eqb a.src v) f) b.net (start_amounts b.net) size in
-      let inn = split_sum (λ a f. when (eqb a.dst v) f) b.net (start_amounts b.net) size in
-      let rest : drop (length b.net.arcs) (start_amounts b.net) ≡ star_flow b.net = dropped (length b.net.arcs) (star_flow b.net) in
-      let zeros = taken (length b.net.arcs) (star_flow b.net) in
-      let out0 : flow_sum (λ a f. when (eqb a.src v) f) b.net.arcs (take (length b.net.arcs) (start_amounts b.net)) ≡ pos 0 =
-      sum_of_zeros (λ a f. when (eqb a.src v) f) (λ a. when-zero (eqb a.src v)) b.net.arcs (take (length b.net.arcs) (start_amounts b.net)) zeros in
-      let inn0 : flow_sum (λ a f. when (eqb a.dst v) f) b.net.arcs (take (length b.net.arcs) (start_amounts b.net)) ≡ pos 0 =
-      sum_of_zeros (λ a f. when (eqb a.dst v) f) (λ a. when-zero (eqb a.dst v)) b.net.arcs (take (length b.net.arcs) (start_amounts b.net)) zeros in
-      let out1 : flow_sum (λ a f. when (eqb a.src v) f) (added_arcs b.net) (drop (length b.net.arcs) (start_amounts b.net)) ≡ flow_sum
-      (λ a f. when (eqb a.src v) f) (added_arcs b.net) (star_flow b.net) = ap (flow_sum (λ a f. when (eqb a.src v) f) (added_arcs b.net)) rest in
-      let inn1 : flow_sum (λ a f. when (eqb a.dst v) f) (added_arcs b.net) (drop (length b.net.arcs) (start_amounts b.net)) ≡ flow_sum
-      (λ a f. when (eqb a.dst v) f) (added_arcs b.net) (star_flow b.net) = ap (flow_sum (λ a f. when (eqb a.dst v) f) (added_arcs b.net)) rest in
+      let split = split_net b.net (start_amounts b.net) v size in
+      let none = net_of_zeros b.net.arcs (take (length b.net.arcs) (start_amounts b.net)) v (taken (length b.net.arcs) (star_flow b.net)) in
+      let rest = ap (λ xs. net (added_arcs b.net) xs v) (dropped (length b.net.arcs) (star_flow b.net)) in
       let away = star_net b.net v node in
       let supply = supply_added b.net v in
-      omega (arith, ints, cut, out, inn, out0, inn0, out1, inn1, away, supply)
+      omega (arith, ints, cut, split, none, rest, away, supply)
 
   star_strong : (v : ℕ) → IsNode (node_count b.net) v → All (λ r. CanTake b r (pos 1)) (up_path b (depth_of b.tree v) v)
   star_strong v h =

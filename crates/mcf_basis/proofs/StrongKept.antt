@@ -1,13 +1,12 @@
 -- A pivot keeps a basis strongly feasible.
-use Rattle.std.proofs.Common.{◌≡◌, ◌≢◌, ℕ, zero, suc, ◌+◌, ◌-◌, ◌<◌, ◌≤◌, ◌&&◌, ◌⊎◌, inl, inr, Bool, true, false, not, eqb, List, length, Some, None, refl, sym}
-use Rattle.std.proofs.Common.{ap, ◌∙◌, subst, arith, ℤ, pos, negsuc, ◌+ℤ◌, ◌≤ℤ◌}
+use Rattle.std.proofs.Common.{◌≡◌, ◌≢◌, ℕ, zero, ◌+◌, ◌-◌, ◌<◌, ◌≤◌, ◌&&◌, ◌⊎◌, inl, inr, Bool, true, false, not, eqb, List, length, Some, None, sym, ap, ◌∙◌, subst}
+use Rattle.std.proofs.Common.{arith, refl, ℤ, pos, negsuc, ◌+ℤ◌, ◌≤ℤ◌}
 use Rattle.std.specs.Prelude.{nat_le, slice_index, slice_index_or, int_lt, if◌then◌else◌}
-use Rattle.std.proofs.lemmas.Bool.{and_from, and_parts, cases_Bool, cases_eq, cases_lt, eq-eqb, eqb-true, le-leb, leb-true, ne_eqb, true≢false}
+use Rattle.std.proofs.lemmas.Bool.{and_from, and_parts, cases_Bool, cases_lt, eq-eqb, eqb-true, le-leb, leb-true, ne_eqb, true≢false}
 use Rattle.std.proofs.lemmas.Int.{ints}
 use Rattle.std.proofs.lemmas.List.{get_or_past}
 use Rattle.mcf_flows.specs.Network.{Network, IsNode, node_count}
-use Rattle.mcf_links.specs.Rooted.{climb, IsOnPath, IsRelabelled, IsTurned}
-use Rattle.mcf_links.proofs.Paths.{above_root, climb-within, depth-climb}
+use Rattle.mcf_links.specs.Rooted.{climb, IsOnPath}
 use Rattle.mcf_network.specs.declared.rid.Rid.{Rid}
 use Rattle.mcf_network.specs.Residual.{arc_at, head, tail}
 use Rattle.mcf_tree.specs.Apex.{IsApex}
@@ -17,15 +16,16 @@ use Rattle.mcf_basis.specs.Bases.{CanHold, HasTreeArc, IsBasis, IsStronglyFeasib
 use Rattle.mcf_basis.specs.Pivots.{IsEligible, IsExchanged, IsMended, IsPivot, entering}
 use Rattle.mcf_basis.specs.Pivots.IsMended.{kept, exchanged}
 use Rattle.mcf_basis.specs.Structures.{TreeStructure, CanTake, carried, leaving, reduced_at}
-use Rattle.mcf_basis.proofs.Pushed.{round_at}
 use Rattle.mcf_basis.proofs.Around.{CanGoRound, IsAround, IsLeaving, WentRound, arcs_of, down_arc, from_of, left_node, left_steps, right_node, right_steps}
 use Rattle.mcf_basis.proofs.Around.{round_amount, to_of, up_arc}
 use Rattle.mcf_basis.proofs.Around.IsLeaving.{right, enter, left}
-use Rattle.mcf_basis.proofs.CyclePlaces.{leaving_of_last, up_all, up_at}
+use Rattle.mcf_basis.proofs.CyclePlaces.{last_at, leaving_of_last, up_all, up_at}
 use Rattle.mcf_basis.proofs.Cycles.{around, below_apex}
 use Rattle.mcf_basis.proofs.Labels.{own_label}
+use Rattle.mcf_basis.proofs.LastBases.{zero_or_more}
+use Rattle.mcf_basis.proofs.Pushed.{cycle_labels, left_step, right_outside, right_step, round_at}
 use Rattle.mcf_basis.proofs.Pushes.{CanLeave, CanLeave-same, HasRoomUp, IsWithin}
-use Rattle.mcf_basis.proofs.StrongPivot.{labels_apart, strong_entering, strong_left, strong_right}
+use Rattle.mcf_basis.proofs.StrongPivot.{IsStep, same_node, step_at, strong_entering, strong_left, strong_right}
 
 -- ---- a residual arc can take, and its arc can leave
 
@@ -99,32 +99,24 @@ not_below b ok label =
 
 -- ---- whole paths and single arcs
 
+-- one more can go up from each node
+pub strong_up : (b : TreeStructure) → IsBasis b → (v : ℕ) → 0 < v → v < length b.tree.parents → CanTake b (up_arc b v) (pos 1)
+strong_up b ok v p h =
+    let size : size_of b.tree ≡ node_count b.net + 1 = ok.size in
+    let falls : depth_of b.tree v ≡ depth_of b.tree (parent_of b.tree v) + 1 = ok.spanning.rooted.falls v p h in
+    up_at b (λ r. CanTake b r (pos 1)) (depth_of b.tree v) v (ok.strong v (omega arith, omega arith)) zero (omega arith)
+
 pub room_of_strong : (b : TreeStructure) → IsBasis b → HasRoomUp (arcs_of b.net) b.tree.parents b.tree.labels (carried b)
-room_of_strong b ok = record {
-  room = λ v p h. (let size : size_of b.tree ≡ node_count b.net + 1 = ok.size in
-      let falls : depth_of b.tree v ≡ depth_of b.tree (parent_of b.tree v) + 1 = ok.spanning.rooted.falls v p h in
-      leave_of_take b (label_of b.tree v) v (pos 1)
-      (up_at b (λ r. CanTake b r (pos 1)) (depth_of b.tree v) v (ok.strong v (omega arith, omega arith)) zero (omega arith)));
-}
+room_of_strong b ok = record { room = λ v p h. leave_of_take b (label_of b.tree v) v (pos 1) (strong_up b ok v p h) }
 
 pub strong_of_room : (b : TreeStructure) (g : Network) (amount : ℕ → ℤ) → IsSpanning b.tree → size_of b.tree ≡ node_count b.net + 1
     → ((v : ℕ) → IsNode (node_count b.net) v → HasTreeArc b v) → b.net ≡ g → ((label : ℕ) → 0 < label → carried b label ≡ amount label)
     → HasRoomUp (arcs_of g) b.tree.parents b.tree.labels amount → IsStronglyFeasible b
 strong_of_room b g amount spanning size joined same reads up v h =
-    up_all b (λ r. CanTake b r (pos 1)) (depth_of b.tree v) v (λ p l. each (climb b.tree.parents p v) (on_path p l) (in_tree p))
+    up_all b (λ r. CanTake b r (pos 1)) (depth_of b.tree v) v (λ p l.
+    let w = step_at b.tree.parents (depth_of b.tree) spanning.rooted v (depth_of b.tree v) p (omega (arith, h, size)) (omega arith) l in
+    each (climb b.tree.parents p v) w.above w.within)
   where
-    inside : v < length b.tree.parents
-    inside = omega (arith, h, size)
-
-    in_tree : (p : ℕ) → climb b.tree.parents p v < length b.tree.parents
-    in_tree = λ p. climb-within b.tree.parents (depth_of b.tree) spanning.rooted p v inside
-
-    on_path : (p : ℕ) → p < depth_of b.tree v → 0 < climb b.tree.parents p v
-    on_path = λ p l.
-        let e : depth_of b.tree (climb b.tree.parents p v) + p ≡ depth_of b.tree v =
-        depth-climb b.tree.parents (depth_of b.tree) spanning.rooted p v inside (omega arith) in
-        above_root b.tree.parents (depth_of b.tree) spanning.rooted (climb b.tree.parents p v) (omega arith)
-
     each : (u : ℕ) → 0 < u → u < length b.tree.parents → CanTake b (up_arc b u) (pos 1)
     each = λ u p l.
         let arc : HasTreeArc b u = joined u (omega arith, omega (arith, size, l)) in
@@ -133,29 +125,6 @@ strong_of_room b g amount spanning size joined same reads up v h =
         (subst (λ n. CanLeave (arcs_of n) amount (label_of b.tree u) u (pos 1)) (sym same) (up.room u p l)))
 
 -- ---- the three cases
-
--- a node of the tree other than the root
-abbrev IsInside : TreeStructure → ℕ → Type 0
-IsInside b v = (v < length b.tree.parents) × (0 < v)
-
-on_side : (b : TreeStructure) → IsBasis b → (u n p : ℕ) → u < length b.tree.parents → n ≤ depth_of b.tree u → p < n → IsInside b (climb b.tree.parents p u)
-on_side b ok u n p inside short l =
-    let e : depth_of b.tree (climb b.tree.parents p u) + p ≡ depth_of b.tree u =
-    depth-climb b.tree.parents (depth_of b.tree) ok.spanning.rooted p u inside (omega arith) in (
-      climb-within b.tree.parents (depth_of b.tree) ok.spanning.rooted p u inside,
-      above_root b.tree.parents (depth_of b.tree) ok.spanning.rooted (climb b.tree.parents p u) (omega arith),
-    )
-
-tree_label : (b : TreeStructure) → IsBasis b → (v : ℕ) → IsInside b v → IsLabel b.net (label_of b.tree v)
-tree_label b ok v inside =
-    let size : size_of b.tree ≡ node_count b.net + 1 = ok.size in
-    let arc : HasTreeArc b v = ok.tree_arcs v (omega (arith, inside), omega (arith, inside, size)) in
-    arc.label
-
-zero_or_more : (x : ℤ) → pos 0 ≤ℤ x → (x ≡ pos 0) ⊎ (pos 1 ≤ℤ x)
-zero_or_more (pos zero) h = inl refl
-zero_or_more (pos (suc n)) h = inr (omega (arith, ints))
-zero_or_more (negsuc n) h = absurd (omega (arith, ints, h))
 
 module _ (old : TreeStructure) (k apex : ℕ) (moved : ℤ) (ok : IsBasis old) (eligible : IsEligible old k)
     (is_apex : IsApex old.tree.parents (depth_of old.tree) (from_of old k) (to_of old k) apex)
@@ -182,26 +151,13 @@ module _ (old : TreeStructure) (k apex : ℕ) (moved : ℤ) (ok : IsBasis old) (
       leave_of_take old k (from_of old k) (moved +ℤ pos 1)
       (subst (λ r. CanTake old r (moved +ℤ pos 1)) (entering_leaves old k is_around.cycle.apart) can)
 
-  right_in : (p : ℕ) → p < right_steps old k apex → IsInside old (right_node old k p)
-  right_in p l =
-      on_side old ok (to_of old k) (right_steps old k apex) p is_around.cycle.right_in_range is_around.cycle.right_short l
-
-  left_in : (p : ℕ) → p < left_steps old k apex → IsInside old (left_node old k p)
-  left_in p l =
-      on_side old ok (from_of old k) (left_steps old k apex) p is_around.cycle.left_in_range is_around.cycle.left_short l
-
   -- what blocks on the right had room for 1, so something moves
   some_moves : (m : ℕ) → m < right_steps old k apex → ¬ CanTake old (up_arc old (right_node old k m)) (moved +ℤ pos 1) → pos 1 ≤ℤ moved
   some_moves m h full = elim (zero_or_more moved went.some) [
-    | inl none ↦ absurd (full (subst (λ z. CanTake old (up_arc old (right_node old k m)) (z +ℤ pos 1)) (sym none) one_more))
-    | inr some ↦ some
+    | inl none ↦ absurd (let w = right_step old k apex ok eligible is_around m h in
+        full (subst (λ z. CanTake old (up_arc old (right_node old k m)) (z +ℤ pos 1)) (sym none) (strong_up old ok (right_node old k m) w.above w.within)))
+    | inr some ↦ omega (arith, ints, some)
   ]
-    where
-      one_more : CanTake old (up_arc old (right_node old k m)) (pos 1)
-      one_more =
-          let inside : IsInside old (right_node old k m) = right_in m h in
-          take_of_leave old (label_of old.tree (right_node old k m)) (right_node old k m) (pos 1) (tree_label old ok (right_node old k m) inside).0
-          ((room_of_strong old ok).room (right_node old k m) inside.1 inside.0)
 
   -- the tree stays
   pub stays : ((p : ℕ) → p < right_steps old k apex → CanTake old (up_arc old (right_node old k p)) (moved +ℤ pos 1)) → HasRoom old.tree.parents old.tree.labels
@@ -211,39 +167,17 @@ module _ (old : TreeStructure) (k apex : ℕ) (moved : ℤ) (ok : IsBasis old) (
       (left_steps old k apex) (right_steps old k apex) moved is_around.tree is_around.cycle went (fits old ok) (not_below old ok) (room_of_strong old ok)
       (λ p l. right_room p (free p l))
 
-  -- an arc on the right leaves
-  pub turns_right : (m : ℕ) (qs ms : List ℕ) → m < right_steps old k apex → ¬ CanTake old (up_arc old (right_node old k m)) (moved +ℤ pos 1)
-      → ((p : ℕ) → m < p → p < right_steps old k apex → CanTake old (up_arc old (right_node old k p)) (moved +ℤ pos 1))
-      → IsTurned old.tree.parents qs (depth_of old.tree) (right_node old k m) (to_of old k) (from_of old k)
-      → IsRelabelled old.tree.parents old.tree.labels ms (depth_of old.tree) (right_node old k m) k (to_of old k) → HasRoom qs ms
-  turns_right m qs ms h full free turned relabelled =
-      strong_right (arcs_of old.net) old.tree.parents old.tree.labels (depth_of old.tree) (carried old) (round_amount old k apex moved)
-      k (from_of old k) (to_of old k)
-      (left_steps old k apex) (right_steps old k apex) moved is_around.tree is_around.cycle went (fits old ok) (not_below old ok) (room_of_strong old ok)
-      m qs ms h turned relabelled (some_moves m h full) (λ p l u. right_room p (free p l u))
-
-  -- an arc on the left leaves
-  pub turns_left : (m : ℕ) (qs ms : List ℕ) → m < left_steps old k apex
-      → ((p : ℕ) → p < m → CanTake old (down_arc old (left_node old k p)) (moved +ℤ pos 1)) → CanTake old (entering old k) (moved +ℤ pos 1)
-      → ((p : ℕ) → p < right_steps old k apex → CanTake old (up_arc old (right_node old k p)) (moved +ℤ pos 1))
-      → IsTurned old.tree.parents qs (depth_of old.tree) (left_node old k m) (from_of old k) (to_of old k)
-      → IsRelabelled old.tree.parents old.tree.labels ms (depth_of old.tree) (left_node old k m) k (from_of old k) → HasRoom qs ms
-  turns_left m qs ms h free first above turned relabelled =
-      strong_left (arcs_of old.net) old.tree.parents old.tree.labels (depth_of old.tree) (carried old) (round_amount old k apex moved)
-      k (from_of old k) (to_of old k)
-      (left_steps old k apex) (right_steps old k apex) moved is_around.tree is_around.cycle went (fits old ok) (not_below old ok) (room_of_strong old ok)
-      m qs ms h turned relabelled (λ p l. left_room p (free p l)) (enter_room first) (λ p l. right_room p (above p l))
-
-  -- a node of the tree by its label
-  same_node : (out v : ℕ) → IsNode (node_count old.net) out → 0 < v → v < length old.tree.parents → label_of old.tree v ≡ label_of old.tree out → out ≡ v
-  same_node out v node p h e = elim (cases_eq out v) [
-    | inl same ↦ same
-    | inr ne ↦ absurd (let size : size_of old.tree ≡ node_count old.net + 1 = ok.size in
-        labels_apart (arcs_of old.net) old.tree.parents old.tree.labels (depth_of old.tree) is_around.tree out v
-        (omega (arith, node)) (omega (arith, node, size)) p h ne (sym e))
-  ]
-
   module _ (out inner outer : ℕ) (new : TreeStructure) (x : IsExchanged old (entering old k) out inner outer new) where
+    -- the arc above a node of the tree is that which leaves, so the node is out
+    is_out : (v p : ℕ) → IsStep old.tree.parents (depth_of old.tree) v p → label_of old.tree (climb old.tree.parents p v) ≡ label_of old.tree out
+        → out ≡ climb old.tree.parents p v
+    is_out v p w e =
+        let size : size_of old.tree ≡ node_count old.net + 1 = ok.size in
+        let node = x.is_node in
+        same_node (arcs_of old.net) old.tree.parents old.tree.labels (depth_of old.tree) is_around.tree out (climb old.tree.parents p v)
+        (omega (arith, node)) (omega (arith, node, size)) w.above w.within (sym e)
+
+    -- an arc on the right leaves
     exchanged_right : (m : ℕ) → m < right_steps old k apex → out ≡ right_node old k m → ¬ CanTake old (up_arc old (right_node old k m)) (moved +ℤ pos 1)
         → ((p : ℕ) → m < p → p < right_steps old k apex → CanTake old (up_arc old (right_node old k p)) (moved +ℤ pos 1))
         → HasRoom new.tree.parents new.tree.labels
@@ -251,24 +185,23 @@ module _ (old : TreeStructure) (k apex : ℕ) (moved : ℤ) (ok : IsBasis old) (
       | inl e ↦ absurd (below_apex old.tree.parents (depth_of old.tree) (to_of old k) (from_of old k) apex out m
           ok.spanning.rooted is_around.cycle.right_in_range h is
           (subst (λ v. IsOnPath old.tree.parents v out) e.0 x.inside) (λ y p q. is_apex.deepest y q p))
-      | inr e ↦ turns_right m new.tree.parents new.tree.labels h full free
-          (subst (λ v. IsTurned old.tree.parents new.tree.parents (depth_of old.tree) v (to_of old k) (from_of old k)) is
-          (subst (λ v. IsTurned old.tree.parents new.tree.parents (depth_of old.tree) out v (from_of old k)) e.0
-          (subst (λ v. IsTurned old.tree.parents new.tree.parents (depth_of old.tree) out inner v) e.1 x.swapped.parents)))
-          (subst (λ v. IsRelabelled old.tree.parents old.tree.labels new.tree.labels (depth_of old.tree) v k (to_of old k)) is
-          (subst (λ v. IsRelabelled old.tree.parents old.tree.labels new.tree.labels (depth_of old.tree) out k v) e.0 x.swapped.labels))
+      | inr e ↦ strong_right (arcs_of old.net) old.tree.parents old.tree.labels (depth_of old.tree) (carried old) (round_amount old k apex moved)
+          k (from_of old k) (to_of old k)
+          (left_steps old k apex) (right_steps old k apex) moved is_around.tree is_around.cycle went (fits old ok) (not_below old ok) (room_of_strong old ok)
+          m new.tree.parents new.tree.labels h (rw (is, e.0, e.1) at x.swapped.parents) (rw (is, e.0) at x.swapped.labels)
+          (some_moves m h full) (λ p l u. right_room p (free p l u))
     ]
 
+    -- an arc on the left leaves
     exchanged_left : (m : ℕ) → m < left_steps old k apex → out ≡ left_node old k m
         → ((p : ℕ) → p < m → CanTake old (down_arc old (left_node old k p)) (moved +ℤ pos 1)) → CanTake old (entering old k) (moved +ℤ pos 1)
         → ((p : ℕ) → p < right_steps old k apex → CanTake old (up_arc old (right_node old k p)) (moved +ℤ pos 1)) → HasRoom new.tree.parents new.tree.labels
     exchanged_left m h is free first above = elim x.ends [
-      | inl e ↦ turns_left m new.tree.parents new.tree.labels h free first above
-          (subst (λ v. IsTurned old.tree.parents new.tree.parents (depth_of old.tree) v (from_of old k) (to_of old k)) is
-          (subst (λ v. IsTurned old.tree.parents new.tree.parents (depth_of old.tree) out v (to_of old k)) e.0
-          (subst (λ v. IsTurned old.tree.parents new.tree.parents (depth_of old.tree) out inner v) e.1 x.swapped.parents)))
-          (subst (λ v. IsRelabelled old.tree.parents old.tree.labels new.tree.labels (depth_of old.tree) v k (from_of old k)) is
-          (subst (λ v. IsRelabelled old.tree.parents old.tree.labels new.tree.labels (depth_of old.tree) out k v) e.0 x.swapped.labels))
+      | inl e ↦ strong_left (arcs_of old.net) old.tree.parents old.tree.labels (depth_of old.tree) (carried old) (round_amount old k apex moved)
+          k (from_of old k) (to_of old k)
+          (left_steps old k apex) (right_steps old k apex) moved is_around.tree is_around.cycle went (fits old ok) (not_below old ok) (room_of_strong old ok)
+          m new.tree.parents new.tree.labels h (rw (is, e.0, e.1) at x.swapped.parents) (rw (is, e.0) at x.swapped.labels)
+          (λ p l. left_room p (free p l)) (enter_room first) (λ p l. right_room p (above p l))
       | inr e ↦ absurd (below_apex old.tree.parents (depth_of old.tree) (from_of old k) (to_of old k) apex out m
           ok.spanning.rooted is_around.cycle.left_in_range h is
           (subst (λ v. IsOnPath old.tree.parents v out) e.0 x.inside) is_apex.deepest)
@@ -276,21 +209,18 @@ module _ (old : TreeStructure) (k apex : ℕ) (moved : ℤ) (ok : IsBasis old) (
 
     exchanged_room : (q : Rid) → q.arc ≡ label_of old.tree out → IsLeaving old k apex moved q → HasRoom new.tree.parents new.tree.labels
     exchanged_room q named (right m h is full free) =
-        let inside : IsInside old (right_node old k m) = right_in m h in
-        exchanged_right m h (same_node out (right_node old k m) x.is_node inside.1 inside.0 (sym (ap (λ r. r.arc) is) ∙ named))
+        exchanged_right m h (is_out (to_of old k) m (right_step old k apex ok eligible is_around m h) (sym (ap (λ r. r.arc) is) ∙ named))
         (subst (λ r. ¬ CanTake old r (moved +ℤ pos 1)) is full) free
     exchanged_room q named (enter is full free) =
         absurd (eligible.outside (record { node = out; is_node = x.is_node; labelled = sym named ∙ ap (λ r. r.arc) is }))
     exchanged_room q named (left m h is full free first above) =
-        let inside : IsInside old (left_node old k m) = left_in m h in
-        exchanged_left m h (same_node out (left_node old k m) x.is_node inside.1 inside.0 (sym (ap (λ r. r.arc) is) ∙ named)) free first above
+        exchanged_left m h (is_out (from_of old k) m (left_step old k apex ok eligible is_around m h) (sym (ap (λ r. r.arc) is) ∙ named)) free first above
 
   -- where the entering arc leaves at once, no arc on the right blocks
   kept_room : (q : Rid) → q ≡ entering old k → IsLeaving old k apex moved q
       → (p : ℕ) → p < right_steps old k apex → CanTake old (up_arc old (right_node old k p)) (moved +ℤ pos 1)
   kept_room q same (right m h is full free) p l =
-      let inside : IsInside old (right_node old k m) = right_in m h in
-      absurd (is_around.cycle.outside (right_node old k m) inside.1 inside.0 (sym (ap (λ r. r.arc) is) ∙ ap (λ r. r.arc) same))
+      absurd (right_outside old k apex ok eligible is_around m h (sym (ap (λ (r : Rid). r.arc) is) ∙ ap (λ (r : Rid). r.arc) same))
   kept_room q same (enter is full free) p l = free p l
   kept_room q same (left m h is full free first above) p l = above p l
 
@@ -331,17 +261,6 @@ can_none b r x ok label none = record {
   backward = λ e. (let low : pos 0 ≤ℤ carried b r.arc = not_below b ok r.arc in omega (arith, ints, low, none));
 }
 
-leaving_label : (b : TreeStructure) (k apex : ℕ) (x : ℤ) (r : Rid) → IsBasis b → IsEligible b k → IsAround b k apex → IsLeaving b k apex x r
-    → IsLabel b.net r.arc
-leaving_label b k apex x r ok eligible is_around (right m h is full free) =
-    subst (λ q. IsLabel b.net q.arc) (sym is)
-    (tree_label b ok (right_node b k m) (on_side b ok (to_of b k) (right_steps b k apex) m is_around.cycle.right_in_range is_around.cycle.right_short h))
-leaving_label b k apex x r ok eligible is_around (enter is full free) =
-    subst (λ q. IsLabel b.net q.arc) (sym is) (own_label b.net k eligible.arc)
-leaving_label b k apex x r ok eligible is_around (left m h is full free first above) =
-    subst (λ q. IsLabel b.net q.arc) (sym is)
-    (tree_label b ok (left_node b k m) (on_side b ok (from_of b k) (left_steps b k apex) m is_around.cycle.left_in_range is_around.cycle.left_short h))
-
 low_or_below : (x : ℤ) → (pos 0 ≤ℤ x) ⊎ ((x +ℤ pos 1) ≤ℤ pos 0)
 low_or_below (pos n) = inl (omega (arith, ints))
 low_or_below (negsuc n) = inr (omega (arith, ints))
@@ -351,8 +270,7 @@ pub moved_low : (old new : TreeStructure) (k : ℕ) (moved : ℤ) → IsBasis ol
 moved_low old new k moved ok pivot = elim (low_or_below moved) [
   | inl low ↦ low
   | inr below ↦ absurd (let is_around : IsAround old k pivot.apex = around old k pivot.apex ok pivot.eligible pivot.is_apex in
-      let leaves : IsLeaving old k pivot.apex moved pivot.leaves × CanGoRound old k pivot.apex moved =
-      leaving_of_last old k pivot.apex moved pivot.leaves ok is_around pivot.last_blocking in
+      let last = last_at old k pivot.apex moved pivot.leaves pivot.last_blocking in
       pivot.last_blocking.full (can_none old pivot.leaves (moved +ℤ pos 1) ok
-      (leaving_label old k pivot.apex moved pivot.leaves ok pivot.eligible is_around leaves.0) below))
+      (subst (λ q. IsLabel old.net q.arc) last.is (cycle_labels old k pivot.apex ok pivot.eligible is_around last.place pivot.leaves last.inside)) below))
 ]

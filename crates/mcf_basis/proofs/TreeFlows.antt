@@ -18,7 +18,7 @@ use Rattle.mcf_basis.specs.Structures.{TreeStructure, IsInTree, carried, state_o
 use Rattle.mcf_basis.specs.Structures.Joins.{out_of, into}
 use Rattle.mcf_network.specs.TreeSolutions.{IsFreeCirculation, at_arc}
 use Rattle.mcf_basis.proofs.Flows.{own_carried}
-use Rattle.mcf_basis.proofs.Labels.{own_arc, own_label}
+use Rattle.mcf_basis.proofs.Labels.{cases_in_tree, own_arc, own_label}
 use Rattle.mcf_basis.proofs.TreePrices.{in_tree}
 
 -- a sum over the arcs of which one term alone isn't 0
@@ -85,21 +85,6 @@ module _ (b : TreeStructure) (ok : IsBasis b) (z : List ℤ) (free : IsFreeCircu
         | inr f ↦ inr (same ∙ f.1)
       ])
 
-  -- the node of an arc of the tree, found by going over the nodes
-  node_of : (k n : ℕ) → n ≤ node_count b.net → (IsInTree b k) ⊎ ((v : ℕ) → IsNode n v → label_of b.tree v ≢ k)
-  node_of k zero h = inr (λ v q. absurd (omega arith))
-  node_of k (suc n) h =
-      elim (cases_eq (label_of b.tree (suc n)) k) [
-        | inl e ↦ inl (record { node = suc n; is_node = (omega arith, h); labelled = e })
-        | inr ne ↦ elim (node_of k n (omega arith)) [
-          | inl t ↦ inl t
-          | inr none ↦ inr (λ v q. elim (cases_eq v (suc n)) [
-            | inl e ↦ (λ l. ne (ap (label_of b.tree) (sym e) ∙ l))
-            | inr other ↦ none v (omega arith, omega arith)
-          ])
-        ]
-      ]
-
   from_the_leaves : (j v : ℕ) → IsNode (node_count b.net) v → size_of b.tree ≤ depth_of b.tree v + j → IsArcNumber b.net (label_of b.tree v)
       → at_arc z (label_of b.tree v) ≡ pos 0
   from_the_leaves zero v h deep own = absurd (let s = depth-lt b.tree.parents (depth_of b.tree) ok.spanning.rooted v (in_tree b ok v h.1) in omega
@@ -127,9 +112,8 @@ module _ (b : TreeStructure) (ok : IsBasis b) (z : List ℤ) (free : IsFreeCircu
           let back : i + 1 - 1 ≡ i = omega arith in
           let k : IsArcNumber b.net (i + 1) = (omega arith, omega arith) in
           let read : at_arc z (i + 1) ≡ get_or z i (pos 0) = ap (λ q. get_or z q (pos 0)) back in
-          elim (node_of (i + 1) (node_count b.net) (omega arith)) [
-            | inr none ↦ nothing_at v (get_or b.net.arcs i no_arc) (get_or z i (pos 0))
-                (sym read ∙ outside_zero (i + 1) k (λ t. none t.node t.is_node t.labelled))
+          elim (cases_in_tree b (i + 1)) [
+            | inr out ↦ nothing_at v (get_or b.net.arcs i no_arc) (get_or z i (pos 0)) (sym read ∙ outside_zero (i + 1) k out)
             | inl t ↦ (let own : IsArcNumber b.net (label_of b.tree t.node) = subst (IsArcNumber b.net) (sym t.labelled) k in
                 let up : depth_of b.tree t.node ≡ depth_of b.tree (parent_of b.tree t.node) + 1 =
                 (let n = t.is_node in ok.spanning.rooted.falls t.node (omega (arith, n)) (in_tree b ok t.node n.1)) in
@@ -151,10 +135,10 @@ module _ (b : TreeStructure) (ok : IsBasis b) (z : List ℤ) (free : IsFreeCircu
 
   pub zero_everywhere : (k : ℕ) → IsArcNumber b.net k → at_arc z k ≡ pos 0
   zero_everywhere k h =
-      elim (node_of k (node_count b.net) (omega arith)) [
+      elim (cases_in_tree b k) [
         | inl t ↦ ap (at_arc z) (sym t.labelled) ∙ from_the_leaves (size_of b.tree) t.node t.is_node (omega arith)
             (subst (IsArcNumber b.net) (sym t.labelled) h)
-        | inr none ↦ outside_zero k h (λ t. none t.node t.is_node t.labelled)
+        | inr out ↦ outside_zero k h out
       ]
 
 pub bases_are_tree_solutions_lem : BasesAreTreeSolutions

@@ -16,7 +16,7 @@ use Rattle.mcf_network.specs.Residual.{no_arc, arc_at}
 use Rattle.mcf_tree.specs.SpanningTree.{depth_of, label_of, parent_of, size_of}
 use Rattle.mcf_tree.proofs.Meeting.{path_place}
 use Rattle.mcf_links.specs.Rooted.{climb, IsOnPath}
-use Rattle.mcf_links.proofs.Paths.{above_root, climb-root, climb-within, depth-climb, root_from_depth}
+use Rattle.mcf_links.proofs.Paths.{climb-root, root_from_depth}
 use Rattle.mcf_links.proofs.Depths.{depth-lt}
 use Rattle.mcf_basis.specs.Artificial.{artificial_cost, with_artificial}
 use Rattle.mcf_basis.specs.Bases.{HasTreeArc, IsBasis}
@@ -24,6 +24,7 @@ use Rattle.mcf_basis.specs.Ranks.{greatest_cost, price_reach}
 use Rattle.mcf_basis.specs.Structures.{TreeStructure, Joins, price_at, reduced_at, price_limit}
 use Rattle.mcf_basis.specs.Structures.Joins.{out_of, into}
 use Rattle.mcf_basis.proofs.Labels.{own_arc, root_arc, inner_arc}
+use Rattle.mcf_basis.proofs.StrongPivot.{step_at}
 
 -- no arc costs more than the greatest cost
 pub cost_within : (arcs : List Arc) (i : ℕ) (d : Arc) → i < length arcs → unsigned_abs (get_or arcs i d).cost ≤ greatest_cost arcs
@@ -43,7 +44,7 @@ le_refl_of : (n : ℕ) → n ≤ n
 le_refl_of n = omega arith
 
 -- one step away from a node whose price lies near a number
-one_step : (b : TreeStructure) (label u v near far : ℕ) (z : ℤ) → Joins b.net label u v → reduced_at b label ≡ pos 0
+pub one_step : (b : TreeStructure) (label u v near far : ℕ) (z : ℤ) → Joins b.net label u v → reduced_at b label ≡ pos 0
     → IsUpTo near (arc_at (with_artificial b.net) label).cost → IsUpTo far (price_at b v -ℤ z) → IsUpTo (near + far) (price_at b u -ℤ z)
 one_step b label u v near far z (out_of s d) r c p =
     let e : ((arc_at (with_artificial b.net) label).cost -ℤ price_at b u) +ℤ price_at b v ≡ pos 0 = rw (s, d) at r in
@@ -55,6 +56,10 @@ one_step b label u v near far z (into s d) r c p =
 -- a price near the artificial cost, or near its opposite
 abbrev pub IsNear : ℕ → ℕ → ℤ → Type 0
 IsNear cost far p = IsUpTo far (p -ℤ pos cost) ⊎ IsUpTo far (p +ℤ pos cost)
+
+-- the child of the root on the path from a node
+abbrev pub top : TreeStructure → ℕ → ℕ
+top b v = climb b.tree.parents (depth_of b.tree v - 1) v
 
 -- the price of a child of the root
 root_step : (b : TreeStructure) (label u : ℕ) → Joins b.net label u 0 → reduced_at b label ≡ pos 0 → price_at b 0 ≡ pos 0 →
@@ -90,21 +95,19 @@ module _ (b : TreeStructure) (ok : IsBasis b) where
       one_step b (label_of b.tree v) v (parent_of b.tree v) (greatest_cost b.net.arcs) far z arc.joins (ok.prices.balanced v (omega arith, h))
       (omega (arith, ints), omega (arith, ints)) p
 
+  below_root : (k v : ℕ) → 0 < climb b.tree.parents k v → 0 < v
+  below_root k v low = elim (cases_eq v 0) [
+    | inl z ↦ absurd (let e = ap (climb b.tree.parents k) z ∙ climb-root b.tree.parents (depth_of b.tree) ok.spanning.rooted k in omega (arith, e, low))
+    | inr nz ↦ omega (arith, nz)
+  ]
+
   -- along a path toward the root, short of it, a price changes by at most the greatest cost a step
   climb_price : (k v : ℕ) → v ≤ node_count b.net → 0 < climb b.tree.parents k v
       → IsUpTo (k * greatest_cost b.net.arcs) (price_at b v -ℤ price_at b (climb b.tree.parents k v))
   climb_price zero v h low = (omega (arith, ints), omega (arith, ints))
   climb_price (suc k) v h low =
-      let top : climb b.tree.parents k 0 ≡ 0 = climb-root b.tree.parents (depth_of b.tree) ok.spanning.rooted k in
-      let high : 0 < parent_of b.tree v = elim (cases_eq (parent_of b.tree v) 0) [
-        | inl z ↦ absurd (let e : climb b.tree.parents k (parent_of b.tree v) ≡ climb b.tree.parents k 0 = ap (climb b.tree.parents k) z in
-            omega (arith, e, top, low))
-        | inr nz ↦ omega (arith, nz)
-      ] in
-      let up : 0 < v = elim (cases_eq v 0) [
-        | inl z ↦ absurd (let e : parent_of b.tree v ≡ 0 = ap (parent_of b.tree) z ∙ ok.spanning.rooted.top in omega (arith, e, high))
-        | inr nz ↦ omega (arith, nz)
-      ] in
+      let high : 0 < parent_of b.tree v = below_root k (parent_of b.tree v) low in
+      let up : 0 < v = below_root (suc k) v low in
       let n : suc k * greatest_cost b.net.arcs ≡ greatest_cost b.net.arcs + k * greatest_cost b.net.arcs = omega arith in
       rw n (inner_step v (k * greatest_cost b.net.arcs) (price_at b (climb b.tree.parents k (parent_of b.tree v))) up h high
       (climb_price k (parent_of b.tree v) (parent_in v h) low))
@@ -134,24 +137,29 @@ module _ (b : TreeStructure) (ok : IsBasis b) where
       root_step b (label_of b.tree v) v joins (ok.prices.balanced v (omega arith, h)) ok.prices.root
       (root_arc b.net (label_of b.tree v) v ok.of_net arc.label up joins)
 
+  -- and so of that on the path from a node
+  pub top_near : (v : ℕ) → 0 < v → v ≤ node_count b.net → IsNear (artificial_cost b.net) 0 (price_at b (top b v))
+  top_near v up h =
+      let inside : v < size_of b.tree = in_tree v h in
+      let f : depth_of b.tree v ≡ depth_of b.tree (parent_of b.tree v) + 1 = ok.spanning.rooted.falls v up inside in
+      let w = step_at b.tree.parents (depth_of b.tree) ok.spanning.rooted v (depth_of b.tree v) (depth_of b.tree v - 1) inside (omega arith) (omega arith) in
+      let deep = w.deep in
+      let within = w.within in
+      let g = ok.spanning.rooted.falls (top b v) w.above w.within in
+      let z : parent_of b.tree (top b v) ≡ 0 = root_from_depth b.tree.parents (depth_of b.tree) ok.spanning.rooted (parent_of b.tree (top b v))
+      (ok.spanning.rooted.within (top b v) w.within) (omega (arith, f, g, deep)) in
+      let size : size_of b.tree ≡ node_count b.net + 1 = ok.size in
+      top_price (top b v) w.above (omega (arith, size, within)) z
+
   -- each price but that of the root lies near the artificial cost, or near its opposite
   pub near_price : (v : ℕ) → 0 < v → v ≤ node_count b.net → IsNear (artificial_cost b.net) (node_count b.net * greatest_cost b.net.arcs) (price_at b v)
   near_price v up h =
-      let ps = b.tree.parents in
-      let inside : v < size_of b.tree = in_tree v h in
-      let f : depth_of b.tree v ≡ depth_of b.tree (parent_of b.tree v) + 1 = ok.spanning.rooted.falls v up inside in
-      let top = climb ps (depth_of b.tree v - 1) v in
-      let top_in : top < size_of b.tree = climb-within ps (depth_of b.tree) ok.spanning.rooted (depth_of b.tree v - 1) v inside in
-      let deep : depth_of b.tree top + (depth_of b.tree v - 1) ≡ depth_of b.tree v =
-      depth-climb ps (depth_of b.tree) ok.spanning.rooted (depth_of b.tree v - 1) v inside (omega arith) in
-      let low : 0 < top = above_root ps (depth_of b.tree) ok.spanning.rooted top (omega arith) in
-      let g : depth_of b.tree top ≡ depth_of b.tree (parent_of b.tree top) + 1 = ok.spanning.rooted.falls top low top_in in
-      let z : parent_of b.tree top ≡ 0 = root_from_depth ps (depth_of b.tree) ok.spanning.rooted (parent_of b.tree top)
-      (ok.spanning.rooted.within top top_in) (omega arith) in
-      let size : size_of b.tree ≡ node_count b.net + 1 = ok.size in
-      let c = climb_price (depth_of b.tree v - 1) v h low in
+      let f = ok.spanning.rooted.falls v up (in_tree v h) in
+      let w = step_at b.tree.parents (depth_of b.tree) ok.spanning.rooted v (depth_of b.tree v) (depth_of b.tree v - 1) (in_tree v h)
+      (omega arith) (omega (arith, f)) in
+      let c = climb_price (depth_of b.tree v - 1) v h w.above in
       let le = short (depth_of b.tree v - 1) v h (omega arith) in
-      elim (top_price top low (omega arith) z) [
+      elim (top_near v up h) [
         | inl t ↦ inl (omega (arith, ints, c, le, t), omega (arith, ints, c, le, t))
         | inr t ↦ inr (omega (arith, ints, c, le, t), omega (arith, ints, c, le, t))
       ]
