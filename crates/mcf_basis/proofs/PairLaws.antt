@@ -1,5 +1,5 @@
 -- Each pivot lowers the pair of the cost and the sum of the prices.
-use Rattle.std.proofs.Common.{◌≡◌, ℕ, ◌+◌, ◌<◌, Bool, true, false, length, sym, ap, ◌∙◌, subst, arith, inl, inr, ℤ, pos}
+use Rattle.std.proofs.Common.{◌≡◌, ℕ, ◌<◌, Bool, true, false, sym, ap, ◌∙◌, subst, arith, inl, inr, ℤ, pos}
 use Rattle.std.proofs.Common.{◌+ℤ◌, ◌-ℤ◌, ◌≤ℤ◌, ◌<ℤ◌}
 use Rattle.std.specs.Prelude.{int_lt}
 use Rattle.std.proofs.Math.IntN.{◌*ℤ◌, *ℤ_comm}
@@ -21,15 +21,14 @@ use Rattle.mcf_basis.specs.Laws.{PivotsLowerThePair}
 use Rattle.mcf_basis.specs.Pivots.{IsEligible, IsExchanged, IsMended, IsPivot, PairFalls, entering, full_cost, price_sum}
 use Rattle.mcf_basis.specs.Pivots.IsMended.{exchanged, kept}
 use Rattle.mcf_basis.specs.Structures.{TreeStructure, CanTake, price_at, reduced_at}
-use Rattle.mcf_basis.proofs.Around.{IsAround, IsLeaving, arcs_of, from_of, left_node, left_steps, right_node, to_of}
+use Rattle.mcf_basis.proofs.Around.{IsAround, IsLeaving, from_of, left_node, left_steps, right_node, to_of}
 use Rattle.mcf_basis.proofs.Around.IsLeaving.{enter, left, right}
 use Rattle.mcf_basis.proofs.CyclePlaces.{leaving_of_last}
 use Rattle.mcf_basis.proofs.Cycles.{HasTwoEnds, around, two_ends}
 use Rattle.mcf_basis.proofs.LastBases.{zero_or_more}
-use Rattle.mcf_basis.proofs.Pushed.{left_outside, left_step, right_step}
+use Rattle.mcf_basis.proofs.Pushed.{left_outside, left_step, right_step, step_of}
 use Rattle.mcf_basis.proofs.PushedSums.{entering_cost, entering_low, is_turned, none_turned, not_turned, round_cost, turned_reduced}
 use Rattle.mcf_basis.proofs.StrongKept.{moved_low, strong_up}
-use Rattle.mcf_basis.proofs.StrongPivot.{same_node}
 use Rattle.mcf_basis.proofs.TreePrices.{in_tree}
 
 not_above_zero : (b : Bool) (z : ℤ) → z <ℤ pos 0 → when b z ≤ℤ pos 0
@@ -141,14 +140,11 @@ module _ (old new : TreeStructure) (k : ℕ) (moved : ℤ) (ok : IsBasis old) (p
   left_falls : (m out inner outer : ℕ) → m < left_steps old k pivot.apex → label_of old.tree (left_node old k m) ≡ label_of old.tree out →
       IsExchanged old (entering old k) out inner outer new → price_sum new <ℤ price_sum old
   left_falls m out inner outer h named x =
-      let size : length old.tree.parents ≡ node_count old.net + 1 = ok.size in
-      let node = x.is_node in
-      let step = left_step old k pivot.apex ok pivot.eligible is_around m h in
-      let is : left_node old k m ≡ out = same_node (arcs_of old.net) old.tree.parents old.tree.labels (depth_of old.tree) is_around.tree
-      (left_node old k m) out step.above step.within (omega (arith, node)) (omega (arith, node, size)) named in
+      let is : out ≡ left_node old k m =
+      step_of old k pivot.apex ok pivot.eligible is_around (from_of old k) m out (left_step old k pivot.apex ok pivot.eligible is_around m h) x.is_node named in
       elim x.ends [
         | inl e ↦ prices_fall out inner outer x e.0 e.1
-        | inr e ↦ absurd (x.outside (record { steps = m; leads = ap (climb old.tree.parents m) e.1 ∙ is }))
+        | inr e ↦ absurd (x.outside (record { steps = m; leads = ap (climb old.tree.parents m) e.1 ∙ sym is }))
       ]
 
   -- nothing moves

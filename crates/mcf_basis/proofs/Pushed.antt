@@ -1,5 +1,5 @@
 -- What an amount that went round the cycle of a pivot leaves each arc.
-use Rattle.std.proofs.Common.{◌≡◌, ◌≢◌, ℕ, zero, suc, ◌+◌, ◌-◌, ◌<◌, ◌≤◌, Bool, true, false, not, eqb, cond, List, [], ◌∷◌, length, get_or, refl, sym, ap, ◌∙◌}
+use Rattle.std.proofs.Common.{◌≡◌, ◌≢◌, ℕ, zero, suc, ◌+◌, ◌-◌, ◌<◌, ◌≤◌, Bool, true, false, not, eqb, cond, List, [], ◌∷◌, length, get_or, set, refl, sym, ap, ◌∙◌}
 use Rattle.std.proofs.Common.{arith, inl, inr, ℤ, pos, ◌+ℤ◌, ◌-ℤ◌, ◌≤ℤ◌, neg_ℤ}
 use Rattle.std.specs.List.{All}
 use Rattle.std.proofs.lemmas.Bool.{cases_eq, cond-true, cond-false, eq-eqb, ne_eqb}
@@ -22,7 +22,7 @@ use Rattle.mcf_basis.proofs.Around.{IsAround, WentRound, arcs_of, from_of, left_
 use Rattle.mcf_basis.proofs.CyclePlaces.{OnCycle, each_place, on_cycle}
 use Rattle.mcf_basis.proofs.Labels.{own_label}
 use Rattle.mcf_basis.proofs.Pushes.{Leaves}
-use Rattle.mcf_basis.proofs.StrongPivot.{IsStep, labels_apart, step_at}
+use Rattle.mcf_basis.proofs.StrongPivot.{IsStep, labels_apart, same_node, step_at}
 
 -- ---- pushes along a list of residual arcs, by labels
 
@@ -42,28 +42,20 @@ gained label x (r ∷ rest) = added_to label x r +ℤ gained label x rest
 abbrev pub HasEntry : List ℤ → Rid → Type 0
 HasEntry amounts r = (1 ≤ r.arc) × (r.arc ≤ length amounts)
 
+one_set : (xs : List ℤ) (k label : ℕ) (y gain : ℤ) → 1 ≤ k → k ≤ length xs → 0 < label → y ≡ get_or xs (k - 1) (pos 0) +ℤ gain →
+    get_or (set xs (k - 1) y) (label - 1) (pos 0) ≡ get_or xs (label - 1) (pos 0) +ℤ when (eqb k label) gain
+one_set xs k label y gain low high h is =
+    elim (read_written xs (k - 1) (label - 1) y (pos 0) (omega arith)) [
+      | inl (e, w) ↦ (let old = ap (λ i. get_or xs i (pos 0)) e in
+          let all = when-same k label gain (omega arith) in
+          omega (arith, ints, w, old, all, is))
+      | inr (n, w) ↦ (let none = when-other k label gain (λ e. n (ap (λ i. i - 1) e)) in omega (arith, ints, w, none))
+    ]
+
 one_push : (s : Pseudoflow) (k : ℕ) (b : Bool) (x : ℤ) (label : ℕ) → 1 ≤ k → k ≤ length s.amounts → 0 < label →
     amount_at (pushed s (rid k b) x) label ≡ amount_at s label +ℤ added_to label x (rid k b)
-one_push s k true x label low high h =
-    elim (read_written s.amounts (k - 1) (label - 1) (amount_at s k -ℤ x) (pos 0) (omega arith)) [
-      | inl (e, w) ↦ (let same : label ≡ k = omega arith in
-          let old : amount_at s label ≡ amount_at s k = ap (amount_at s) same in
-          let gain : when (eqb k label) (neg_ℤ x) ≡ neg_ℤ x = when-same k label (neg_ℤ x) same in
-          omega (arith, ints, w, old, gain))
-      | inr (n, w) ↦ (let other : label ≢ k = (λ e. n (ap (λ i. i - 1) e)) in
-          let gain : when (eqb k label) (neg_ℤ x) ≡ pos 0 = when-other k label (neg_ℤ x) other in
-          omega (arith, ints, w, gain))
-    ]
-one_push s k false x label low high h =
-    elim (read_written s.amounts (k - 1) (label - 1) (amount_at s k +ℤ x) (pos 0) (omega arith)) [
-      | inl (e, w) ↦ (let same : label ≡ k = omega arith in
-          let old : amount_at s label ≡ amount_at s k = ap (amount_at s) same in
-          let gain : when (eqb k label) x ≡ x = when-same k label x same in
-          omega (arith, ints, w, old, gain))
-      | inr (n, w) ↦ (let other : label ≢ k = (λ e. n (ap (λ i. i - 1) e)) in
-          let gain : when (eqb k label) x ≡ pos 0 = when-other k label x other in
-          omega (arith, ints, w, gain))
-    ]
+one_push s k true x label low high h = one_set s.amounts k label (amount_at s k -ℤ x) (neg_ℤ x) low high h (omega (arith, ints))
+one_push s k false x label low high h = one_set s.amounts k label (amount_at s k +ℤ x) x low high h refl
 
 pub pushed_count : (s : Pseudoflow) (r : Rid) (x : ℤ) → length (pushed s r x).amounts ≡ length s.amounts
 pushed_count s r x =
@@ -193,6 +185,14 @@ module _ (b : TreeStructure) (k apex : ℕ) (ok : IsBasis b) (el : IsEligible b 
 
   sides_differ : (p q : ℕ) → p < left_steps b k apex → q < right_steps b k apex → label_of b.tree (left_node b k p) ≢ label_of b.tree (right_node b k q)
   sides_differ p q hp hq = labels_differ (from_of b k) (to_of b k) p q (left_step p hp) (right_step q hq) (around.sides_apart p q hp hq)
+
+  -- the node of a path that has the label of u is u
+  pub step_of : (v p u : ℕ) → IsStep b.tree.parents (depth_of b.tree) v p → IsNode (node_count b.net) u
+      → label_of b.tree (climb b.tree.parents p v) ≡ label_of b.tree u → u ≡ climb b.tree.parents p v
+  step_of v p u w node e =
+      let size : length b.tree.parents ≡ node_count b.net + 1 = ok.size in
+      same_node (arcs_of b.net) b.tree.parents b.tree.labels (depth_of b.tree) around.tree u (climb b.tree.parents p v)
+      (omega (arith, node)) (omega (arith, node, size)) w.above w.within (sym e)
 
   pub left_outside : (p : ℕ) → p < left_steps b k apex → label_of b.tree (left_node b k p) ≢ k
   left_outside p lt = let one = left_step p lt in around.cycle.outside (left_node b k p) one.above one.within

@@ -186,17 +186,11 @@ is_turned (pos zero) h = absurd (omega (arith, ints))
 is_turned (pos (suc n)) h = lt-ltb 0 (suc n) (omega arith)
 is_turned (negsuc n) h = absurd (omega (arith, ints))
 
-below_forward : (z : ℤ) → z <ℤ pos 0 → cond (int_lt (pos 0) z) (neg_ℤ z) z <ℤ pos 0
-below_forward z h = rw (not_turned z h) h
-
-below_backward : (z : ℤ) → pos 0 <ℤ z → cond (int_lt (pos 0) z) (neg_ℤ z) z <ℤ pos 0
-below_backward z h = rw (is_turned z h) (omega (arith, ints, h))
-
 pub entering_low : (b : TreeStructure) (k : ℕ) → IsEligible b k → entering_cost b k <ℤ pos 0
 entering_low b k el =
     elim el.gains [
-      | inl g ↦ below_forward (reduced_at b k) g.1
-      | inr g ↦ below_backward (reduced_at b k) g.1
+      | inl g ↦ rw (not_turned (reduced_at b k) g.1) g.1
+      | inr g ↦ rw (is_turned (reduced_at b k) g.1) (let rise = g.1 in omega (arith, ints, rise))
     ]
 
 module _ (b : TreeStructure) (k apex : ℕ) (ok : IsBasis b) (el : IsEligible b k) (around : IsAround b k apex) where

@@ -1,7 +1,6 @@
 -- No rank lies far below 0.
-use Rattle.std.proofs.Common.{◌≡◌, ℕ, suc, ◌+◌, ◌*◌, ◌<◌, List, [], ◌∷◌, length, map, drop, sum, get_or, refl, ap, arith, ℤ, pos, negsuc, neg_ℤ}
+use Rattle.std.proofs.Common.{◌≡◌, ℕ, suc, ◌+◌, ◌*◌, ◌<◌, List, [], ◌∷◌, length, map, drop, sum, get_or, refl, ap, arith, ℤ, pos, neg_ℤ}
 use Rattle.std.proofs.Common.{◌+ℤ◌, ◌*ℤ◌, ◌≤ℤ◌}
-use Rattle.std.specs.Prelude.{unsigned_abs}
 use Rattle.std.proofs.lemmas.Int.{ints}
 use Rattle.std.proofs.lemmas.List.FromFn.{length-map-range_with_len}
 use Rattle.mcf_flows.specs.declared.arc.Arc.{Arc}
@@ -19,7 +18,7 @@ use Rattle.mcf_basis.specs.Ranks.{price_reach, rank_above, rank_depth, rank_of}
 use Rattle.mcf_basis.specs.Structures.{TreeStructure, state_of}
 use Rattle.mcf_basis.proofs.Flows.{added_arcs, amount_count, arc_at_place, read_added, split_sum}
 use Rattle.mcf_basis.proofs.Labels.{added_label}
-use Rattle.mcf_basis.proofs.LastBases.{within}
+use Rattle.mcf_basis.proofs.LastBases.{size_low, within}
 use Rattle.mcf_basis.proofs.RankLaws.{price_sum_reached, rank_falls}
 
 sum_low : (t : Arc → ℤ → ℤ) (arcs : List Arc) (flow : List ℤ)
@@ -64,13 +63,9 @@ deep c s low half h near =
     let product : pos low *ℤ pos (2 * half + 1) ≡ pos (low * (2 * half + 1)) = refl in
     omega (arith, ints, times, turned, product, near)
 
-size_of_low : (z : ℤ) → pos 0 ≤ℤ z → pos (unsigned_abs z) ≡ z
-size_of_low (pos n) h = refl
-size_of_low (negsuc n) h = absurd (omega (arith, ints))
-
 counted : (b : TreeStructure) → IsBasis b → pos (rank_above b) ≡ rank_of b +ℤ pos (rank_depth b.net)
 counted b ok =
-    size_of_low (rank_of b +ℤ pos (rank_depth b.net)) (deep (full_cost b) (price_sum b) (artificial_cost b.net) (node_count b.net * price_reach b.net)
+    size_low (rank_of b +ℤ pos (rank_depth b.net)) (deep (full_cost b) (price_sum b) (artificial_cost b.net) (node_count b.net * price_reach b.net)
     (cost_low b ok) (price_sum_reached b ok))
 
 pub ranks_count_down_lem : RanksCountDown

@@ -1,6 +1,6 @@
 -- The star of the artificial arcs is a basis.
 use Rattle.std.proofs.Common.{◌≡◌, ◌≢◌, ℕ, zero, suc, ◌+◌, ◌-◌, ◌<◌, ◌≤◌, ◌++◌, inl, inr, true, false, not, eqb, List, [], length, map, take, drop, replicate}
-use Rattle.std.proofs.Common.{get_or, refl, sym, ap, ◌∙◌, arith, subst, ℤ, pos, negsuc, neg_ℤ, ◌+ℤ◌, ◌-ℤ◌, ◌<ℤ◌, ◌≤ℤ◌, length-append}
+use Rattle.std.proofs.Common.{get_or, refl, sym, ap, ◌∙◌, arith, subst, ℤ, pos, negsuc, neg_ℤ, ◌+ℤ◌, ◌-ℤ◌, ◌<ℤ◌, length-append}
 use Rattle.std.specs.Prelude.{unsigned_abs, int_le}
 use Rattle.std.specs.List.{All, range_with_len}
 use Rattle.std.proofs.lemmas.Int.{ints}
@@ -26,16 +26,12 @@ use Rattle.mcf_basis.specs.Structures.Joins.{out_of, into}
 use Rattle.mcf_basis.proofs.Flows.{added_arcs, arc_at_place, net_of_zeros, split_net}
 use Rattle.mcf_basis.proofs.Labels.{added_arc, added_label, label_case, label_count}
 use Rattle.mcf_basis.proofs.Labels.LabelCase.{own, added}
-use Rattle.mcf_basis.proofs.LastBases.{node_count_added, supply_added}
+use Rattle.mcf_basis.proofs.LastBases.{node_count_added, size_low, supply_added}
 use Rattle.mcf_basis.proofs.TreeFlows.{single_term}
 
 below_zero : (x : ℤ) → int_le (pos 0) x ≡ false → x <ℤ pos 0
 below_zero (pos n) e = absurd (true≢false (sym (at_most_passes (pos 0) (pos n) (omega (arith, ints))) ∙ e))
 below_zero (negsuc n) e = omega (arith, ints)
-
-size_low : (x : ℤ) → pos 0 ≤ℤ x → pos (unsigned_abs x) ≡ x
-size_low (pos n) h = refl
-size_low (negsuc n) h = absurd (omega (arith, ints))
 
 size_below : (x : ℤ) → x <ℤ pos 0 → pos (unsigned_abs x) ≡ neg_ℤ x
 size_below (pos n) h = absurd (omega (arith, ints))

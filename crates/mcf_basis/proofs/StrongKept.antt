@@ -23,9 +23,9 @@ use Rattle.mcf_basis.proofs.CyclePlaces.{last_at, leaving_of_last, up_all, up_at
 use Rattle.mcf_basis.proofs.Cycles.{around, below_apex}
 use Rattle.mcf_basis.proofs.Labels.{own_label}
 use Rattle.mcf_basis.proofs.LastBases.{zero_or_more}
-use Rattle.mcf_basis.proofs.Pushed.{cycle_labels, left_step, right_outside, right_step, round_at}
+use Rattle.mcf_basis.proofs.Pushed.{cycle_labels, left_step, right_outside, right_step, round_at, step_of}
 use Rattle.mcf_basis.proofs.Pushes.{CanLeave, CanLeave-same, HasRoomUp, IsWithin}
-use Rattle.mcf_basis.proofs.StrongPivot.{IsStep, same_node, step_at, strong_entering, strong_left, strong_right}
+use Rattle.mcf_basis.proofs.StrongPivot.{step_at, strong_entering, strong_left, strong_right}
 
 -- ---- a residual arc can take, and its arc can leave
 
@@ -168,53 +168,37 @@ module _ (old : TreeStructure) (k apex : ℕ) (moved : ℤ) (ok : IsBasis old) (
       (λ p l. right_room p (free p l))
 
   module _ (out inner outer : ℕ) (new : TreeStructure) (x : IsExchanged old (entering old k) out inner outer new) where
-    -- the arc above a node of the tree is that which leaves, so the node is out
-    is_out : (v p : ℕ) → IsStep old.tree.parents (depth_of old.tree) v p → label_of old.tree (climb old.tree.parents p v) ≡ label_of old.tree out
-        → out ≡ climb old.tree.parents p v
-    is_out v p w e =
-        let size : size_of old.tree ≡ node_count old.net + 1 = ok.size in
-        let node = x.is_node in
-        same_node (arcs_of old.net) old.tree.parents old.tree.labels (depth_of old.tree) is_around.tree out (climb old.tree.parents p v)
-        (omega (arith, node)) (omega (arith, node, size)) w.above w.within (sym e)
-
-    -- an arc on the right leaves
-    exchanged_right : (m : ℕ) → m < right_steps old k apex → out ≡ right_node old k m → ¬ CanTake old (up_arc old (right_node old k m)) (moved +ℤ pos 1)
-        → ((p : ℕ) → m < p → p < right_steps old k apex → CanTake old (up_arc old (right_node old k p)) (moved +ℤ pos 1))
-        → HasRoom new.tree.parents new.tree.labels
-    exchanged_right m h is full free = elim x.ends [
-      | inl e ↦ absurd (below_apex old.tree.parents (depth_of old.tree) (to_of old k) (from_of old k) apex out m
-          ok.spanning.rooted is_around.cycle.right_in_range h is
-          (subst (λ v. IsOnPath old.tree.parents v out) e.0 x.inside) (λ y p q. is_apex.deepest y q p))
-      | inr e ↦ strong_right (arcs_of old.net) old.tree.parents old.tree.labels (depth_of old.tree) (carried old) (round_amount old k apex moved)
-          k (from_of old k) (to_of old k)
-          (left_steps old k apex) (right_steps old k apex) moved is_around.tree is_around.cycle went (fits old ok) (not_below old ok) (room_of_strong old ok)
-          m new.tree.parents new.tree.labels h (rw (is, e.0, e.1) at x.swapped.parents) (rw (is, e.0) at x.swapped.labels)
-          (some_moves m h full) (λ p l u. right_room p (free p l u))
-    ]
-
-    -- an arc on the left leaves
-    exchanged_left : (m : ℕ) → m < left_steps old k apex → out ≡ left_node old k m
-        → ((p : ℕ) → p < m → CanTake old (down_arc old (left_node old k p)) (moved +ℤ pos 1)) → CanTake old (entering old k) (moved +ℤ pos 1)
-        → ((p : ℕ) → p < right_steps old k apex → CanTake old (up_arc old (right_node old k p)) (moved +ℤ pos 1)) → HasRoom new.tree.parents new.tree.labels
-    exchanged_left m h is free first above = elim x.ends [
-      | inl e ↦ strong_left (arcs_of old.net) old.tree.parents old.tree.labels (depth_of old.tree) (carried old) (round_amount old k apex moved)
-          k (from_of old k) (to_of old k)
-          (left_steps old k apex) (right_steps old k apex) moved is_around.tree is_around.cycle went (fits old ok) (not_below old ok) (room_of_strong old ok)
-          m new.tree.parents new.tree.labels h (rw (is, e.0, e.1) at x.swapped.parents) (rw (is, e.0) at x.swapped.labels)
-          (λ p l. left_room p (free p l)) (enter_room first) (λ p l. right_room p (above p l))
-      | inr e ↦ absurd (below_apex old.tree.parents (depth_of old.tree) (from_of old k) (to_of old k) apex out m
-          ok.spanning.rooted is_around.cycle.left_in_range h is
-          (subst (λ v. IsOnPath old.tree.parents v out) e.0 x.inside) is_apex.deepest)
-    ]
-
     exchanged_room : (q : Rid) → q.arc ≡ label_of old.tree out → IsLeaving old k apex moved q → HasRoom new.tree.parents new.tree.labels
     exchanged_room q named (right m h is full free) =
-        exchanged_right m h (is_out (to_of old k) m (right_step old k apex ok eligible is_around m h) (sym (ap (λ r. r.arc) is) ∙ named))
-        (subst (λ r. ¬ CanTake old r (moved +ℤ pos 1)) is full) free
+        let at_out : out ≡ right_node old k m =
+        step_of old k apex ok eligible is_around (to_of old k) m out (right_step old k apex ok eligible is_around m h) x.is_node
+        (sym (ap (λ r. r.arc) is) ∙ named) in
+        elim x.ends [
+          | inl e ↦ absurd (below_apex old.tree.parents (depth_of old.tree) (to_of old k) (from_of old k) apex out m
+              ok.spanning.rooted is_around.cycle.right_in_range h at_out
+              (subst (λ v. IsOnPath old.tree.parents v out) e.0 x.inside) (λ y p q. is_apex.deepest y q p))
+          | inr e ↦ strong_right (arcs_of old.net) old.tree.parents old.tree.labels (depth_of old.tree) (carried old) (round_amount old k apex moved)
+              k (from_of old k) (to_of old k) (left_steps old k apex) (right_steps old k apex) moved is_around.tree is_around.cycle went
+              (fits old ok) (not_below old ok) (room_of_strong old ok) m new.tree.parents new.tree.labels h
+              (rw (at_out, e.0, e.1) at x.swapped.parents) (rw (at_out, e.0) at x.swapped.labels)
+              (some_moves m h (subst (λ r. ¬ CanTake old r (moved +ℤ pos 1)) is full)) (λ p l u. right_room p (free p l u))
+        ]
     exchanged_room q named (enter is full free) =
         absurd (eligible.outside (record { node = out; is_node = x.is_node; labelled = sym named ∙ ap (λ r. r.arc) is }))
     exchanged_room q named (left m h is full free first above) =
-        exchanged_left m h (is_out (from_of old k) m (left_step old k apex ok eligible is_around m h) (sym (ap (λ r. r.arc) is) ∙ named)) free first above
+        let at_out : out ≡ left_node old k m =
+        step_of old k apex ok eligible is_around (from_of old k) m out (left_step old k apex ok eligible is_around m h) x.is_node
+        (sym (ap (λ r. r.arc) is) ∙ named) in
+        elim x.ends [
+          | inl e ↦ strong_left (arcs_of old.net) old.tree.parents old.tree.labels (depth_of old.tree) (carried old) (round_amount old k apex moved)
+              k (from_of old k) (to_of old k) (left_steps old k apex) (right_steps old k apex) moved is_around.tree is_around.cycle went
+              (fits old ok) (not_below old ok) (room_of_strong old ok) m new.tree.parents new.tree.labels h
+              (rw (at_out, e.0, e.1) at x.swapped.parents) (rw (at_out, e.0) at x.swapped.labels)
+              (λ p l. left_room p (free p l)) (enter_room first) (λ p l. right_room p (above p l))
+          | inr e ↦ absurd (below_apex old.tree.parents (depth_of old.tree) (from_of old k) (to_of old k) apex out m
+              ok.spanning.rooted is_around.cycle.left_in_range h at_out
+              (subst (λ v. IsOnPath old.tree.parents v out) e.0 x.inside) is_apex.deepest)
+        ]
 
   -- where the entering arc leaves at once, no arc on the right blocks
   kept_room : (q : Rid) → q ≡ entering old k → IsLeaving old k apex moved q

@@ -8,7 +8,7 @@ use Rattle.std.proofs.Math.Nat.{mul-le-mul, mul-le-mul_left}
 use Rattle.std.proofs.lemmas.Bool.{cases_eq}
 use Rattle.mcf_flows.specs.declared.arc.Arc.{Arc}
 use Rattle.mcf_flows.specs.Limits.{limits, node_limit}
-use Rattle.mcf_flows.specs.Network.{Network, IsArcNumber, node_count}
+use Rattle.mcf_flows.specs.Network.{Network, IsArcNumber, IsNode, node_count}
 use Rattle.mcf_flows.specs.WellFormed.{IsUpTo, weight}
 use Rattle.mcf_flows.proofs.Bounds.{size_up_to, up_to_size}
 use Rattle.mcf_network.specs.Nets.{IsNet, IsNetArc, net_total_limit}
@@ -129,15 +129,7 @@ module _ (b : TreeStructure) (ok : IsBasis b) where
       let le = short (depth_of b.tree v - depth_of b.tree out) v h (omega arith) in
       (omega (arith, ints, q, le), omega (arith, ints, q, le))
 
-  -- the price of a child of the root
-  top_price : (v : ℕ) → 0 < v → v ≤ node_count b.net → parent_of b.tree v ≡ 0 → IsNear (artificial_cost b.net) 0 (price_at b v)
-  top_price v up h z =
-      let arc : HasTreeArc b v = ok.tree_arcs v (omega arith, h) in
-      let joins : Joins b.net (label_of b.tree v) v 0 = subst (Joins b.net (label_of b.tree v) v) z arc.joins in
-      root_step b (label_of b.tree v) v joins (ok.prices.balanced v (omega arith, h)) ok.prices.root
-      (root_arc b.net (label_of b.tree v) v ok.of_net arc.label up joins)
-
-  -- and so of that on the path from a node
+  -- the price of the child of the root on the path from a node
   pub top_near : (v : ℕ) → 0 < v → v ≤ node_count b.net → IsNear (artificial_cost b.net) 0 (price_at b (top b v))
   top_near v up h =
       let inside : v < size_of b.tree = in_tree v h in
@@ -149,7 +141,11 @@ module _ (b : TreeStructure) (ok : IsBasis b) where
       let z : parent_of b.tree (top b v) ≡ 0 = root_from_depth b.tree.parents (depth_of b.tree) ok.spanning.rooted (parent_of b.tree (top b v))
       (ok.spanning.rooted.within (top b v) w.within) (omega (arith, f, g, deep)) in
       let size : size_of b.tree ≡ node_count b.net + 1 = ok.size in
-      top_price (top b v) w.above (omega (arith, size, within)) z
+      let node : IsNode (node_count b.net) (top b v) = (w.above, omega (arith, size, within)) in
+      let arc : HasTreeArc b (top b v) = ok.tree_arcs (top b v) node in
+      let joins : Joins b.net (label_of b.tree (top b v)) (top b v) 0 = subst (Joins b.net (label_of b.tree (top b v)) (top b v)) z arc.joins in
+      root_step b (label_of b.tree (top b v)) (top b v) joins (ok.prices.balanced (top b v) node) ok.prices.root
+      (root_arc b.net (label_of b.tree (top b v)) (top b v) ok.of_net arc.label w.above joins)
 
   -- each price but that of the root lies near the artificial cost, or near its opposite
   pub near_price : (v : ℕ) → 0 < v → v ≤ node_count b.net → IsNear (artificial_cost b.net) (node_count b.net * greatest_cost b.net.arcs) (price_at b v)
