@@ -115,9 +115,13 @@ module _ (b : TreeStructure) (ok : IsBasis b) where
         ])
       ]
 
-  added_reduced : (v : ℕ) → IsNode (node_count b.net) v →
-      reduced_at b (length b.net.arcs + v) ≡ pos (artificial_cost b.net) -ℤ price_at b (artificial_arc b.net v).src +ℤ price_at b (artificial_arc b.net v).dst
-  added_reduced v h = ap (λ a. a.cost -ℤ price_at b a.src +ℤ price_at b a.dst) (added_arc b.net v (length b.net.arcs + v) h refl)
+  -- along such an artificial arc the price falls by its cost
+  added_price : (v : ℕ) → IsNode (node_count b.net) v → pos 0 <ℤ artificial_amount b v
+      → price_at b (artificial_arc b.net v).src ≡ pos (artificial_cost b.net) +ℤ price_at b (artificial_arc b.net v).dst
+  added_price v h some =
+      let none = carrying v h some in
+      let r = ap (λ a. a.cost -ℤ price_at b a.src +ℤ price_at b a.dst) (added_arc b.net v (length b.net.arcs + v) h refl) in
+      omega (arith, ints, none, r)
 
   -- what a node has unsent goes along its artificial arc
   unsent_is : (v : ℕ) → IsNode (node_count b.net) v → unsent b v ≡ net (added_arcs b.net) (drop (length b.net.arcs) b.amounts) v
@@ -128,31 +132,21 @@ module _ (b : TreeStructure) (ok : IsBasis b) where
       let split = split_net b.net b.amounts v (omega (arith, e)) in
       omega (arith, ints, s, sup, split)
 
-  sender_case : (v : ℕ) → IsNode (node_count b.net) v → is_sender b.net v ≡ true → NodeCase b v
-  sender_case v h e =
-      sends (unsent_is v h ∙ (sender_net b.net (drop (length b.net.arcs) b.amounts) (rest_count b ok) v h e ∙ read_added b (v - 1) v (omega arith)))
-      (λ some. (let zero_cost = carrying v h some in
-      let r = added_reduced v h in
-      let at_src = ap (price_at b) (sender_src b.net v e) in
-      let at_dst = ap (price_at b) (sender_dst b.net v e) in
-      let root = ok.prices.root in
-      omega (arith, ints, zero_cost, r, at_src, at_dst, root)))
-
-  taker_case : (v : ℕ) → IsNode (node_count b.net) v → is_sender b.net v ≡ false → NodeCase b v
-  taker_case v h e =
-      takes (unsent_is v h ∙ (taker_net b.net (drop (length b.net.arcs) b.amounts) (rest_count b ok) v h e ∙ ap neg_ℤ (read_added b (v - 1) v (omega arith))))
-      (λ some. (let zero_cost = carrying v h some in
-      let r = added_reduced v h in
-      let at_src = ap (price_at b) (taker_src b.net v e) in
-      let at_dst = ap (price_at b) (taker_dst b.net v e) in
-      let root = ok.prices.root in
-      omega (arith, ints, zero_cost, r, at_src, at_dst, root)))
-
   pub node_case : (v : ℕ) → IsNode (node_count b.net) v → NodeCase b v
-  node_case v h = elim (cases_Bool (is_sender b.net v)) [
-    | inl e ↦ sender_case v h e
-    | inr e ↦ taker_case v h e
-  ]
+  node_case v h =
+      let root = ok.prices.root in
+      elim (cases_Bool (is_sender b.net v)) [
+        | inl e ↦ sends (unsent_is v h ∙ (sender_net b.net (drop (length b.net.arcs) b.amounts) (rest_count b ok) v h e
+            ∙ read_added b (v - 1) v (omega arith))) (λ some. (let falls = added_price v h some in
+            let from = ap (price_at b) (sender_src b.net v e) in
+            let to = ap (price_at b) (sender_dst b.net v e) in
+            omega (arith, ints, falls, from, to, root)))
+        | inr e ↦ takes (unsent_is v h ∙ (taker_net b.net (drop (length b.net.arcs) b.amounts) (rest_count b ok) v h e
+            ∙ ap neg_ℤ (read_added b (v - 1) v (omega arith)))) (λ some. (let falls = added_price v h some in
+            let from = ap (price_at b) (taker_src b.net v e) in
+            let to = ap (price_at b) (taker_dst b.net v e) in
+            omega (arith, ints, falls, from, to, root)))
+      ]
 
 -- ---- how far a price lies from that of the child of the root above it
 

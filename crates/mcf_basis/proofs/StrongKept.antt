@@ -30,9 +30,14 @@ use Rattle.mcf_basis.proofs.StrongPivot.{step_at, strong_entering, strong_left, 
 -- ---- a residual arc can take, and its arc can leave
 
 -- at most the cap of an arc of the net
-within_limit : (test : Bool) (cap x : ℤ) → (test ≡ true → x ≤ℤ cap) → IsWithin (if test then Some cap else None) x
-within_limit true cap x h = h refl
-within_limit false cap x h = tt
+within_limit : (g : Network) (label : ℕ) (x : ℤ) → (1 ≤ label → label ≤ length g.arcs → x ≤ℤ (arc_at g label).cap) → IsWithin ((arcs_of g).limit label) x
+within_limit g label x h = by_test (nat_le 1 label && nat_le label (length g.arcs)) (λ e.
+    let both = and_parts (nat_le 1 label) (nat_le label (length g.arcs)) e in
+    h (leb-true 1 label both.0) (leb-true label (length g.arcs) both.1))
+  where
+    by_test : (test : Bool) → (test ≡ true → x ≤ℤ (arc_at g label).cap) → IsWithin (if test then Some (arc_at g label).cap else None) x
+    by_test true h = h refl
+    by_test false h = tt
 
 limit_within : (test : Bool) (cap x : ℤ) → test ≡ true → IsWithin (if test then Some cap else None) x → x ≤ℤ cap
 limit_within true cap x e h = h
@@ -46,8 +51,7 @@ back_of g label v e = elim (cases_Bool (eqb (arc_at (with_artificial g) label).s
 
 pub leave_of_take : (b : TreeStructure) (label v : ℕ) (x : ℤ) → CanTake b (leaving b.net label v) x → CanLeave (arcs_of b.net) (carried b) label v x
 leave_of_take b label v x can = record {
-  forward = λ t. within_limit (nat_le 1 label && nat_le label (length b.net.arcs)) (arc_at b.net label).cap (carried b label +ℤ x)
-      (λ e. can.forward (ap not (eq-eqb _ _ t)) (leb-true label (length b.net.arcs) (and_parts (nat_le 1 label) (nat_le label (length b.net.arcs)) e).1));
+  forward = λ t. within_limit b.net label (carried b label +ℤ x) (λ low high. can.forward (ap not (eq-eqb _ _ t)) high);
   backward = λ ne. can.backward (ap not (ne_eqb _ _ ne));
 }
 
@@ -78,14 +82,8 @@ entering_leaves b k apart = entering_by_ends b.net k (int_lt (pos 0) (reduced_at
 
 -- no amount is above the limit of its label, or below 0
 pub fits : (b : TreeStructure) → IsBasis b → (label : ℕ) → IsWithin ((arcs_of b.net).limit label) (carried b label)
-fits b ok label = within_limit (nat_le 1 label && nat_le label (length b.net.arcs)) (arc_at b.net label).cap (carried b label) inside
-  where
-    inside : (nat_le 1 label && nat_le label (length b.net.arcs)) ≡ true → carried b label ≤ℤ (arc_at b.net label).cap
-    inside = λ e.
-        let both = and_parts (nat_le 1 label) (nat_le label (length b.net.arcs)) e in
-        let low : 1 ≤ label = leb-true 1 label both.0 in
-        let high : label ≤ length b.net.arcs = leb-true label (length b.net.arcs) both.1 in
-        (ok.flow.within_bounds label (own_label b.net label (low, high))).high high
+fits b ok label =
+    within_limit b.net label (carried b label) (λ low high. (ok.flow.within_bounds label (own_label b.net label (low, high))).high high)
 
 pub not_below : (b : TreeStructure) → IsBasis b → (label : ℕ) → pos 0 ≤ℤ carried b label
 not_below b ok label =
