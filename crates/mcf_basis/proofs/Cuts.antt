@@ -1,7 +1,7 @@
 -- At a last basis where an artificial arc carries something, the nodes of price above 0 can't send
 -- what they must.
 use Rattle.std.proofs.Common.{◌≡◌, ◌≢◌, ℕ, zero, suc, ◌+◌, ◌-◌, ◌*◌, ◌<◌, ◌≤◌, ◌⊎◌, inl, inr, Bool, true, false, not, List, length, map, drop, sum, set}
-use Rattle.std.proofs.Common.{get_or, refl, sym, ap, ◌∙◌, subst, arith, ℤ, pos, neg_ℤ, ◌+ℤ◌, ◌-ℤ◌, ◌≤ℤ◌, ◌<ℤ◌, length-set}
+use Rattle.std.proofs.Common.{◌&&◌, get_or, refl, sym, ap, ◌∙◌, subst, arith, ℤ, pos, neg_ℤ, ◌+ℤ◌, ◌-ℤ◌, ◌≤ℤ◌, ◌<ℤ◌, length-set}
 use Rattle.std.specs.Prelude.{int_lt, max, unsigned_abs}
 use Rattle.std.specs.List.{AllZip}
 use Rattle.std.proofs.Math.Nat.{le-max_right, mul-le-mul_left}
@@ -361,6 +361,12 @@ module _ (b : TreeStructure) (ok : IsBasis b) (none : HasNoEligible b) where
       omega (arith, ints, low, high, c)
 
   module _ (wide : HasWideTree b) where
+    over : (u v : ℕ) → IsNode (node_count b.net) u → IsNode (node_count b.net) v → (side u && not (side v)) ≡ true
+        → pos (artificial_cost b.net + 1) ≤ℤ (price_at b u -ℤ price_at b v)
+    over u v hu hv e =
+        let p = and_parts (side u) (not (side v)) e in
+        prices_apart b ok wide u v hu hv (above_zero (price_at b u) p.0) (not_above_zero (price_at b v) (not_true (side v) p.1))
+
     crossing_wide : (k : ℕ) → IsArcNumber b.net k → pos 0 <ℤ (arc_at b.net k).cap → Crosses (arc_at b.net k) (carried b k)
     crossing_wide k h some =
         let ends : HasEnds (node_count b.net) (arc_at b.net k) = ends_at b.net k ok.of_net h in
@@ -368,15 +374,9 @@ module _ (b : TreeStructure) (ok : IsBasis b) (none : HasNoEligible b) where
         let size = up_to_size (arc_at b.net k).cost in
         let le = weight_wide (arc_at b.net k) some in
         let all : weight (arc_at b.net k) ≤ sum (weights b) = weight-le-sum weight b.net.arcs (k - 1) no_arc (omega arith) in (
-          λ e. (let p = and_parts (side (arc_at b.net k).src) (not (side (arc_at b.net k).dst)) e in
-              let apart = prices_apart b ok wide (arc_at b.net k).src (arc_at b.net k).dst ends.src_is_node ends.dst_is_node
-              (above_zero (price_at b (arc_at b.net k).src) p.0)
-              (not_above_zero (price_at b (arc_at b.net k).dst) (not_true (side (arc_at b.net k).dst) p.1)) in
+          λ e. (let apart = over (arc_at b.net k).src (arc_at b.net k).dst ends.src_is_node ends.dst_is_node e in
               full_below b ok none k h (omega (arith, ints, r, size, le, all, apart))),
-          λ e. (let p = and_parts (side (arc_at b.net k).dst) (not (side (arc_at b.net k).src)) e in
-              let apart = prices_apart b ok wide (arc_at b.net k).dst (arc_at b.net k).src ends.dst_is_node ends.src_is_node
-              (above_zero (price_at b (arc_at b.net k).dst) p.0)
-              (not_above_zero (price_at b (arc_at b.net k).src) (not_true (side (arc_at b.net k).src) p.1)) in
+          λ e. (let apart = over (arc_at b.net k).dst (arc_at b.net k).src ends.dst_is_node ends.src_is_node e in
               empty_above b ok none k h (omega (arith, ints, r, size, le, all, apart))),
         )
 

@@ -1,5 +1,5 @@
 -- The amounts of a basis: those of the arcs of the net, and those of the artificial arcs.
-use Rattle.std.proofs.Common.{◌≡◌, ℕ, suc, ◌+◌, ◌-◌, ◌<◌, ◌≤◌, ◌++◌, eqb, List, [], ◌∷◌, length, map, take, drop, get_or, refl, sym, ap, ◌∙◌, arith, ℤ, pos}
+use Rattle.std.proofs.Common.{◌≡◌, ℕ, suc, ◌+◌, ◌-◌, ◌<◌, ◌≤◌, ◌++◌, Bool, eqb, List, [], ◌∷◌, length, map, take, drop, get_or, refl, sym, ap, ◌∙◌, arith, ℤ, pos}
 use Rattle.std.proofs.Common.{◌+ℤ◌}
 use Rattle.std.specs.List.{range_with_len}
 use Rattle.std.proofs.lemmas.Int.{ints}
@@ -41,21 +41,22 @@ split_net g amounts v h =
     let inn = split_sum (λ a f. when (eqb a.dst v) f) g amounts h in
     omega (arith, ints, out, inn)
 
--- a sum over amounts that are all 0
-sum_of_zeros : (t : Arc → ℤ → ℤ) → ((a : Arc) → t a (pos 0) ≡ pos 0) → (arcs : List Arc) (flow : List ℤ)
-    → ((i : ℕ) → i < length flow → get_or flow i (pos 0) ≡ pos 0) → flow_sum t arcs flow ≡ pos 0
-sum_of_zeros t zeros [] flow each = refl
-sum_of_zeros t zeros (a ∷ arcs) [] each = refl
-sum_of_zeros t zeros (a ∷ arcs) (f ∷ flow) each =
-    let here : f ≡ pos 0 = each 0 (omega arith) in
-    let first : t a f ≡ pos 0 = ap (t a) here ∙ zeros a in
-    let rest : flow_sum t arcs flow ≡ pos 0 = sum_of_zeros t zeros arcs flow (λ i h. each (suc i) (omega arith)) in
+-- a sum of terms that are all 0
+pub zero_terms : (t : Arc → ℤ → ℤ) (arcs : List Arc) (flow : List ℤ)
+    → ((i : ℕ) → i < length arcs → i < length flow → t (get_or arcs i no_arc) (get_or flow i (pos 0)) ≡ pos 0) → flow_sum t arcs flow ≡ pos 0
+zero_terms t [] flow each = refl
+zero_terms t (a ∷ arcs) [] each = refl
+zero_terms t (a ∷ arcs) (f ∷ flow) each =
+    let first : t a f ≡ pos 0 = each 0 (omega arith) (omega arith) in
+    let rest : flow_sum t arcs flow ≡ pos 0 = zero_terms t arcs flow (λ i l m. each (suc i) (omega arith) (omega arith)) in
     omega (arith, ints, first, rest)
 
+-- and so the net of amounts that are all 0
 pub net_of_zeros : (arcs : List Arc) (flow : List ℤ) (v : ℕ) → ((i : ℕ) → i < length flow → get_or flow i (pos 0) ≡ pos 0) → net arcs flow v ≡ pos 0
 net_of_zeros arcs flow v each =
-    let out = sum_of_zeros (λ a f. when (eqb a.src v) f) (λ a. when-zero (eqb a.src v)) arcs flow each in
-    let inn = sum_of_zeros (λ a f. when (eqb a.dst v) f) (λ a. when-zero (eqb a.dst v)) arcs flow each in
+    let zero : (t : Bool) (i : ℕ) → i < length flow → when t (get_or flow i (pos 0)) ≡ pos 0 = (λ t i m. ap (when t) (each i m) ∙ when-zero t) in
+    let out = zero_terms (λ a f. when (eqb a.src v) f) arcs flow (λ i l m. zero (eqb (get_or arcs i no_arc).src v) i m) in
+    let inn = zero_terms (λ a f. when (eqb a.dst v) f) arcs flow (λ i l m. zero (eqb (get_or arcs i no_arc).dst v) i m) in
     omega (arith, ints, out, inn)
 
 -- the amount of the artificial arc of a node

@@ -41,43 +41,37 @@ module _ (b : TreeStructure) (label v : ℕ) (x : ℤ) (new : ℕ → ℤ)
             })
       ]
 
-  forward_bound : ¬ CanTake b (leaving b.net label v) (x +ℤ pos 1) → (arc_at (with_artificial b.net) label).src ≡ v
-      → (new label ≡ pos 0) ⊎ ((label ≤ length b.net.arcs) × (new label ≡ (arc_at b.net label).cap))
-  forward_bound full e =
-      let amount : new label ≡ carried b label +ℤ x = went.forward e in
-      let back : (leaving b.net label v).back ≡ false = ap not (eq-eqb (arc_at (with_artificial b.net) label).src v e) in
-      elim (cases_lt (length b.net.arcs) label) [
-        | inl past ↦ absurd (full (record { forward = λ t own. absurd (omega arith); backward = λ t. absurd (both_ways (leaving b.net label v).back back t) }))
-        | inr own ↦ (let fits : (carried b label +ℤ x) ≤ℤ (arc_at b.net label).cap = can.forward back own in
-            elim (zero_or_more ((arc_at b.net label).cap -ℤ (carried b label +ℤ x)) (omega (arith, ints, fits))) [
-              | inl z ↦ inr (own, omega (arith, ints, amount, z))
-              | inr more ↦ absurd (full (record {
-                forward = λ t q. omega (arith, ints, more);
-                backward = λ t. absurd (both_ways (leaving b.net label v).back back t);
-              }))
-            ])
-      ]
-
-  backward_bound : ¬ CanTake b (leaving b.net label v) (x +ℤ pos 1) → (arc_at (with_artificial b.net) label).src ≢ v → new label ≡ pos 0
-  backward_bound full ne =
-      let amount : new label +ℤ x ≡ carried b label = went.backward ne in
-      let back : (leaving b.net label v).back ≡ true = ap not (ne_eqb (arc_at (with_artificial b.net) label).src v ne) in
-      let fits : x ≤ℤ carried b label = can.backward back in
-      elim (zero_or_more (carried b label -ℤ x) (omega (arith, ints, fits))) [
-        | inl z ↦ omega (arith, ints, amount, z)
-        | inr more ↦ absurd (full (record {
-          forward = λ t own. absurd (both_ways (leaving b.net label v).back t back);
-          backward = λ t. omega (arith, ints, more);
-        }))
-      ]
-
   -- where one more couldn't go, it is at a bound
   pub pushed_bound : ¬ CanTake b (leaving b.net label v) (x +ℤ pos 1)
       → (new label ≡ pos 0) ⊎ ((label ≤ length b.net.arcs) × (new label ≡ (arc_at b.net label).cap))
   pushed_bound full =
       elim (cases_eq (arc_at (with_artificial b.net) label).src v) [
-        | inl e ↦ forward_bound full e
-        | inr ne ↦ inl (backward_bound full ne)
+        | inl e ↦ (let amount : new label ≡ carried b label +ℤ x = went.forward e in
+            let back : (leaving b.net label v).back ≡ false = ap not (eq-eqb (arc_at (with_artificial b.net) label).src v e) in
+            elim (cases_lt (length b.net.arcs) label) [
+              | inl past ↦ absurd (full (record {
+                forward = λ t own. absurd (omega arith);
+                backward = λ t. absurd (both_ways (leaving b.net label v).back back t);
+              }))
+              | inr own ↦ (let fits : (carried b label +ℤ x) ≤ℤ (arc_at b.net label).cap = can.forward back own in
+                  elim (zero_or_more ((arc_at b.net label).cap -ℤ (carried b label +ℤ x)) (omega (arith, ints, fits))) [
+                    | inl z ↦ inr (own, omega (arith, ints, amount, z))
+                    | inr more ↦ absurd (full (record {
+                      forward = λ t q. omega (arith, ints, more);
+                      backward = λ t. absurd (both_ways (leaving b.net label v).back back t);
+                    }))
+                  ])
+            ])
+        | inr ne ↦ (let amount : new label +ℤ x ≡ carried b label = went.backward ne in
+            let back : (leaving b.net label v).back ≡ true = ap not (ne_eqb (arc_at (with_artificial b.net) label).src v ne) in
+            let fits : x ≤ℤ carried b label = can.backward back in
+            elim (zero_or_more (carried b label -ℤ x) (omega (arith, ints, fits))) [
+              | inl z ↦ inl (omega (arith, ints, amount, z))
+              | inr more ↦ absurd (full (record {
+                forward = λ t own. absurd (both_ways (leaving b.net label v).back t back);
+                backward = λ t. omega (arith, ints, more);
+              }))
+            ])
       ]
 
 -- the nodes of either side are nodes of the net

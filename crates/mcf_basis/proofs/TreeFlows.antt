@@ -1,6 +1,6 @@
 -- The flow of a basis is a tree solution: from the leaves of the tree on, a circulation that is 0
 -- at all arcs whose flow is at a bound is 0.
-use Rattle.std.proofs.Common.{◌≡◌, ◌≢◌, ℕ, zero, suc, ◌+◌, ◌-◌, ◌<◌, ◌≤◌, ◌⊎◌, inl, inr, eqb, List, [], ◌∷◌, length, get_or, refl, sym, ap, ◌∙◌, arith, subst}
+use Rattle.std.proofs.Common.{◌≡◌, ◌≢◌, ℕ, zero, suc, ◌+◌, ◌-◌, ◌<◌, ◌≤◌, ◌⊎◌, inl, inr, eqb, List, [], ◌∷◌, length, get_or, sym, ap, ◌∙◌, arith, subst}
 use Rattle.std.proofs.Common.{ℤ, pos, ◌-ℤ◌}
 use Rattle.std.proofs.lemmas.Int.{ints}
 use Rattle.std.proofs.lemmas.Bool.{cases_eq}
@@ -17,7 +17,7 @@ use Rattle.mcf_basis.specs.Laws.{BasesAreTreeSolutions}
 use Rattle.mcf_basis.specs.Structures.{TreeStructure, IsInTree, carried, state_of}
 use Rattle.mcf_basis.specs.Structures.Joins.{out_of, into}
 use Rattle.mcf_network.specs.TreeSolutions.{IsFreeCirculation, at_arc}
-use Rattle.mcf_basis.proofs.Flows.{own_carried}
+use Rattle.mcf_basis.proofs.Flows.{own_carried, zero_terms}
 use Rattle.mcf_basis.proofs.Labels.{cases_in_tree, own_arc, own_label}
 use Rattle.mcf_basis.proofs.TreePrices.{in_tree}
 
@@ -28,17 +28,8 @@ pub single_term : (t : Arc → ℤ → ℤ) (arcs : List Arc) (flow : List ℤ) 
 single_term t [] flow at e h others = absurd (omega arith)
 single_term t (a ∷ arcs) [] at e h others = absurd (omega arith)
 single_term t (a ∷ arcs) (f ∷ flow) zero e h others =
-    let rest : flow_sum t arcs flow ≡ pos 0 = all_zero t arcs flow (omega arith) (λ i l. others (suc i) (omega arith) (λ q. omega arith)) in
+    let rest : flow_sum t arcs flow ≡ pos 0 = zero_terms t arcs flow (λ i l m. others (suc i) (omega arith) (λ q. omega arith)) in
     omega (arith, ints, rest)
-  where
-    all_zero : (t : Arc → ℤ → ℤ) (arcs : List Arc) (flow : List ℤ) → length flow ≡ length arcs
-        → ((i : ℕ) → i < length arcs → t (get_or arcs i no_arc) (get_or flow i (pos 0)) ≡ pos 0) → flow_sum t arcs flow ≡ pos 0
-    all_zero t [] flow e each = refl
-    all_zero t (a ∷ arcs) [] e each = refl
-    all_zero t (a ∷ arcs) (f ∷ flow) e each =
-        let first : t a f ≡ pos 0 = each 0 (omega arith) in
-        let rest : flow_sum t arcs flow ≡ pos 0 = all_zero t arcs flow (omega arith) (λ i l. each (suc i) (omega arith)) in
-        omega (arith, ints, first, rest)
 single_term t (a ∷ arcs) (f ∷ flow) (suc at) e h others =
     let first : t a f ≡ pos 0 = others 0 (omega arith) (λ q. omega arith) in
     let rest : flow_sum t arcs flow ≡ t (get_or arcs at no_arc) (get_or flow at (pos 0)) =
