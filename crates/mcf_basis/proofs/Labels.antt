@@ -74,21 +74,21 @@ root_arc g label v ok h up joins =
       | added u node e ↦ ap (λ a. a.cost) (added_arc g u label node e)
     ]
 
+both_up : (g : Network) (label u v : ℕ) → 0 < u → 0 < v → Joins g label u v
+    → (0 < (arc_at (with_artificial g) label).src) × (0 < (arc_at (with_artificial g) label).dst)
+both_up g label u v pu pv (out_of a b) = rw (a, b) (pu, pv)
+both_up g label u v pu pv (into a b) = rw (a, b) (pv, pu)
+
 -- an arc between two nodes is an arc of the net
 pub inner_arc : (g : Network) (label u v : ℕ) → IsLabel g label → 0 < u → 0 < v → Joins g label u v → IsArcNumber g label
 inner_arc g label u v h pu pv joins =
     elim (label_case g label h) [
       | own k ↦ k
       | added w node e ↦ absurd (let same = added_arc g w label node e in
+          let up = both_up g label u v pu pv joins in
           elim (one_is_root g w (is_sender g w) refl) [
-            | inl s ↦ elim joins [
-              | out_of a b ↦ (let z : u ≡ 0 = sym a ∙ (ap (λ x. x.src) same ∙ s) in omega arith)
-              | into a b ↦ (let z : v ≡ 0 = sym a ∙ (ap (λ x. x.src) same ∙ s) in omega arith)
-            ]
-            | inr d ↦ elim joins [
-              | out_of a b ↦ (let z : v ≡ 0 = sym b ∙ (ap (λ x. x.dst) same ∙ d) in omega arith)
-              | into a b ↦ (let z : u ≡ 0 = sym b ∙ (ap (λ x. x.dst) same ∙ d) in omega arith)
-            ]
+            | inl s ↦ (let z = ap (λ a. a.src) same ∙ s in omega (arith, z, up))
+            | inr d ↦ (let z = ap (λ a. a.dst) same ∙ d in omega (arith, z, up))
           ])
     ]
 

@@ -70,7 +70,7 @@ module _ (old new : TreeStructure) (k : ℕ) (moved : ℤ) (ok : IsBasis old) (p
     flow = new_flow;
     at_bounds = new_at_bounds old new k moved ok pivot is_around went leaves.1 leaves.0;
     prices = new_prices old new k moved ok pivot count;
-    strong = strong_kept old new k moved ok pivot spans (new_tree_arcs old new k moved ok pivot) went;
+    strong = strong_kept old new k moved ok pivot spans (new_size old new k moved ok pivot) (new_tree_arcs old new k moved ok pivot) is_around leaves.0 went;
   }
 
 pub pivots_keep_bases_lem : PivotsKeepBases

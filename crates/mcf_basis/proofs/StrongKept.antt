@@ -16,10 +16,10 @@ use Rattle.mcf_basis.specs.Bases.{CanHold, HasTreeArc, IsBasis, IsStronglyFeasib
 use Rattle.mcf_basis.specs.Pivots.{IsEligible, IsExchanged, IsMended, IsPivot, entering}
 use Rattle.mcf_basis.specs.Pivots.IsMended.{kept, exchanged}
 use Rattle.mcf_basis.specs.Structures.{TreeStructure, CanTake, carried, leaving, reduced_at}
-use Rattle.mcf_basis.proofs.Around.{CanGoRound, IsAround, IsLeaving, WentRound, arcs_of, down_arc, from_of, left_node, left_steps, right_node, right_steps}
+use Rattle.mcf_basis.proofs.Around.{IsAround, IsLeaving, WentRound, arcs_of, down_arc, from_of, left_node, left_steps, right_node, right_steps}
 use Rattle.mcf_basis.proofs.Around.{round_amount, to_of, up_arc}
 use Rattle.mcf_basis.proofs.Around.IsLeaving.{right, enter, left}
-use Rattle.mcf_basis.proofs.CyclePlaces.{last_at, leaving_of_last, up_all, up_at}
+use Rattle.mcf_basis.proofs.CyclePlaces.{last_at, up_all, up_at}
 use Rattle.mcf_basis.proofs.Cycles.{around, below_apex}
 use Rattle.mcf_basis.proofs.Labels.{own_label}
 use Rattle.mcf_basis.proofs.LastBases.{zero_or_more}
@@ -211,11 +211,6 @@ module _ (old : TreeStructure) (k apex : ℕ) (moved : ℤ) (ok : IsBasis old) (
       subst (λ t. HasRoom t.parents t.labels) (sym stay.tree) (stays (kept_room q same leaves))
   mended_room new q leaves (exchanged out inner outer named x) = exchanged_room out inner outer new x q named leaves
 
--- no node comes, none goes
-pub mended_size : (old : TreeStructure) (r q : Rid) (new : TreeStructure) → IsMended old r q new → size_of new.tree ≡ size_of old.tree
-mended_size old r q new (kept same stay) = ap size_of stay.tree
-mended_size old r q new (exchanged out inner outer named x) = x.swapped.parents.size
-
 -- what an arc carries after a pivot
 pub pivoted_amount : (old new : TreeStructure) (k : ℕ) (moved : ℤ) (pivot : IsPivot old k moved new) (label : ℕ) → 0 < label
     → carried new label ≡ round_amount old k pivot.apex moved label
@@ -223,16 +218,12 @@ pivoted_amount old new k moved pivot label h =
     ap (λ xs. slice_index_or xs (label - 1) (pos 0)) pivot.amounts ∙ sym (round_at old k pivot.apex moved label h)
 
 pub strong_kept : (old new : TreeStructure) (k : ℕ) (moved : ℤ) → IsBasis old → (pivot : IsPivot old k moved new) → IsSpanning new.tree
-    → ((v : ℕ) → IsNode (node_count new.net) v → HasTreeArc new v) → WentRound old k pivot.apex moved → IsStronglyFeasible new
-strong_kept old new k moved ok pivot spanning joined went =
-    let is_around : IsAround old k pivot.apex = around old k pivot.apex ok pivot.eligible pivot.is_apex in
-    let leaves : IsLeaving old k pivot.apex moved pivot.leaves × CanGoRound old k pivot.apex moved =
-    leaving_of_last old k pivot.apex moved pivot.leaves ok is_around pivot.last_blocking in
-    let size : size_of new.tree ≡ node_count new.net + 1 =
-    mended_size old (entering old k) pivot.leaves new pivot.mended ∙ (ok.size ∙ sym (ap (λ g. node_count g + 1) pivot.net)) in
+    → size_of new.tree ≡ node_count new.net + 1 → ((v : ℕ) → IsNode (node_count new.net) v → HasTreeArc new v)
+    → IsAround old k pivot.apex → IsLeaving old k pivot.apex moved pivot.leaves → WentRound old k pivot.apex moved → IsStronglyFeasible new
+strong_kept old new k moved ok pivot spanning size joined is_around leaves went =
     strong_of_room new old.net (round_amount old k pivot.apex moved) spanning size joined pivot.net
     (pivoted_amount old new k moved pivot)
-    (mended_room old k pivot.apex moved ok pivot.eligible pivot.is_apex is_around went new pivot.leaves leaves.0 pivot.mended)
+    (mended_room old k pivot.apex moved ok pivot.eligible pivot.is_apex is_around went new pivot.leaves leaves pivot.mended)
 
 -- ---- no less than nothing moves
 
