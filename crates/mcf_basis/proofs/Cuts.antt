@@ -1,11 +1,11 @@
 -- At a last basis where an artificial arc carries something, the nodes of price above 0 can't send
 -- what they must.
-use Rattle.std.proofs.Common.{◌≡◌, ◌≢◌, ℕ, zero, suc, ◌+◌, ◌-◌, ◌*◌, ◌<◌, ◌≤◌, ◌⊎◌, inl, inr, Bool, true, false, not, List, length, map, drop, sum, set}
+use Rattle.std.proofs.Common.{◌≡◌, ◌≢◌, ℕ, zero, suc, ◌+◌, ◌-◌, ◌*◌, ◌<◌, ◌≤◌, inl, inr, Bool, true, false, not, List, length, map, drop, sum, set}
 use Rattle.std.proofs.Common.{◌&&◌, get_or, refl, sym, ap, ◌∙◌, subst, arith, ℤ, pos, neg_ℤ, ◌+ℤ◌, ◌-ℤ◌, ◌≤ℤ◌, ◌<ℤ◌, length-set}
 use Rattle.std.specs.Prelude.{int_lt, max, unsigned_abs}
 use Rattle.std.specs.List.{AllZip}
 use Rattle.std.proofs.Math.Nat.{le-max_right, mul-le-mul_left}
-use Rattle.std.proofs.lemmas.Bool.{and_parts, cases_Bool, cases_eq}
+use Rattle.std.proofs.lemmas.Bool.{and_parts, cases_Bool}
 use Rattle.std.proofs.lemmas.Int.{ints}
 use Rattle.std.proofs.lemmas.List.{get_or-map, get_or-set_other, length-map}
 use Rattle.std.proofs.lemmas.List.Sums.{sum_by-set}
@@ -19,7 +19,7 @@ use Rattle.mcf_flows.proofs.AllZips.{AllZip_from}
 use Rattle.mcf_flows.proofs.ArcSums.{arc_sum-same, arc_sum-zero, flow_sum-arc_sum, flow_sum-same_at, flow_sum-zero}
 use Rattle.mcf_flows.proofs.Bounds.{up_to_size, weight-le-sum}
 use Rattle.mcf_flows.proofs.Hoffman.{nets_across}
-use Rattle.mcf_flows.proofs.NodeSums.{nets_cancel, node_sum-add, node_sum-same, node_sum-sub, node_sum_above_zero}
+use Rattle.mcf_flows.proofs.NodeSums.{nets_cancel, node_sum-add, node_sum-same, node_sum-sub, node_sum_above_zero, node_sum_at_least_zero}
 use Rattle.mcf_links.specs.Rooted.{climb}
 use Rattle.mcf_links.proofs.Depths.{climb_apart}
 use Rattle.mcf_links.proofs.Paths.{climb-add, climb-suc}
@@ -324,26 +324,6 @@ when_gap : (t : Bool) (z : ℤ) → (t ≡ false → z ≤ℤ pos 0) → pos 0 �
 when_gap true z h = omega (arith, ints)
 when_gap false z h = let low = h refl in omega (arith, ints, low)
 
--- a node whose artificial arc carries something
-record HasCarrying (b : TreeStructure) : Type 0 where
-  pub node : ℕ
-  pub is_node : IsNode (node_count b.net) node
-  pub some : pos 0 <ℤ artificial_amount b node
-
-find_carrying : (b : TreeStructure) → IsBasis b → (n : ℕ) → n ≤ node_count b.net → HasCarrying b ⊎ ((v : ℕ) → IsNode n v → artificial_amount b v ≡ pos 0)
-find_carrying b ok zero h = inr (λ v q. absurd (omega arith))
-find_carrying b ok (suc n) h =
-    elim (zero_or_more (artificial_amount b (suc n)) (artificial_low b ok (suc n) (omega arith, h))) [
-      | inr some ↦ inl (record { node = suc n; is_node = (omega arith, h); some = some })
-      | inl z ↦ elim (find_carrying b ok n (omega arith)) [
-        | inl t ↦ inl t
-        | inr none ↦ inr (λ v q. elim (cases_eq v (suc n)) [
-          | inl e ↦ ap (artificial_amount b) e ∙ z
-          | inr other ↦ none v (omega arith, omega arith)
-        ])
-      ]
-    ]
-
 module _ (b : TreeStructure) (ok : IsBasis b) (none : HasNoEligible b) where
   abbrev side : ℕ → Bool
   side v = int_lt (pos 0) (price_at b v)
@@ -452,36 +432,40 @@ module _ (b : TreeStructure) (ok : IsBasis b) (none : HasNoEligible b) where
           let sum_zero : node_sum (at_node b.net.supplies) (node_count b.net) ≡ pos 0 = balanced in
           omega (arith, ints, apart, cancel, sum_zero)
 
-      -- so the set has something left to send
-      left_over : HasCarrying b → pos 0 <ℤ node_sum (λ v. when (side v) (unsent b v)) (node_count b.net)
-      left_over c = elim (cases_Bool (side c.node)) [
-        | inl t ↦ node_sum_above_zero (λ v. when (side v) (unsent b v)) (node_count b.net) c.node c.is_node
-            (let up = (by_side c.node c.is_node).0 t in
-            let some = c.some in
-            let is : when (side c.node) (unsent b c.node) ≡ unsent b c.node = ap (λ s. when s (unsent b c.node)) t in omega (arith, ints, up, some, is))
-            (λ v h. when_low (side v) (unsent b v) (λ u. (let e = (by_side v h).0 u in let low = artificial_low b ok v h in omega (arith, ints, e, low))))
+      in_low : (v : ℕ) → IsNode (node_count b.net) v → pos 0 ≤ℤ when (side v) (unsent b v)
+      in_low v h = when_low (side v) (unsent b v) (λ t. (let e = (by_side v h).0 t in let low = artificial_low b ok v h in omega (arith, ints, e, low)))
+
+      -- where an artificial arc carries something, the set has something left to send
+      left_over : (u : ℕ) → IsNode (node_count b.net) u → pos 0 <ℤ artificial_amount b u
+          → pos 0 <ℤ node_sum (λ v. when (side v) (unsent b v)) (node_count b.net)
+      left_over u node some = elim (cases_Bool (side u)) [
+        | inl t ↦ node_sum_above_zero (λ v. when (side v) (unsent b v)) (node_count b.net) u node
+            (let up = (by_side u node).0 t in
+            let is : when (side u) (unsent b u) ≡ unsent b u = ap (λ s. when s (unsent b u)) t in omega (arith, ints, up, some, is)) in_low
         | inr f ↦ (let all = all_unsent in
             let apart = node_sum-sub (λ v. when (side v) (unsent b v)) (unsent b) (node_count b.net) in
-            let more = node_sum_above_zero (λ v. when (side v) (unsent b v) -ℤ unsent b v) (node_count b.net) c.node c.is_node
-            (let down = (by_side c.node c.is_node).1 f in
-            let some = c.some in
-            let is : when (side c.node) (unsent b c.node) ≡ pos 0 = ap (λ s. when s (unsent b c.node)) f in omega (arith, ints, down, some, is))
-            (λ v h. when_gap (side v) (unsent b v) (λ u. (let e = (by_side v h).1 u in let low = artificial_low b ok v h in omega (arith, ints, e, low)))) in
+            let more = node_sum_above_zero (λ v. when (side v) (unsent b v) -ℤ unsent b v) (node_count b.net) u node
+            (let down = (by_side u node).1 f in
+            let is : when (side u) (unsent b u) ≡ pos 0 = ap (λ s. when s (unsent b u)) f in omega (arith, ints, down, some, is))
+            (λ v h. when_gap (side v) (unsent b v) (λ t. (let e = (by_side v h).1 t in let low = artificial_low b ok v h in omega (arith, ints, e, low)))) in
             omega (arith, ints, all, apart, more))
       ]
 
-      blocked : HasCarrying b → Blocks b.net side Send
-      blocked c =
-          let more = left_over c in
+      blocked : ¬ HasNoArtificial b → Blocks b.net side Send
+      blocked uneven =
           let must = set_supply in
           let low = low_in in
-          omega (arith, ints, more, must, low)
+          elim (zero_or_more (node_sum (λ v. when (side v) (unsent b v)) (node_count b.net))
+          (node_sum_at_least_zero (λ v. when (side v) (unsent b v)) (node_count b.net) in_low)) [
+            | inl nothing ↦ absurd (uneven (λ v h. elim (zero_or_more (artificial_amount b v) (artificial_low b ok v h)) [
+              | inl z ↦ z
+              | inr some ↦ absurd (let more = left_over v h some in omega (arith, ints, nothing, more))
+            ]))
+            | inr more ↦ omega (arith, ints, more, must, low)
+          ]
 
 -- where no arc is eligible and an artificial arc carries something, the nodes of price above 0 must
 -- send more than they can
 pub cuts_block : (b : TreeStructure) → IsBasis b → HasNoEligible b → HasWideTree b
     → supply_in b.net.supplies (λ v. true) ≡ pos 0 → ¬ HasNoArtificial b → Blocks b.net (λ v. int_lt (pos 0) (price_at b v)) Send
-cuts_block b ok none wide balanced uneven = elim (find_carrying b ok (node_count b.net) (omega arith)) [
-  | inl c ↦ blocked b ok none wide balanced c
-  | inr empty ↦ absurd (uneven empty)
-]
+cuts_block = blocked

@@ -1,5 +1,5 @@
 -- At a last basis no artificial arc carries anything where some flow is feasible.
-use Rattle.std.proofs.Common.{◌≡◌, ℕ, zero, suc, inl, inr, List, [], ◌∷◌, drop, map, sum, ap, sym, ◌∙◌, arith, ℤ, pos, negsuc, neg_ℤ, ◌+ℤ◌, ◌-ℤ◌}
+use Rattle.std.proofs.Common.{◌≡◌, ℕ, zero, suc, inl, inr, List, [], ◌∷◌, drop, map, sum, refl, ap, sym, ◌∙◌, arith, ℤ, pos, negsuc, neg_ℤ, ◌+ℤ◌, ◌-ℤ◌}
 use Rattle.std.proofs.Common.{◌*ℤ◌, ◌≤ℤ◌, ◌<ℤ◌}
 use Rattle.std.specs.Prelude.{max, unsigned_abs}
 use Rattle.std.specs.List.{All}
@@ -61,6 +61,15 @@ no_smaller (negsuc n) low cap f other above below l u =
 
 -- ---- the sum of reduced costs by amounts
 
+paid_by : (p u x m : ℤ) → pos 0 ≤ℤ x → u ≡ x → (pos 0 <ℤ x → p ≡ m) → p *ℤ u ≡ m *ℤ x
+paid_by p u x m low e price = elim (zero_or_more x low) [
+  | inl z ↦ rw (e, z) (omega (arith, ints))
+  | inr some ↦ rw (e, price some) refl
+]
+
+both_turned : (p u : ℤ) → neg_ℤ p *ℤ neg_ℤ u ≡ p *ℤ u
+both_turned p u = (let first = neg-mul p (neg_ℤ u) in let second = mul-neg p u in omega (arith, ints, first, second))
+
 regroup : (c s t : ℤ) → c -ℤ s +ℤ t ≡ c -ℤ (s -ℤ t)
 regroup c s t = omega (arith, ints)
 
@@ -77,23 +86,12 @@ module _ (b : TreeStructure) (ok : IsBasis b) where
   -- what a node has unsent costs, at its price, what its artificial arc costs
   unsent_paid : (v : ℕ) → IsNode (node_count b.net) v → at_node prices v *ℤ unsent b v ≡ pos (artificial_cost b.net) *ℤ artificial_amount b v
   unsent_paid v h =
-      ap (λ p. p *ℤ unsent b v) (node_price b ok v h) ∙ elim (zero_or_more (artificial_amount b v) (artificial_low b ok v h)) [
-        | inl z ↦ elim (node_case b ok v h) [
-          | sends e p ↦ both_none (price_at b v) (unsent b v) (artificial_amount b v) (omega (arith, ints, e, z)) z
-          | takes e p ↦ both_none (price_at b v) (unsent b v) (artificial_amount b v) (omega (arith, ints, e, z)) z
-        ]
-        | inr some ↦ elim (node_case b ok v h) [
-          | sends e p ↦ ap (λ q. q *ℤ unsent b v) (p some) ∙ ap (λ q. pos (artificial_cost b.net) *ℤ q) e
-          | takes e p ↦ ap (λ q. q *ℤ unsent b v) (p some)
-              ∙ (ap (λ q. neg_ℤ (pos (artificial_cost b.net)) *ℤ q) e ∙ both_turned (pos (artificial_cost b.net)) (artificial_amount b v))
-        ]
+      let low = artificial_low b ok v h in
+      ap (λ p. p *ℤ unsent b v) (node_price b ok v h) ∙ elim (node_case b ok v h) [
+        | sends e p ↦ paid_by (price_at b v) (unsent b v) (artificial_amount b v) (pos (artificial_cost b.net)) low e p
+        | takes e p ↦ sym (both_turned (price_at b v) (unsent b v)) ∙ paid_by (neg_ℤ (price_at b v)) (neg_ℤ (unsent b v)) (artificial_amount b v)
+            (pos (artificial_cost b.net)) low (omega (arith, ints, e)) (λ some. (let q = p some in omega (arith, ints, q)))
       ]
-    where
-      both_none : (p u x : ℤ) → u ≡ pos 0 → x ≡ pos 0 → p *ℤ u ≡ pos (artificial_cost b.net) *ℤ x
-      both_none = λ p u x e z. rw (e, z) (omega (arith, ints))
-
-      both_turned : (m x : ℤ) → neg_ℤ m *ℤ neg_ℤ x ≡ m *ℤ x
-      both_turned = λ m x. (let first = neg-mul m (neg_ℤ x) in let second = mul-neg m x in omega (arith, ints, first, second))
 
   split : (a : Arc) (f : ℤ) → HasEnds (node_count b.net) a → paid a f ≡ a.cost *ℤ f -ℤ (at_node prices a.src -ℤ at_node prices a.dst) *ℤ f
   split a f h =

@@ -149,27 +149,22 @@ priced_append b xs ys u m w one two =
     }
 
 module _ (b : TreeStructure) (ok : IsBasis b) where
-  up_walk : (k v : ℕ) → v < length b.tree.parents → k ≤ depth_of b.tree v → IsPricedWalk b v (up_path b k v) (climb b.tree.parents k v)
-  up_walk zero v h le = record { joined = refl; paid = omega (arith, ints) }
-  up_walk (suc k) v h le =
+  -- the paths of the tree, up and down
+  tree_walks : (k v : ℕ) → v < length b.tree.parents → k ≤ depth_of b.tree v
+      → IsPricedWalk b v (up_path b k v) (climb b.tree.parents k v) × IsPricedWalk b (climb b.tree.parents k v) (down_path b k v) v
+  tree_walks zero v h le = (record { joined = refl; paid = omega (arith, ints) }, record { joined = refl; paid = omega (arith, ints) })
+  tree_walks (suc k) v h le =
       let up : 0 < v = above_root b.tree.parents (depth_of b.tree) ok.spanning.rooted v (omega arith) in
+      let p = parent_of b.tree v in
       let f : depth_of b.tree v ≡ depth_of b.tree (parent_of b.tree v) + 1 = ok.spanning.rooted.falls v up h in
       let node : IsNode (node_count b.net) v = node_of b ok v up h in
-      priced_append b (up_arc b v ∷ []) (up_path b k (parent_of b.tree v)) v (parent_of b.tree v) (climb b.tree.parents k (parent_of b.tree v))
-      (priced_one b (label_of b.tree v) v (parent_of b.tree v) (ok.tree_arcs v node).joins (ok.prices.balanced v node))
-      (up_walk k (parent_of b.tree v) (ok.spanning.rooted.within v h) (omega arith))
-
-  down_walk : (k v : ℕ) → v < length b.tree.parents → k ≤ depth_of b.tree v → IsPricedWalk b (climb b.tree.parents k v) (down_path b k v) v
-  down_walk zero v h le = record { joined = refl; paid = omega (arith, ints) }
-  down_walk (suc k) v h le =
-      let up : 0 < v = above_root b.tree.parents (depth_of b.tree) ok.spanning.rooted v (omega arith) in
-      let f : depth_of b.tree v ≡ depth_of b.tree (parent_of b.tree v) + 1 = ok.spanning.rooted.falls v up h in
-      let node : IsNode (node_count b.net) v = node_of b ok v up h in
-      let joins : Joins b.net (label_of b.tree v) (parent_of b.tree v) v =
-      joins_back b.net (label_of b.tree v) v (parent_of b.tree v) (ok.tree_arcs v node).joins in
-      priced_append b (down_path b k (parent_of b.tree v)) (down_arc b v ∷ []) (climb b.tree.parents k (parent_of b.tree v)) (parent_of b.tree v) v
-      (down_walk k (parent_of b.tree v) (ok.spanning.rooted.within v h) (omega arith))
-      (priced_one b (label_of b.tree v) (parent_of b.tree v) v joins (ok.prices.balanced v node))
+      let joins = (ok.tree_arcs v node).joins in
+      let none = ok.prices.balanced v node in
+      let rest = tree_walks k p (ok.spanning.rooted.within v h) (omega arith) in (
+        priced_append b (up_arc b v ∷ []) (up_path b k p) v p (climb b.tree.parents k p) (priced_one b (label_of b.tree v) v p joins none) rest.0,
+        priced_append b (down_path b k p) (down_arc b v ∷ []) (climb b.tree.parents k p) p v rest.1
+            (priced_one b (label_of b.tree v) p v (joins_back b.net (label_of b.tree v) v p joins) none),
+      )
 
 -- ---- the cycle
 
@@ -195,10 +190,10 @@ entering_low b k el =
 
 module _ (b : TreeStructure) (k apex : ℕ) (ok : IsBasis b) (el : IsEligible b k) (around : IsAround b k apex) where
   down_side : IsPricedWalk b (left_node b k (left_steps b k apex)) (down_path b (left_steps b k apex) (from_of b k)) (from_of b k)
-  down_side = down_walk b ok (left_steps b k apex) (from_of b k) around.cycle.left_in_range around.cycle.left_short
+  down_side = (tree_walks b ok (left_steps b k apex) (from_of b k) around.cycle.left_in_range around.cycle.left_short).1
 
   up_side : IsPricedWalk b (to_of b k) (up_path b (right_steps b k apex) (to_of b k)) (right_node b k (right_steps b k apex))
-  up_side = up_walk b ok (right_steps b k apex) (to_of b k) around.cycle.right_in_range around.cycle.right_short
+  up_side = (tree_walks b ok (right_steps b k apex) (to_of b k) around.cycle.right_in_range around.cycle.right_short).0
 
   closed_walk : IsWalk (with_artificial b.net) (left_node b k (left_steps b k apex)) (cycle_of b (entering b k) apex) (right_node b k (right_steps b k apex))
   closed_walk =

@@ -12,7 +12,7 @@ use Rattle.mcf_basis.specs.Private.Layouts.IsGapOf.{none, far}
 use Rattle.mcf_basis.specs.Private.Turned.{price_change}
 use Rattle.mcf_basis.specs.Ranks.{greatest_cost}
 use Rattle.mcf_basis.proofs.Gaps.IsMoved.{down, stays, up}
-use Rattle.mcf_basis.proofs.Gaps.{is_moved, moved_is, twice, unmoved}
+use Rattle.mcf_basis.proofs.Gaps.{IsMoved, is_moved, moved_is, twice, unmoved}
 use Rattle.mcf_basis.proofs.TreePrices.{IsNear}
 
 -- a price near the artificial cost, or near its opposite
@@ -26,6 +26,9 @@ near_spread g gap reach p (far is le) short (inr h) = (let s = short le in below
 pub near_moved : (cost a b : ℕ) (p q : ℤ) → IsNear cost a q → IsUpTo b (p -ℤ q) → IsNear cost (a + b) p
 near_moved cost a b p q (inl h) k = inl (omega (arith, ints, h, k), omega (arith, ints, h, k))
 near_moved cost a b p q (inr h) k = inr (omega (arith, ints, h, k), omega (arith, ints, h, k))
+
+stored_as : (gap limit : ℕ) (stored z : ℤ) → IsMoved stand_in (2 * gap) stored z → IsUpTo limit stored → IsShown gap limit z
+stored_as gap limit stored z moved small = record { stored = stored; is = moved_is stand_in (2 * gap) stored z moved; small = small }
 
 -- the reduced cost of an offer between such prices, of which each fits
 pub reduced_is_shown : (g : Network) (gap limit reach : ℕ) (c p q : ℤ) → IsUpTo limits.cost c → IsGapOf g gap →
@@ -42,26 +45,24 @@ reduced_is_shown g gap limit reach c p q cost (none z) short fits from to = reco
     by_sides (inl h) (inr k) = (omega (arith, ints, cost, fits, h, k), omega (arith, ints, cost, fits, h, k))
     by_sides (inr h) (inl k) = (omega (arith, ints, cost, fits, h, k), omega (arith, ints, cost, fits, h, k))
     by_sides (inr h) (inr k) = (omega (arith, ints, cost, fits, h, k), omega (arith, ints, cost, fits, h, k))
-reduced_is_shown g gap limit reach c p q cost (far is le) short fits (inl h) (inl k) = (let s = short le in record {
-  stored = c -ℤ p +ℤ q;
-  is = moved_is stand_in (2 * gap) (c -ℤ p +ℤ q) (c -ℤ p +ℤ q) (stays (omega (arith, ints, cost, s, h, k)) (omega (arith, ints, cost, s, h, k)) refl);
-  small = (omega (arith, ints, cost, is, fits, h, k), omega (arith, ints, cost, is, fits, h, k));
-})
-reduced_is_shown g gap limit reach c p q cost (far is le) short fits (inr h) (inr k) = (let s = short le in record {
-  stored = c -ℤ p +ℤ q;
-  is = moved_is stand_in (2 * gap) (c -ℤ p +ℤ q) (c -ℤ p +ℤ q) (stays (omega (arith, ints, cost, s, h, k)) (omega (arith, ints, cost, s, h, k)) refl);
-  small = (omega (arith, ints, cost, is, fits, h, k), omega (arith, ints, cost, is, fits, h, k));
-})
-reduced_is_shown g gap limit reach c p q cost (far is le) short fits (inl h) (inr k) = (let s = short le in record {
-  stored = c -ℤ p +ℤ q +ℤ pos (2 * gap);
-  is = moved_is stand_in (2 * gap) (c -ℤ p +ℤ q +ℤ pos (2 * gap)) (c -ℤ p +ℤ q) (down (omega (arith, ints, cost, s, is, h, k)) (omega (arith, ints)));
-  small = (omega (arith, ints, cost, is, fits, h, k), omega (arith, ints, cost, is, fits, h, k));
-})
-reduced_is_shown g gap limit reach c p q cost (far is le) short fits (inr h) (inl k) = (let s = short le in record {
-  stored = c -ℤ p +ℤ q -ℤ pos (2 * gap);
-  is = moved_is stand_in (2 * gap) (c -ℤ p +ℤ q -ℤ pos (2 * gap)) (c -ℤ p +ℤ q) (up (omega (arith, ints, cost, s, is, h, k)) (omega (arith, ints)));
-  small = (omega (arith, ints, cost, is, fits, h, k), omega (arith, ints, cost, is, fits, h, k));
-})
+reduced_is_shown g gap limit reach c p q cost (far is le) short fits (inl h) (inl k) =
+    let s = short le in
+    stored_as gap (change_limit (limit - gap)) (c -ℤ p +ℤ q) (c -ℤ p +ℤ q) (stays (omega (arith, ints, cost, s, h, k)) (omega (arith, ints, cost, s, h, k)) refl)
+    (omega (arith, ints, cost, is, fits, h, k), omega (arith, ints, cost, is, fits, h, k))
+reduced_is_shown g gap limit reach c p q cost (far is le) short fits (inr h) (inr k) =
+    let s = short le in
+    stored_as gap (change_limit (limit - gap)) (c -ℤ p +ℤ q) (c -ℤ p +ℤ q) (stays (omega (arith, ints, cost, s, h, k)) (omega (arith, ints, cost, s, h, k)) refl)
+    (omega (arith, ints, cost, is, fits, h, k), omega (arith, ints, cost, is, fits, h, k))
+reduced_is_shown g gap limit reach c p q cost (far is le) short fits (inl h) (inr k) =
+    let s = short le in
+    stored_as gap (change_limit (limit - gap)) (c -ℤ p +ℤ q +ℤ pos (2 * gap)) (c -ℤ p +ℤ q)
+    (down (omega (arith, ints, cost, s, is, h, k)) (omega (arith, ints)))
+    (omega (arith, ints, cost, is, fits, h, k), omega (arith, ints, cost, is, fits, h, k))
+reduced_is_shown g gap limit reach c p q cost (far is le) short fits (inr h) (inl k) =
+    let s = short le in
+    stored_as gap (change_limit (limit - gap)) (c -ℤ p +ℤ q -ℤ pos (2 * gap)) (c -ℤ p +ℤ q)
+    (up (omega (arith, ints, cost, s, is, h, k)) (omega (arith, ints)))
+    (omega (arith, ints, cost, is, fits, h, k), omega (arith, ints, cost, is, fits, h, k))
 
 -- the same the other way
 pub turned_shown : (gap limit : ℕ) (left : Bool) (r : ℤ) → IsShown gap limit r → IsShown gap limit (price_change left r)
@@ -69,12 +70,8 @@ turned_shown gap limit true r h = h
 turned_shown gap limit false r h =
     let s = h.small in
     let e = h.is in
-    record {
-      stored = neg_ℤ h.stored;
-      is = elim (is_moved stand_in (2 * gap) h.stored) [
-        | up k f ↦ moved_is stand_in (2 * gap) (neg_ℤ h.stored) (neg_ℤ r) (down (omega (arith, ints, k)) (omega (arith, ints, e, f)))
-        | down k f ↦ moved_is stand_in (2 * gap) (neg_ℤ h.stored) (neg_ℤ r) (up (omega (arith, ints, k)) (omega (arith, ints, e, f)))
-        | stays j k f ↦ moved_is stand_in (2 * gap) (neg_ℤ h.stored) (neg_ℤ r) (stays (omega (arith, ints, k)) (omega (arith, ints, j)) (omega (arith, ints, e, f)))
-      ];
-      small = (omega (arith, ints, s), omega (arith, ints, s));
-    }
+    stored_as gap limit (neg_ℤ h.stored) (neg_ℤ r) (elim (is_moved stand_in (2 * gap) h.stored) [
+      | up k f ↦ down (omega (arith, ints, k)) (omega (arith, ints, e, f))
+      | down k f ↦ up (omega (arith, ints, k)) (omega (arith, ints, e, f))
+      | stays j k f ↦ stays (omega (arith, ints, k)) (omega (arith, ints, j)) (omega (arith, ints, e, f))
+    ]) (omega (arith, ints, s), omega (arith, ints, s))

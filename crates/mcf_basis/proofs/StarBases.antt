@@ -1,16 +1,16 @@
 -- The star of the artificial arcs is a basis.
-use Rattle.std.proofs.Common.{◌≡◌, ◌≢◌, ℕ, zero, suc, ◌+◌, ◌-◌, ◌<◌, ◌≤◌, ◌++◌, inl, inr, true, false, not, eqb, List, [], length, map, take, drop, replicate}
+use Rattle.std.proofs.Common.{◌≡◌, ◌≢◌, ℕ, zero, suc, ◌+◌, ◌-◌, ◌<◌, ◌++◌, inl, inr, true, false, not, eqb, List, [], length, map, take, drop, replicate}
 use Rattle.std.proofs.Common.{get_or, refl, sym, ap, ◌∙◌, arith, subst, ℤ, pos, negsuc, neg_ℤ, ◌+ℤ◌, ◌-ℤ◌, ◌<ℤ◌, length-append}
 use Rattle.std.specs.Prelude.{unsigned_abs, int_le}
 use Rattle.std.specs.List.{All, range_with_len}
 use Rattle.std.proofs.lemmas.Int.{ints}
 use Rattle.std.proofs.lemmas.Bool.{cases_Bool, eq-eqb, true≢false}
-use Rattle.std.proofs.lemmas.List.{get_or-replicate, get_or_append_left, get_or-append-add, length-replicate}
+use Rattle.std.proofs.lemmas.List.{get_or-replicate, get_or-take, get_or_append_left, get_or-append-add, length-drop, length-replicate, length-take-le}
 use Rattle.std.proofs.lemmas.List.Elements.{All-nil, All-cons}
 use Rattle.std.proofs.lemmas.List.FromFn.{get_or-map-range_with_len, length-map-range_with_len}
 use Rattle.mcf_flows.specs.declared.arc.Arc.{Arc}
 use Rattle.mcf_flows.specs.Flow.{net}
-use Rattle.mcf_flows.specs.Network.{Network, IsArcNumber, IsNode, at_node, flow_sum, node_count, when}
+use Rattle.mcf_flows.specs.Network.{Network, IsNode, at_node, flow_sum, node_count, when}
 use Rattle.mcf_flows.proofs.IntLaws.{at_most, at_most_passes}
 use Rattle.mcf_network.specs.Nets.{IsNet, IsNetArc}
 use Rattle.mcf_network.specs.Residual.{arc_at}
@@ -23,7 +23,7 @@ use Rattle.mcf_basis.specs.Bases.{CanHold, HasTreeArc, HasTreePrices, IsAtBound,
 use Rattle.mcf_basis.specs.Starts.{start_amounts, start_price, start_prices}
 use Rattle.mcf_basis.specs.Structures.{TreeStructure, CanTake, IsInTree, carried, full_state, leaving, price_at, reduced_at, up_path}
 use Rattle.mcf_basis.specs.Structures.Joins.{out_of, into}
-use Rattle.mcf_basis.proofs.Flows.{added_arcs, arc_at_place, net_of_zeros, split_net}
+use Rattle.mcf_basis.proofs.Flows.{added_arcs, arc_at_place, net_of_zeros, read_added, split_net}
 use Rattle.mcf_basis.proofs.Labels.{added_arc, added_label, label_case, label_count}
 use Rattle.mcf_basis.proofs.Labels.LabelCase.{own, added}
 use Rattle.mcf_basis.proofs.LastBases.{node_count_added, size_low, supply_added}
@@ -100,28 +100,6 @@ module _ (g : Network) (flow : List ℤ) (count : length flow ≡ node_count g) 
       let d = when-same (artificial_arc g v).dst v (get_or flow (v - 1) (pos 0)) (sym (taker_dst g v e)) in
       omega (arith, ints, out, inn, s, d)
 
--- what the artificial arcs carry away from a node is its supply
-star_net : (g : Network) (v : ℕ) → IsNode (node_count g) v → net (added_arcs g) (star_flow g) v ≡ at_node g.supplies v
-star_net g v h =
-    let count = length-map-range_with_len (λ u. pos (unsigned_abs (at_node g.supplies u))) 1 (node_count g) in
-    let read : get_or (star_flow g) (v - 1) (pos 0) ≡ star_amount g v =
-    get_or-map-range_with_len (λ u. pos (unsigned_abs (at_node g.supplies u))) 1 (node_count g) (v - 1) v (pos 0) (omega arith) (omega arith) in
-    elim (cases_Bool (is_sender g v)) [
-      | inl e ↦ sender_net g (star_flow g) count v h e ∙ (read ∙ size_low (at_node g.supplies v) (at_most (pos 0) (at_node g.supplies v) e))
-      | inr e ↦ (let n = taker_net g (star_flow g) count v h e in
-          let size = size_below (at_node g.supplies v) (below_zero (at_node g.supplies v) e) in
-          omega (arith, ints, n, read, size))
-    ]
-
-dropped : (n : ℕ) (xs : List ℤ) → drop n (replicate n (pos 0) ++ xs) ≡ xs
-dropped zero xs = refl
-dropped (suc n) xs = dropped n xs
-
-taken : (n : ℕ) (xs : List ℤ) (i : ℕ) → i < length (take n (replicate n (pos 0) ++ xs)) → get_or (take n (replicate n (pos 0) ++ xs)) i (pos 0) ≡ pos 0
-taken zero xs i h = absurd (omega arith)
-taken (suc n) xs zero h = refl
-taken (suc n) xs (suc i) h = taken n xs i (omega arith)
-
 -- the star with these amounts and prices is a basis
 module _ (b : TreeStructure) (ok : IsNet b.net) (spanning : IsSpanning b.tree) (star : IsStar b.tree (node_count b.net) (length b.net.arcs))
     (amounts : b.amounts ≡ start_amounts b.net) (prices : b.prices ≡ start_prices b.net) where
@@ -134,12 +112,12 @@ module _ (b : TreeStructure) (ok : IsNet b.net) (spanning : IsSpanning b.tree) (
   star_arc : (v : ℕ) → IsNode (node_count b.net) v → arc_at (with_artificial b.net) (label_of b.tree v) ≡ artificial_arc b.net v
   star_arc v h = added_arc b.net v (label_of b.tree v) h (star_label v h)
 
-  own_empty : (k : ℕ) → IsArcNumber b.net k → carried b k ≡ pos 0
-  own_empty k h =
+  own_empty : (i : ℕ) → i < length b.net.arcs → get_or b.amounts i (pos 0) ≡ pos 0
+  own_empty i h =
       let n = length-replicate (length b.net.arcs) (pos 0) in
-      ap (λ xs. get_or xs (k - 1) (pos 0)) amounts
-      ∙ (get_or_append_left (replicate (length b.net.arcs) (pos 0)) (star_flow b.net) (pos 0) (k - 1) (omega (arith, n, h)) ∙ get_or-replicate
-      (length b.net.arcs) (k - 1) (pos 0) (pos 0) (omega arith))
+      ap (λ xs. get_or xs i (pos 0)) amounts
+      ∙ (get_or_append_left (replicate (length b.net.arcs) (pos 0)) (star_flow b.net) (pos 0) i (omega (arith, n, h))
+      ∙ get_or-replicate (length b.net.arcs) i (pos 0) (pos 0) h)
 
   added_amount : (v label : ℕ) → IsNode (node_count b.net) v → label ≡ length b.net.arcs + v → carried b label ≡ star_amount b.net v
   added_amount v label h e =
@@ -208,7 +186,7 @@ module _ (b : TreeStructure) (ok : IsNet b.net) (spanning : IsSpanning b.tree) (
 
   star_held : (label : ℕ) → IsLabel b.net label → CanHold b.net label (carried b label)
   star_held label h = elim (label_case b.net label h) [
-    | own k ↦ (let z = own_empty label k in
+    | own k ↦ (let z = own_empty (label - 1) (omega (arith, k)) in
         let a : IsNetArc (arc_at b.net label) = net_arc_at b.net label ok k in
         let w = a.width_low in
         record { low = omega (arith, ints, z); high = λ l. omega (arith, ints, z, w) })
@@ -218,24 +196,30 @@ module _ (b : TreeStructure) (ok : IsNet b.net) (spanning : IsSpanning b.tree) (
 
   star_bounds : (label : ℕ) → IsLabel b.net label → ¬ IsInTree b label → IsAtBound b label
   star_bounds label h out = elim (label_case b.net label h) [
-    | own k ↦ inl (own_empty label k)
+    | own k ↦ inl (own_empty (label - 1) (omega (arith, k)))
     | added v node e ↦ absurd (out (record { node = v; is_node = node; labelled = star_label v node ∙ sym e }))
   ]
 
   star_no_surplus : HasNoSurplus (full_state b)
   star_no_surplus v h =
       let node : IsNode (node_count b.net) v = subst (λ n. IsNode n v) (sym (node_count_added b.net)) h in
-      let r = length-replicate (length b.net.arcs) (pos 0) in
-      let cut : net (with_artificial b.net).arcs b.amounts v ≡ net (with_artificial b.net).arcs (start_amounts b.net) v =
-      ap (λ xs. net (with_artificial b.net).arcs xs v) amounts in
-      let size : length b.net.arcs ≤ length (start_amounts b.net) =
-      (let a = length-append (replicate (length b.net.arcs) (pos 0)) (star_flow b.net) in omega (arith, a, r)) in
-      let split = split_net b.net (start_amounts b.net) v size in
-      let none = net_of_zeros b.net.arcs (take (length b.net.arcs) (start_amounts b.net)) v (taken (length b.net.arcs) (star_flow b.net)) in
-      let rest = ap (λ xs. net (added_arcs b.net) xs v) (dropped (length b.net.arcs) (star_flow b.net)) in
-      let away = star_net b.net v node in
+      let size : length b.amounts ≡ length b.net.arcs + node_count b.net = star_amount_count ∙ label_count b.net in
+      let short = length-take-le (length b.net.arcs) b.amounts (omega arith) in
+      let rest = length-drop (length b.net.arcs) b.amounts in
+      let count : length (drop (length b.net.arcs) b.amounts) ≡ node_count b.net = omega (arith, rest, size) in
+      let split = split_net b.net b.amounts v (omega arith) in
+      let none = net_of_zeros b.net.arcs (take (length b.net.arcs) b.amounts) v (λ i l. (let m : i < length b.net.arcs = omega (arith, l, short) in
+      get_or-take (length b.net.arcs) b.amounts i (pos 0) m ∙ own_empty i m)) in
+      let read = read_added b (v - 1) v (omega arith) ∙ added_amount v (length b.net.arcs + v) node refl in
       let supply = supply_added b.net v in
-      omega (arith, ints, cut, split, none, rest, away, supply)
+      elim (cases_Bool (is_sender b.net v)) [
+        | inl e ↦ (let away = sender_net b.net (drop (length b.net.arcs) b.amounts) count v node e in
+            let whole = size_low (at_node b.net.supplies v) (at_most (pos 0) (at_node b.net.supplies v) e) in
+            omega (arith, ints, split, none, away, read, whole, supply))
+        | inr e ↦ (let away = taker_net b.net (drop (length b.net.arcs) b.amounts) count v node e in
+            let whole = size_below (at_node b.net.supplies v) (below_zero (at_node b.net.supplies v) e) in
+            omega (arith, ints, split, none, away, read, whole, supply))
+      ]
 
   star_strong : (v : ℕ) → IsNode (node_count b.net) v → All (λ r. CanTake b r (pos 1)) (up_path b (depth_of b.tree v) v)
   star_strong v h =
