@@ -15,7 +15,6 @@ use Rattle.mcf_flows.specs.Blocking.{Blocks, cap_leaving, enters, leaves, low_en
 use Rattle.mcf_flows.specs.Flow.{net}
 use Rattle.mcf_flows.specs.Network.{IsArcNumber, IsNode, at_node, flow_sum, node_count, node_sum, when}
 use Rattle.mcf_flows.specs.WellFormed.{HasEnds, IsUpTo, weight}
-use Rattle.mcf_flows.proofs.AllZips.{AllZip_from}
 use Rattle.mcf_flows.proofs.ArcSums.{arc_sum-same, arc_sum-zero, flow_sum-arc_sum, flow_sum-same_at, flow_sum-zero}
 use Rattle.mcf_flows.proofs.Bounds.{up_to_size, weight-le-sum}
 use Rattle.mcf_flows.proofs.Hoffman.{nets_across}
@@ -35,9 +34,9 @@ use Rattle.mcf_basis.specs.Structures.{TreeStructure, Joins, carried, price_at, 
 use Rattle.mcf_basis.specs.Violations.{HasNoEligible}
 use Rattle.mcf_basis.proofs.Cycles.{tree_of}
 use Rattle.mcf_basis.proofs.Around.{arcs_of}
-use Rattle.mcf_basis.proofs.Flows.{added_arcs, amount_count, own_count, read_added, rest_count, split_net}
+use Rattle.mcf_basis.proofs.Flows.{added_arcs, amount_count, read_added, rest_count, split_net}
 use Rattle.mcf_basis.proofs.Labels.{added_arc, added_label, cases_in_tree, inner_arc, own_arc, own_label}
-use Rattle.mcf_basis.proofs.LastBases.{empty_above, full_below, node_count_added, read_arc, read_own, supply_added, zero_or_more}
+use Rattle.mcf_basis.proofs.LastBases.{each_own, empty_above, full_below, node_count_added, supply_added, zero_or_more}
 use Rattle.mcf_basis.proofs.Offers.{own_reduced}
 use Rattle.mcf_basis.proofs.Pushed.{node_of}
 use Rattle.mcf_basis.proofs.StarBases.{sender_dst, sender_net, sender_src, taker_dst, taker_net, taker_src}
@@ -369,9 +368,7 @@ module _ (b : TreeStructure) (ok : IsBasis b) (none : HasNoEligible b) where
         ]
 
     crossing : AllZip Crosses b.net.arcs (state_of b).amounts
-    crossing =
-        AllZip_from Crosses b.net.arcs (state_of b).amounts (sym (own_count b ok))
-        (λ i h x y. rw (read_arc b ok i x h, read_own b ok i y h) (crossing_arc (i + 1) (omega arith, omega arith)))
+    crossing = each_own b ok Crosses crossing_arc
 
     sum_leaving : flow_sum (λ a f. when (leaves side a) f) b.net.arcs (state_of b).amounts ≡ cap_leaving b.net.arcs side
     sum_leaving =

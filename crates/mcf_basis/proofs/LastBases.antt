@@ -42,29 +42,32 @@ supply_added g v = refl
 
 module _ (b : TreeStructure) (ok : IsBasis b) where
   -- what the arc at a place carries, whatever the reads give past the end
-  pub read_arc : (i : ℕ) (x : Arc) → i < length b.net.arcs → get_or b.net.arcs i x ≡ arc_at b.net (i + 1)
+  read_arc : (i : ℕ) (x : Arc) → i < length b.net.arcs → get_or b.net.arcs i x ≡ arc_at b.net (i + 1)
   read_arc i x h = let place : i + 1 - 1 ≡ i = omega arith in get_or_default b.net.arcs i x no_arc h ∙ ap (λ j. get_or b.net.arcs j no_arc) (sym place)
 
-  pub read_own : (i : ℕ) (y : ℤ) → i < length b.net.arcs → get_or (state_of b).amounts i y ≡ carried b (i + 1)
+  read_own : (i : ℕ) (y : ℤ) → i < length b.net.arcs → get_or (state_of b).amounts i y ≡ carried b (i + 1)
   read_own i y h =
       let place : i + 1 - 1 ≡ i = omega arith in
       let count = own_count b ok in
       get_or_default (state_of b).amounts i y (pos 0) (omega (arith, count, h)) ∙
       (ap (λ j. get_or (state_of b).amounts j (pos 0)) (sym place) ∙ own_carried b ok (i + 1) (pos 0) (omega arith, omega arith))
 
-  held : (i : ℕ) → i < length b.net.arcs → CanCarry (arc_at b.net (i + 1)) (carried b (i + 1))
-  held i h =
-      let k : IsArcNumber b.net (i + 1) = (omega arith, omega arith) in
-      let a : IsNetArc (arc_at b.net (i + 1)) = net_arc_at b.net (i + 1) ok.of_net k in
-      let c : CanHold b.net (i + 1) (carried b (i + 1)) = ok.flow.within_bounds (i + 1) (own_label b.net (i + 1) k) in
+  -- what holds of each arc of the net and its amount holds of the two lists
+  pub each_own : (R : Arc → ℤ → Type 0) → ((k : ℕ) → IsArcNumber b.net k → R (arc_at b.net k) (carried b k)) → AllZip R b.net.arcs (state_of b).amounts
+  each_own R each =
+      AllZip_from R b.net.arcs (state_of b).amounts (sym (own_count b ok))
+      (λ i h x y. rw (read_arc i x h, read_own i y h) (each (i + 1) (omega arith, omega arith)))
+
+  held : (k : ℕ) → IsArcNumber b.net k → CanCarry (arc_at b.net k) (carried b k)
+  held k h =
+      let a : IsNetArc (arc_at b.net k) = net_arc_at b.net k ok.of_net h in
+      let c : CanHold b.net k (carried b k) = ok.flow.within_bounds k (own_label b.net k h) in
       let low = a.no_low in
       let from = c.low in
-      (omega (arith, ints, low, from), c.high k.1)
+      (omega (arith, ints, low, from), c.high h.1)
 
   pub within : AllZip CanCarry b.net.arcs (state_of b).amounts
-  within =
-      AllZip_from CanCarry b.net.arcs (state_of b).amounts (sym (own_count b ok))
-      (λ i h x y. rw (read_arc i x h, read_own i y h) (held i h))
+  within = each_own CanCarry held
 
   pub feasible : HasNoArtificial b → IsFeasible b.net (state_of b).amounts
   feasible none = record {
@@ -122,9 +125,7 @@ module _ (b : TreeStructure) (ok : IsBasis b) where
         (λ high. empty_above k h (omega (arith, ints, r, high)) ∙ sym a.no_low, λ low. full_below k h (omega (arith, ints, r, low)))
 
     pub shows : Shows b.net.arcs (drop 1 b.prices) (state_of b).amounts
-    shows =
-        AllZip_from (IsComplementary (drop 1 b.prices)) b.net.arcs (state_of b).amounts (sym (own_count b ok))
-        (λ i h x y. rw (read_arc i x h, read_own i y h) (shown (i + 1) (omega arith, omega arith)))
+    shows = each_own (IsComplementary (drop 1 b.prices)) shown
 
 pub last_bases_are_shown_lem : LastBasesAreShown
 last_bases_are_shown_lem b ok none empty = (feasible b ok empty, shows b ok none)

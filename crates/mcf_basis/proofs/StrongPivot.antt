@@ -1,5 +1,5 @@
 -- A pivot keeps the tree strongly feasible, over arcs and amounts by their labels.
-use Rattle.std.proofs.Common.{◌≡◌, ◌≢◌, ℕ, zero, suc, ◌+◌, ◌-◌, ◌<◌, ◌≤◌, List, length, sym, ap, ◌∙◌, subst, arith, inl, inr, ◌⊎◌, ℤ, pos, ◌+ℤ◌, ◌≤ℤ◌}
+use Rattle.std.proofs.Common.{◌≡◌, ◌≢◌, ℕ, zero, suc, ◌+◌, ◌-◌, ◌<◌, ◌≤◌, List, length, sym, ap, ◌∙◌, arith, inl, inr, ◌⊎◌, ℤ, pos, ◌+ℤ◌, ◌≤ℤ◌}
 use Rattle.std.specs.Prelude.{slice_index}
 use Rattle.std.proofs.lemmas.Bool.{cases_eq, cases_lt}
 use Rattle.mcf_links.specs.Rooted.{climb, IsRooted, IsTurned, IsRelabelled}
@@ -37,22 +37,20 @@ step_at ps d t v n p h short lt =
 pub labels_apart : (g : Arcs) (ps ls : List ℕ) (d : ℕ → ℕ) → IsTreeOf g ps ls d → (u v : ℕ) → 0 < u → u < length ps → 0 < v → v < length ps → u ≢ v
     → slice_index ls u ≢ slice_index ls v
 labels_apart g ps ls d t u v pu hu pv hv ne same =
-    crossed (t.joined u pu hu) (subst (λ arc. JoinsEnds g arc v (slice_index ps v)) (sym same) (t.joined v pv hv))
-  where
-    crossed : JoinsEnds g (slice_index ls u) u (slice_index ps u) → JoinsEnds g (slice_index ls u) v (slice_index ps v) → ⊥
-    crossed = λ p q.
-        let fu : d u ≡ d (slice_index ps u) + 1 = t.rooted.falls u pu hu in
-        let fv : d v ≡ d (slice_index ps v) + 1 = t.rooted.falls v pv hv in
-        elim p [
-          | out_of a b ↦ elim q [
-            | out_of x y ↦ ne (sym a ∙ x)
-            | into x y ↦ (let e : d u ≡ d (slice_index ps v) = ap d (sym a ∙ x) in let f : d (slice_index ps u) ≡ d v = ap d (sym b ∙ y) in omega arith)
-          ]
-          | into a b ↦ elim q [
-            | out_of x y ↦ (let e : d (slice_index ps u) ≡ d v = ap d (sym a ∙ x) in let f : d u ≡ d (slice_index ps v) = ap d (sym b ∙ y) in omega arith)
-            | into x y ↦ ne (sym b ∙ y)
-          ]
-        ]
+    let fu : d u ≡ d (slice_index ps u) + 1 = t.rooted.falls u pu hu in
+    let fv : d v ≡ d (slice_index ps v) + 1 = t.rooted.falls v pv hv in
+    let tails = ap g.tail same in
+    let heads = ap g.head same in
+    elim (t.joined u pu hu) [
+      | out_of a b ↦ elim (t.joined v pv hv) [
+        | out_of x y ↦ ne (sym a ∙ (tails ∙ x))
+        | into x y ↦ (let e = ap d (sym a ∙ (tails ∙ x)) in let f = ap d (sym b ∙ (heads ∙ y)) in omega (arith, fu, fv, e, f))
+      ]
+      | into a b ↦ elim (t.joined v pv hv) [
+        | out_of x y ↦ (let e = ap d (sym a ∙ (tails ∙ x)) in let f = ap d (sym b ∙ (heads ∙ y)) in omega (arith, fu, fv, e, f))
+        | into x y ↦ ne (sym b ∙ (heads ∙ y))
+      ]
+    ]
 
 pub same_node : (g : Arcs) (ps ls : List ℕ) (d : ℕ → ℕ) → IsTreeOf g ps ls d → (u v : ℕ) → 0 < u → u < length ps → 0 < v → v < length ps
     → slice_index ls u ≡ slice_index ls v → u ≡ v
