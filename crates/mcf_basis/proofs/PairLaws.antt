@@ -89,10 +89,8 @@ module _ (old new : TreeStructure) (k : ℕ) (moved : ℤ) (ok : IsBasis old) (p
     outer_stays : is_above old.tree out outer ≡ false
     outer_stays = false_from_ne_true (is_above old.tree out outer) (λ e. x.outside (path-from_over old.tree.parents (depth_of old.tree) out outer e))
 
-    from_price : price_at new (from_of old k) ≡ price_at old (from_of old k) +ℤ x.change
-    from_price =
-        subst (λ v. price_at new v ≡ price_at old v +ℤ x.change) at_from
-        (x.prices inner inner_node.1 ∙ ap (λ z. price_at old inner +ℤ z) (ap (λ t. when t x.change) inner_moved))
+    inner_price : price_at new inner ≡ price_at old inner +ℤ x.change
+    inner_price = x.prices inner inner_node.1 ∙ ap (λ t. price_at old inner +ℤ when t x.change) inner_moved
 
     to_price : price_at new (to_of old k) ≡ price_at old (to_of old k)
     to_price =
@@ -115,7 +113,7 @@ module _ (old new : TreeStructure) (k : ℕ) (moved : ℤ) (ok : IsBasis old) (p
     change_is =
         let before = turned_reduced old k (entering old k).back in
         let after = reduced_after in
-        let from = from_price in
+        let from = subst (λ v. price_at new v ≡ price_at old v +ℤ x.change) at_from inner_price in
         let to = to_price in
         omega (arith, ints, before, after, from, to)
 
@@ -126,10 +124,9 @@ module _ (old new : TreeStructure) (k : ℕ) (moved : ℤ) (ok : IsBasis old) (p
     prices_fall : price_sum new <ℤ price_sum old
     prices_fall =
         let low = change_low in
-        let falls : (price_at new inner) <ℤ price_at old inner = (let at = x.prices inner inner_node.1 in
-        let moves : when (is_above old.tree out inner) x.change ≡ x.change = ap (λ t. when t x.change) inner_moved in omega (arith, ints, at, moves, low)) in
+        let falls = inner_price in
         let sum : pos 0 <ℤ node_sum (λ v. price_at old v -ℤ price_at new v) (node_count old.net) =
-        node_sum_above_zero (λ v. price_at old v -ℤ price_at new v) (node_count old.net) inner inner_node (omega (arith, ints, falls))
+        node_sum_above_zero (λ v. price_at old v -ℤ price_at new v) (node_count old.net) inner inner_node (omega (arith, ints, falls, low))
         (λ v h. (let at = x.prices v h.1 in
         let none = not_above_zero (is_above old.tree out v) x.change low in omega (arith, ints, at, none))) in
         let split = node_sum-sub (price_at old) (price_at new) (node_count old.net) in
