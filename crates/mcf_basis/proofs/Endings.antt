@@ -1,11 +1,10 @@
 -- What is read of a basis at the end: its flow, its prices and its cut.
-use Rattle.std.proofs.Common.{◌≡◌, ◌≢◌, ℕ, zero, suc, ◌+◌, ◌-◌, ◌<◌, ◌≤◌, inl, inr, Bool, true, false, eqb, cond, List, length, map, take, drop}
+use Rattle.std.proofs.Common.{◌≡◌, ◌≢◌, ℕ, ◌+◌, ◌-◌, ◌<◌, ◌≤◌, inl, inr, Bool, true, false, eqb, cond, List, length, map, take, drop}
 use Rattle.std.proofs.Common.{get_or, refl, sym, ap, ◌∙◌, arith, subst, ℤ, pos, ◌+ℤ◌, ◌-ℤ◌, length-drop}
-use Rattle.std.specs.Prelude.{◌↔◌, IsTrue, Option, Some, None, if◌then◌else◌, int_lt}
-use Rattle.std.specs.List.{All, find, range_with_len}
-use Rattle.std.proofs.lemmas.Bool.{cases_eq, cond-true, cond-false, eq-eqb, eqb-true, le-leb, lt-leb, true≢false}
+use Rattle.std.specs.Prelude.{◌↔◌, IsTrue, if◌then◌else◌, int_lt}
+use Rattle.std.specs.List.{All, range_with_len}
+use Rattle.std.proofs.lemmas.Bool.{cases_eq}
 use Rattle.std.proofs.lemmas.List.{ext_get_or, get_or_default, get_or-drop, get_or-set_other, get_or-set_same, length-replicate, length-set}
-use Rattle.std.proofs.lemmas.Option.{none-some}
 use Rattle.std.proofs.lemmas.List.FromFn.{get_or-map-range_with_len, length-map-range_with_len, take-map-range_with_len}
 use Rattle.mcf_flows.specs.declared.problem.Side.TheVariants.{Send}
 use Rattle.mcf_flows.specs.Blocking.{Blocks, in_table, supply_in}
@@ -23,16 +22,14 @@ use Rattle.mcf_basis.specs.declared.offer.ArcOffer.{ArcOffer}
 use Rattle.mcf_basis.specs.declared.residuals.Residuals.{Residuals}
 use Rattle.mcf_basis.specs.Bases.{IsBasis}
 use Rattle.mcf_basis.specs.Laws.{HasNoArtificial}
-use Rattle.mcf_basis.specs.Private.Layouts.{Layout, IsLaidOut, amount_by, amount_in, basis_in, no_offer, no_residuals, node_below}
-use Rattle.mcf_basis.specs.Structures.{TreeStructure, carried, price_at, state_of, price_limit}
-use Rattle.mcf_basis.proofs.Around.{arcs_of}
+use Rattle.mcf_basis.specs.Private.Layouts.{Layout, IsLaidOut, amount_in, basis_in, no_offer, no_residuals, amount_in_tree}
+use Rattle.mcf_basis.specs.Structures.{TreeStructure, price_at, state_of, price_limit}
 use Rattle.mcf_basis.specs.Violations.{HasNoEligible}
 use Rattle.mcf_basis.proofs.Cuts.{HasWideTree, cuts_block}
 use Rattle.mcf_basis.proofs.Cycles.{tree_of}
-use Rattle.mcf_basis.proofs.LeastFound.{found_at}
-use Rattle.mcf_basis.proofs.StrongPivot.{labels_apart}
 use Rattle.mcf_basis.proofs.TreePrices.{price_small}
-use Rattle.mcf_basis.proofs.Views.{carried_in}
+use Rattle.mcf_basis.proofs.Views.{amount_case, carried_added, one_node}
+use Rattle.mcf_basis.proofs.Views.AmountCase.{above_node, off_tree}
 
 -- what an arc outside the tree carries, and what the arc of the net above node v does, by their
 -- places
@@ -53,12 +50,6 @@ amount_pushed s s' k back x y h e is =
 
 -- ---- the artificial arcs
 
-added_amount : (l : Layout) (v : ℕ) → IsNode (node_count l.net) v → carried (basis_in l) (length l.net.arcs + v) ≡ get_or l.artificial v (pos 0)
-added_amount l v h =
-    let place : length l.net.arcs + v - length l.net.arcs ≡ v = omega arith in
-    carried_in l (length l.net.arcs + v) (omega arith) (omega arith)
-    ∙ (cond-false _ _ _ (lt-leb (length l.net.arcs + v) (length l.net.arcs) (omega arith)) ∙ ap (λ i. get_or l.artificial i (pos 0)) place)
-
 pub none_left : (l : Layout) (b : TreeStructure) (t : Bool) → basis_in l ≡ b → IsLaidOut l
     → IsTrue t ↔ ((v : ℕ) → 1 ≤ v → v < length l.artificial → get_or l.artificial v (pos 0) ≡ pos 0)
     → IsTrue t ↔ HasNoArtificial b
@@ -66,8 +57,8 @@ unfolding basis_in
 none_left l b t e ok test =
     let size : length l.artificial ≡ node_count l.net + 1 = ok.artificial_size in
     subst (λ b. IsTrue t ↔ HasNoArtificial b) e (
-      (λ h v node. added_amount l v node ∙ test.0 h v node.0 (omega arith)),
-      (λ none. test.1 (λ v low high. (let node : IsNode (node_count l.net) v = (low, omega arith) in sym (added_amount l v node) ∙ none v node))),
+      (λ h v node. carried_added l v _ node refl ∙ test.0 h v node.0 (omega arith)),
+      (λ none. test.1 (λ v low high. (let node : IsNode (node_count l.net) v = (low, omega arith) in sym (carried_added l v _ node refl) ∙ none v node))),
     )
 
 -- ---- the prices
@@ -153,17 +144,6 @@ cut_blocks l b table e ok none balanced uneven marks =
 
 -- ---- the flow of a basis, as it is written
 
--- the arcs of two nodes are apart
-one_node : (b : TreeStructure) → IsBasis b
-    → (u v : ℕ) → IsNode (node_count b.net) u → IsNode (node_count b.net) v → label_of b.tree u ≡ label_of b.tree v → u ≡ v
-one_node b ok u v hu hv same =
-    let size : size_of b.tree ≡ node_count b.net + 1 = ok.size in
-    elim (cases_eq u v) [
-      | inl e ↦ e
-      | inr ne ↦ absurd (labels_apart (arcs_of b.net) b.tree.parents b.tree.labels (depth_of b.tree) (tree_of b ok) u v
-          (omega arith) (omega (arith, size, hu)) (omega arith) (omega (arith, size, hv)) ne same)
-    ]
-
 -- what the writing of the tree asks for
 pub record CanBeWritten (l : Layout) : Type 0 where
   pub size : size_of l.tree ≡ node_count l.net + 1
@@ -180,7 +160,7 @@ can_be_written l ok =
       size = ok.basis.size;
       residuals_size = ok.residuals_size;
       low = λ v h. (ok.basis.tree_arcs v h).label.0;
-      apart = one_node (basis_in l) ok.basis;
+      apart = one_node l (depth_of l.tree) (tree_of (basis_in l) ok.basis) ok.basis.size;
       widths = ok.residuals;
     }
 
@@ -204,18 +184,13 @@ tree_next g tree residuals first now next i v k u low apart node at label room b
       net = net;
       flow = flow;
       inside = λ w h le own. elim (cases_eq w v) [
-        | inl q ↦ subst (λ w. amount_at next (label_of tree w) ≡ inside_by g tree residuals w) (sym q) (here (omega (arith, label, ap (label_of tree) q, own)))
+        | inl q ↦ subst (λ w. label_of tree w ≤ length g.arcs → amount_at next (label_of tree w) ≡ inside_by g tree residuals w) (sym q)
+            (rw (label, room) at value) own
         | inr ne ↦ others (label_of tree w) (low w h, own) (λ same. ne (apart w v h node (same ∙ label)))
             ∙ before.inside w h (omega (arith, ne, le, at)) own
       ];
       outside = λ j h none. others j h (λ q. none v node (sym label ∙ sym q)) ∙ before.outside j h none;
     }
-  where
-    here : k ≤ length g.arcs → amount_at next (label_of tree v) ≡ inside_by g tree residuals v
-    here own =
-        subst (λ j. amount_at next j ≡ (if eqb (arc_at g j).src v then pos (get_or residuals v no_residuals).down else pos (get_or residuals v no_residuals).up)) label
-        (subst (λ u. amount_at next k ≡ (if eqb (arc_at g k).src v then pos (get_or residuals u no_residuals).down else pos (get_or residuals u no_residuals).up)) room
-        (value own))
 
 -- the amounts of the arcs, those of the tree written over those outside it
 pub record IsWritten (l : Layout) (first last : Pseudoflow) : Type 0 where
@@ -227,41 +202,18 @@ pub record IsWritten (l : Layout) (first last : Pseudoflow) : Type 0 where
   pub others : (k : ℕ) → IsArcNumber l.net k
       → ((v : ℕ) → IsNode (node_count l.net) v → label_of l.tree v ≢ k) → amount_at last k ≡ amount_at first k
 
--- if none is found, none passes
-none_cond : (b : Bool) (x : ℕ) (rest : Option ℕ) → cond b (Some x) rest ≡ None → (b ≡ false) × (rest ≡ None)
-none_cond true x rest e = absurd (none-some x (sym e))
-none_cond false x rest e = (refl, e)
-
-missed : (p : ℕ → Bool) (from n v : ℕ) → find p (range_with_len from n) ≡ None → from ≤ v → v < from + n → p v ≡ false
-missed p from zero v e low high = absurd (omega arith)
-missed p from (suc n) v e low high =
-    let parts = none_cond (p from) from (find p (range_with_len (from + 1) n)) e in
-    elim (cases_eq v from) [
-      | inl q ↦ ap p q ∙ parts.0
-      | inr ne ↦ missed p (from + 1) n v parts.1 (omega (arith, low, ne)) (omega (arith, high))
-    ]
-
 same_state : (s : Pseudoflow) (g : Network) (xs : List ℤ) → s.net ≡ g → s.amounts ≡ xs → s ≡ record { net = g; amounts = xs }
 same_state s g xs p q =
     ap (λ (n : Network). record { net = n; amounts = s.amounts }) p ∙ ap (λ (ys : List ℤ). record { net = g; amounts = ys }) q
 
 module _ (l : Layout) (first last : Pseudoflow) (ok : IsLaidOut l) (w : IsWritten l first last) where
-  below_case : (k : ℕ) → IsArcNumber l.net k → (o : Option ℕ) → node_below l k ≡ o → amount_at last k ≡ amount_by l k o
-  below_case k h None e =
-      w.others k h (λ v node q. true≢false (sym (eq-eqb (label_of l.tree v) k q)
-      ∙ missed (λ v. eqb (label_of l.tree v) k) 1 (node_count l.net) v e node.0 (omega (arith, node)))) ∙ w.outside k h
-  below_case k h (Some v) e =
-      let f = found_at (λ v. eqb (label_of l.tree v) k) 1 (node_count l.net) v e in
-      let low = f.low in
-      let high = f.high in
-      let node : IsNode (node_count l.net) v = (low, omega (arith, high)) in
-      let same : label_of l.tree v ≡ k = eqb-true (label_of l.tree v) k f.passes in
-      subst (λ j. amount_at last j ≡ (if eqb (arc_at l.net j).src v then pos (get_or l.residuals v no_residuals).down else pos (get_or l.residuals v no_residuals).up)) same
-      (w.inside v node (omega (arith, same, h)))
-
   written_at : (k : ℕ) → IsArcNumber l.net k → amount_at last k ≡ amount_in l k
+  unfolding basis_in
   written_at k h =
-      below_case k h (node_below l k) refl ∙ sym (cond-true _ _ _ (le-leb k (length l.net.arcs) h.1))
+      elim (amount_case l (depth_of l.tree) (tree_of (basis_in l) ok.basis) ok.basis.size k h) [
+        | above_node v node e is ↦ subst (λ j. amount_at last j ≡ amount_in_tree l j v) e (w.inside v node (omega (arith, e, h))) ∙ sym is
+        | off_tree off is ↦ w.others k h off ∙ (w.outside k h ∙ sym is)
+      ]
 
   written_amounts : last.amounts ≡ map (amount_in l) (range_with_len 1 (length l.net.arcs))
   written_amounts =

@@ -67,13 +67,14 @@ module _ (l : Layout) (k : ℕ) (ok : IsLaidOut l) (h : IsArcNumber l.net k) whe
   reduced_is = own_reduced (basis_in l) k h
 
   -- an arc outside the tree carries nothing if its offer goes forward
-  empty : offer_at l k ≡ forward_offer l.net k → ¬ IsInTree (basis_in l) k → carried (basis_in l) k ≡ pos 0
+  pub empty : offer_at l k ≡ forward_offer l.net k → ¬ IsInTree (basis_in l) k → carried (basis_in l) k ≡ pos 0
   empty e out = carried_outside l k h out ∙ cond-true _ _ _ (eq-eqb _ _ (ap (λ o. o.from) e))
 
   -- and all that it can where it is turned
-  full : offer_at l k ≡ turned_offer l.net k → (arc_at l.net k).src ≢ (arc_at l.net k).dst → ¬ IsInTree (basis_in l) k
-      → carried (basis_in l) k ≡ (arc_at l.net k).cap
-  full e ne out = carried_outside l k h out ∙ cond-false _ _ _ (ne_eqb _ _ (λ q. ne (sym q ∙ ap (λ o. o.from) e)))
+  pub full : offer_at l k ≡ turned_offer l.net k → pos 0 <ℤ (arc_at l.net k).cap → ¬ IsInTree (basis_in l) k → carried (basis_in l) k ≡ (arc_at l.net k).cap
+  full e wide out =
+      let a = arc_ok in
+      carried_outside l k h out ∙ cond-false _ _ _ (ne_eqb _ _ (λ q. (let z = a.no_loop_width (sym q ∙ ap (λ o. o.from) e) in omega (arith, ints, z, wide))))
 
   read_closed : (arc_at l.net k).cap ≡ pos 0 → offer_at l k ≡ no_offer → IsReadOffer (basis_in l) k (offer_at l k)
   unfolding basis_in
@@ -112,16 +113,15 @@ module _ (l : Layout) (k : ℕ) (ok : IsLaidOut l) (h : IsArcNumber l.net k) whe
       let a = arc_ok in
       let n = ends_ok in
       let r = reduced_is in
-      let apart : (arc_at l.net k).src ≢ (arc_at l.net k).dst = (λ q. (let z = a.no_loop_width q in omega (arith, ints, z, wide))) in
       rw e (record {
         from = n.dst_is_node.1;
         to = n.src_is_node.1;
         cost = (let c = a.cost_small in (omega (arith, ints, c), omega (arith, ints, c)));
         eligible = λ neg. (let high : pos 0 <ℤ reduced_at (basis_in l) k = omega (arith, ints, r, neg) in
             let out : ¬ IsInTree (basis_in l) k = not_in_tree (basis_in l) k ok.basis (λ z. omega (arith, ints)) in
-            record { arc = h; outside = out; wide = wide; gains = inr (full e apart out, high) });
+            record { arc = h; outside = out; wide = wide; gains = inr (full e wide out, high) });
         only = λ el. elim el.gains [
-          | inl g ↦ absurd (let f = full e apart el.outside in let z = g.0 in omega (arith, ints, z, f, wide))
+          | inl g ↦ absurd (let f = full e wide el.outside in let z = g.0 in omega (arith, ints, z, f, wide))
           | inr g ↦ (let high = g.1 in omega (arith, ints, r, high))
         ];
         size = λ neg. above_size (reduced_at (basis_in l) k) _ (omega (arith, ints, r, neg)) (omega (arith, ints, r));

@@ -4,7 +4,7 @@ use Rattle.std.proofs.Common.{replicate, get_or, refl, sym, ap, ◌∙◌, arith
 use Rattle.std.specs.Prelude.{if◌then◌else◌, int_lt, max, sum, unsigned_abs}
 use Rattle.std.specs.List.{range_with_len}
 use Rattle.std.proofs.lemmas.Int.{ints}
-use Rattle.std.proofs.lemmas.Bool.{cases_Bool, cases_lt, cond-true, cond-false, eq-eqb, le-leb, lt-leb}
+use Rattle.std.proofs.lemmas.Bool.{cases_Bool, cases_lt, cond-true, cond-false, eq-eqb}
 use Rattle.std.proofs.lemmas.List.{ext_get_or, get_or_append_left, get_or-append-add, get_or-replicate, length-replicate}
 use Rattle.std.proofs.lemmas.List.FromFn.{get_or-map-range_with_len, length-map-range_with_len, map-range_with_len_more}
 use Rattle.std.proofs.lemmas.Nat.{mul-le}
@@ -21,14 +21,13 @@ use Rattle.mcf_basis.specs.declared.offer.ArcOffer.{ArcOffer}
 use Rattle.mcf_basis.specs.declared.residuals.Residuals.{Residuals}
 use Rattle.mcf_basis.specs.Artificial.{is_sender}
 use Rattle.mcf_basis.specs.Bases.{IsBasis}
-use Rattle.mcf_basis.specs.Private.Layouts.{Layout, IsLaidOut, IsOffer, IsStarTable, amount_by, amount_in, amount_outside, artificial_residuals, basis_in}
+use Rattle.mcf_basis.specs.Private.Layouts.{Layout, IsLaidOut, IsOffer, IsStarTable, amount_in, amount_outside, artificial_residuals, basis_in}
 use Rattle.mcf_basis.specs.Private.Layouts.{forward_offer, no_offer, no_residuals, offer_at}
 use Rattle.mcf_basis.specs.Private.Layouts.IsOffer.{closed, forward}
 use Rattle.mcf_basis.specs.Ranks.{greatest_cost}
 use Rattle.mcf_basis.specs.Starts.{IsStart, start_amounts}
-use Rattle.mcf_basis.specs.Structures.{IsInTree}
 use Rattle.mcf_basis.proofs.StarBases.{star_is_basis}
-use Rattle.mcf_basis.proofs.Views.{none_below}
+use Rattle.mcf_basis.proofs.Views.{amount_added, amount_none}
 
 -- ---- lists that are made entry by entry
 
@@ -135,10 +134,6 @@ module _ (l : Layout) (s : IsStarStored l) where
       ap (λ xs. get_or xs (k - 1) no_offer) s.offers
       ∙ get_or-map-range_with_len (star_offer l.net) 1 (length l.net.arcs) (k - 1) k no_offer (omega arith) (omega arith)
 
-  outside : (k : ℕ) → IsArcNumber l.net k → ¬ IsInTree (basis_in l) k
-  unfolding basis_in
-  outside k h t = let e = label_is t.node t.is_node in let same = t.labelled in let node = t.is_node in omega (arith, e, same, node, h)
-
   offer_ok : (k : ℕ) → IsArcNumber l.net k → IsOffer l.net k (offer_at l k)
   offer_ok k h =
       let arc : IsNetArc (arc_at l.net k) = net_arc_at l.net k s.of_net h in
@@ -164,14 +159,11 @@ module _ (l : Layout) (s : IsStarStored l) where
       either false x e = e
 
   own_part : (k : ℕ) → IsArcNumber l.net k → amount_in l k ≡ pos 0
-  own_part k h =
-      cond-true _ _ _ (le-leb k (length l.net.arcs) (omega arith)) ∙ (ap (amount_by l k) (none_below l k (outside k h)) ∙ own_amount k h)
+  own_part k h = amount_none l k h (λ v node e. (let is = label_is v node in omega (arith, is, e, node, h))) ∙ own_amount k h
 
   added_part : (v label : ℕ) → IsNode (node_count l.net) v → label ≡ length l.net.arcs + v → amount_in l label ≡ star_amount l.net v
   added_part v label h e =
-      let place : label - length l.net.arcs ≡ v = omega arith in
-      cond-false _ _ _ (lt-leb label (length l.net.arcs) (omega arith)) ∙ (ap (λ i. get_or l.artificial i (pos 0)) place
-      ∙ (ap (λ xs. get_or xs v (pos 0)) s.artificial ∙ behind (pos 0) (pos 0) (star_amount l.net) (node_count l.net) v h))
+      amount_added l v label h e ∙ (ap (λ xs. get_or xs v (pos 0)) s.artificial ∙ behind (pos 0) (pos 0) (star_amount l.net) (node_count l.net) v h)
 
   amounts_are : map (amount_in l) (range_with_len 1 (length l.net.arcs + node_count l.net)) ≡ start_amounts l.net
   amounts_are =

@@ -5,7 +5,6 @@ use Rattle.std.proofs.lemmas.Int.{to_z-of_z}
 use Rattle.mcf_flows.specs.Network.{node_count}
 use Rattle.mcf_network.specs.NodeSets.{no_nodes}
 use Rattle.mcf_basis.specs.Structures.{price_at}
-use Rattle.mcf_basis.specs.Private.Layouts.{Layout}
 use Rattle.mcf_basis.proofs.Endings.{IsMarkedTo, cut_blocks, marked_next, marked_start}
 use Rattle.mcf_basis.proofs.Views.{view_basis, view_net}
 use Rattle.mcf_basis.proofs.basis.Basis.mark_cut.Goals as goal
@@ -18,50 +17,21 @@ loop-i-init c =
 
 pub price-requires : goal.price-requires
 price-requires c =
-    let l : Layout = record {
-      net = c.self.inside.net.now;
-      tree = c.self.inside.tree;
-      offers = c.self.inside.offers.items;
-      residuals = c.self.inside.residuals.items;
-      artificial = c.self.inside.artificial.items;
-      table = c.self.inside.table;
-      pivots = c.self.inside.pivots.number;
-    } in
-    let count : c.node_count-i-end.result ≡ node_count c.args.self.now.net =
-    c.node_count-i-end.ensures.value ∙ ap node_count (view_net l c.args.self.now c.self.view_is) in
+    let count = c.node_count-i-end.ensures.value ∙ ap node_count (view_net _ _ c.self.view_is) in
     let v = c.at-v.ensures in
     (omega arith, omega (arith, count, v, c.loop-i-test.true))
 
 pub mark-requires : goal.mark-requires
 mark-requires c =
-    let l : Layout = record {
-      net = c.self.inside.net.now;
-      tree = c.self.inside.tree;
-      offers = c.self.inside.offers.items;
-      residuals = c.self.inside.residuals.items;
-      artificial = c.self.inside.artificial.items;
-      table = c.self.inside.table;
-      pivots = c.self.inside.pivots.number;
-    } in
-    let count : c.node_count-i-end.result ≡ node_count c.args.self.now.net =
-    c.node_count-i-end.ensures.value ∙ ap node_count (view_net l c.args.self.now c.self.view_is) in
+    let count = c.node_count-i-end.ensures.value ∙ ap node_count (view_net _ _ c.self.view_is) in
     let room = c.loop-i.invariant.room in
     let v = c.at-v.ensures in
     (omega arith, omega (arith, count, room, v, c.loop-i-test.true))
 
 pub loop-i-preserved : goal.loop-i-preserved
 loop-i-preserved c =
-    let l : Layout = record {
-      net = c.self.inside.net.now;
-      tree = c.self.inside.tree;
-      offers = c.self.inside.offers.items;
-      residuals = c.self.inside.residuals.items;
-      artificial = c.self.inside.artificial.items;
-      table = c.self.inside.table;
-      pivots = c.self.inside.pivots.number;
-    } in
     let b = c.args.self.now in
-    let count : c.node_count-i-end.result ≡ node_count b.net = c.node_count-i-end.ensures.value ∙ ap node_count (view_net l b c.self.view_is) in
+    let count = c.node_count-i-end.ensures.value ∙ ap node_count (view_net _ _ c.self.view_is) in
     let read : to_z w128 (of_z w128 c.price.result) ≡ c.price.result = search (rules, to_z-of_z) in
     marked_next (node_count b.net) c.loop-i.i c.at-v.result (λ v. int_lt (pos 0) (price_at b v)) c.loop-i.set c.mark.new.set
     (int_lt (pos 0) (to_z w128 (of_z w128 c.price.result))) c.loop-i.invariant
@@ -72,44 +42,15 @@ returns-clause-room c = c.loop-i.invariant.room
 
 pub returns-clause-marks : goal.returns-clause-marks
 returns-clause-marks c v h =
-    let l : Layout = record {
-      net = c.self.inside.net.now;
-      tree = c.self.inside.tree;
-      offers = c.self.inside.offers.items;
-      residuals = c.self.inside.residuals.items;
-      artificial = c.self.inside.artificial.items;
-      table = c.self.inside.table;
-      pivots = c.self.inside.pivots.number;
-    } in
-    let count : c.node_count-i-end.result ≡ node_count c.args.self.now.net =
-    c.node_count-i-end.ensures.value ∙ ap node_count (view_net l c.args.self.now c.self.view_is) in
+    let count = c.node_count-i-end.ensures.value ∙ ap node_count (view_net _ _ c.self.view_is) in
     c.loop-i.invariant.marks v h (omega (arith, count, h, c.loop-i-test.false))
 
 pub returns-clause-blocks : goal.returns-clause-blocks
 returns-clause-blocks c =
-    let l : Layout = record {
-      net = c.self.inside.net.now;
-      tree = c.self.inside.tree;
-      offers = c.self.inside.offers.items;
-      residuals = c.self.inside.residuals.items;
-      artificial = c.self.inside.artificial.items;
-      table = c.self.inside.table;
-      pivots = c.self.inside.pivots.number;
-    } in
-    let count : c.node_count-i-end.result ≡ node_count c.args.self.now.net =
-    c.node_count-i-end.ensures.value ∙ ap node_count (view_net l c.args.self.now c.self.view_is) in
-    cut_blocks l c.args.self.now c.loop-i.set c.self.view_is c.self.invariant c.requires.last c.requires.balanced c.requires.uneven
+    let count = c.node_count-i-end.ensures.value ∙ ap node_count (view_net _ _ c.self.view_is) in
+    cut_blocks _ c.args.self.now c.loop-i.set c.self.view_is c.self.invariant c.requires.last c.requires.balanced c.requires.uneven
     (λ v h. c.loop-i.invariant.marks v h (omega (arith, count, h, c.loop-i-test.false)))
 
 pub returns-clause-basis : goal.returns-clause-basis
 returns-clause-basis c =
-    let l : Layout = record {
-      net = c.self.inside.net.now;
-      tree = c.self.inside.tree;
-      offers = c.self.inside.offers.items;
-      residuals = c.self.inside.residuals.items;
-      artificial = c.self.inside.artificial.items;
-      table = c.self.inside.table;
-      pivots = c.self.inside.pivots.number;
-    } in
-    view_basis l c.args.self.now c.self.view_is c.self.invariant
+    view_basis _ c.args.self.now c.self.view_is c.self.invariant

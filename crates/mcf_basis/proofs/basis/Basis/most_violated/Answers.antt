@@ -1,6 +1,5 @@
 use Rattle.std.proofs.Common.{◌≡◌, ◌+◌, ◌≤◌, None, ap, arith, length, subst}
 use Rattle.mcf_flows.specs.Network.{Network}
-use Rattle.mcf_basis.specs.Private.Layouts.{Layout}
 use Rattle.mcf_basis.specs.Violations.{IsMostViolated, IsMostViolatedPick}
 use Rattle.mcf_basis.proofs.MostViolated.{can_compare_in, most_violated_none, most_violated_some}
 use Rattle.mcf_basis.proofs.Views.{view_net}
@@ -8,53 +7,26 @@ use Rattle.mcf_basis.proofs.basis.Basis.most_violated.Goals as goal
 
 pub least_offer-requires : goal.least_offer-requires
 least_offer-requires c =
-    let l : Layout = record {
-      net = c.self.inside.net.now;
-      tree = c.self.inside.tree;
-      offers = c.self.inside.offers.items;
-      residuals = c.self.inside.residuals.items;
-      artificial = c.self.inside.artificial.items;
-      table = c.self.inside.table;
-      pivots = c.self.inside.pivots.number;
-    } in
-    let arcs : length l.net.arcs ≡ length c.args.self.now.net.arcs =
-    ap (λ (g : Network). length g.arcs) (view_net l c.args.self.now c.self.view_is) in
-    let high : c.args.end ≤ length l.net.arcs + 1 = omega (arith, arcs, c.requires.high) in
-    rw c.deref.ensures.value (can_compare_in l c.self.invariant c.args.first c.args.end c.requires.low c.requires.order high)
+    let arcs : length c.self.inside.net.now.arcs ≡ length c.args.self.now.net.arcs =
+    ap (λ (g : Network). length g.arcs) (view_net _ c.args.self.now c.self.view_is) in
+    let high : c.args.end ≤ length c.self.inside.net.now.arcs + 1 = omega (arith, arcs, c.requires.high) in
+    rw c.deref.ensures.value (can_compare_in _ c.self.invariant c.args.first c.args.end c.requires.low c.requires.order high)
 
 pub returns-in_err-place-clause-value : goal.returns-in_err-place-clause-value
 returns-in_err-place-clause-value c =
-    let l : Layout = record {
-      net = c.self.inside.net.now;
-      tree = c.self.inside.tree;
-      offers = c.self.inside.offers.items;
-      residuals = c.self.inside.residuals.items;
-      artificial = c.self.inside.artificial.items;
-      table = c.self.inside.table;
-      pivots = c.self.inside.pivots.number;
-    } in
-    let arcs : length l.net.arcs ≡ length c.args.self.now.net.arcs =
-    ap (λ (g : Network). length g.arcs) (view_net l c.args.self.now c.self.view_is) in
-    let high : c.args.end ≤ length l.net.arcs + 1 = omega (arith, arcs, c.requires.high) in
+    let arcs : length c.self.inside.net.now.arcs ≡ length c.args.self.now.net.arcs =
+    ap (λ (g : Network). length g.arcs) (view_net _ c.args.self.now c.self.view_is) in
+    let high : c.args.end ≤ length c.self.inside.net.now.arcs + 1 = omega (arith, arcs, c.requires.high) in
     let none = rw c.deref.ensures.value at c.in_err-place.ensures in
     rw c.from_residual.ensures (subst (λ b. IsMostViolatedPick b c.args.first c.args.end None) c.self.view_is
-    (most_violated_none l c.self.invariant c.args.first c.args.end c.requires.low c.requires.order high none))
+    (most_violated_none _ c.self.invariant c.args.first c.args.end c.requires.low c.requires.order high none))
 
 pub returns-clause-value : goal.returns-clause-value
 returns-clause-value c =
-    let l : Layout = record {
-      net = c.self.inside.net.now;
-      tree = c.self.inside.tree;
-      offers = c.self.inside.offers.items;
-      residuals = c.self.inside.residuals.items;
-      artificial = c.self.inside.artificial.items;
-      table = c.self.inside.table;
-      pivots = c.self.inside.pivots.number;
-    } in
-    let arcs : length l.net.arcs ≡ length c.args.self.now.net.arcs =
-    ap (λ (g : Network). length g.arcs) (view_net l c.args.self.now c.self.view_is) in
-    let high : c.args.end ≤ length l.net.arcs + 1 = omega (arith, arcs, c.requires.high) in
+    let arcs : length c.self.inside.net.now.arcs ≡ length c.args.self.now.net.arcs =
+    ap (λ (g : Network). length g.arcs) (view_net _ c.args.self.now c.self.view_is) in
+    let high : c.args.end ≤ length c.self.inside.net.now.arcs + 1 = omega (arith, arcs, c.requires.high) in
     let k = c.in_ok-place.place in
     let found = rw c.deref.ensures.value at c.in_ok-place.ensures in
     rw c.at.ensures (subst (λ b. IsMostViolated b c.args.first c.args.end (k + 1)) c.self.view_is
-    (most_violated_some l c.self.invariant c.args.first c.args.end c.requires.low c.requires.order high k found))
+    (most_violated_some _ c.self.invariant c.args.first c.args.end c.requires.low c.requires.order high k found))

@@ -2,7 +2,6 @@ use Rattle.std.proofs.Common.{◌≡◌, neg_ℤ, ◌<◌, length, arith, pos, �
 use mir.Syntax.{w128}
 use Rattle.std.proofs.lemmas.Int.{to_z-of_z}
 use Rattle.mcf_basis.specs.Pivots.{IsEligible}
-use Rattle.mcf_basis.specs.Private.Climbs.{laid}
 use Rattle.mcf_basis.specs.Violations.{violation}
 use Rattle.mcf_basis.proofs.Offers.{offer_in_range, offer_read}
 use Rattle.mcf_basis.proofs.basis.Basis.offered.Goals as goal
@@ -10,31 +9,24 @@ use Rattle.mcf_basis.proofs.basis.Basis.offered.Goals as goal
 pub index-requires : goal.index-requires
 index-requires c =
     let inside = c.self.inside in
-    let l = laid inside.net.now inside.tree inside.offers.items inside.residuals.items inside.artificial.items inside.table inside.pivots.number in
     let h : c.place.result < length inside.offers.items =
-    offer_in_range l c.args.self.now c.args.k c.place.result c.self.view_is c.self.invariant c.requires c.place.ensures in
+    offer_in_range _ c.args.self.now c.args.k c.place.result c.self.view_is c.self.invariant c.requires c.place.ensures in
     let size = inside.offers.ok.0 in
     omega (arith, h, size)
 
 pub reduced-requires : goal.reduced-requires
 reduced-requires c =
-    let inside = c.self.inside in
-    let l = laid inside.net.now inside.tree inside.offers.items inside.residuals.items inside.artificial.items inside.table inside.pivots.number in
-    let o = offer_read l c.args.self.now c.args.k c.place.result c.index.result.now c.self.view_is c.self.invariant c.requires c.place.ensures c.index.ensures in
+    let o = offer_read _ c.args.self.now c.args.k c.place.result c.index.result.now c.self.view_is c.self.invariant c.requires c.place.ensures c.index.ensures in
     o.can
 
 pub returns-clause-eligible : goal.returns-clause-eligible
 returns-clause-eligible c =
-    let inside = c.self.inside in
-    let l = laid inside.net.now inside.tree inside.offers.items inside.residuals.items inside.artificial.items inside.table inside.pivots.number in
-    let o = offer_read l c.args.self.now c.args.k c.place.result c.index.result.now c.self.view_is c.self.invariant c.requires c.place.ensures c.index.ensures in
+    let o = offer_read _ c.args.self.now c.args.k c.place.result c.index.result.now c.self.view_is c.self.invariant c.requires c.place.ensures c.index.ensures in
     let back : to_z w128 (of_z w128 c.reduced.result) ≡ c.reduced.result = search (rules, to_z-of_z) in
     subst (λ z. (z <ℤ pos 0) ↔ IsEligible c.args.self.now c.args.k) (sym (back ∙ c.reduced.ensures.value)) o.eligible
 
 pub returns-clause-violation : goal.returns-clause-violation
 returns-clause-violation c =
-    let inside = c.self.inside in
-    let l = laid inside.net.now inside.tree inside.offers.items inside.residuals.items inside.artificial.items inside.table inside.pivots.number in
-    let o = offer_read l c.args.self.now c.args.k c.place.result c.index.result.now c.self.view_is c.self.invariant c.requires c.place.ensures c.index.ensures in
+    let o = offer_read _ c.args.self.now c.args.k c.place.result c.index.result.now c.self.view_is c.self.invariant c.requires c.place.ensures c.index.ensures in
     let back : to_z w128 (of_z w128 c.reduced.result) ≡ c.reduced.result = search (rules, to_z-of_z) in
     subst (λ z. z <ℤ pos 0 → z ≡ neg_ℤ (pos (violation c.args.self.now c.args.k))) (sym (back ∙ c.reduced.ensures.value)) o.size

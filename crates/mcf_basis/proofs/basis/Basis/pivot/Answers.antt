@@ -1,4 +1,4 @@
-use Rattle.std.proofs.Common.{◌≡◌, ◌∙◌, ap, arith, length, rules, subst, sym, to_z, of_z}
+use Rattle.std.proofs.Common.{◌≡◌, ◌∙◌, ap, arith, length, rules, to_z, of_z}
 use Rattle.std.specs.Prelude.{unsigned_abs}
 use Rattle.std.specs.Vec.{with_items}
 use mir.Syntax.{w128}
@@ -9,103 +9,72 @@ use Rattle.mcf_network.specs.Residual.{arc_at}
 use Rattle.mcf_network.proofs.ArcLaws.{net_arc_at}
 use Rattle.mcf_basis.specs.declared.cycle.Cycle.{Cycle}
 use Rattle.mcf_basis.specs.declared.offer.ArcOffer.{ArcOffer}
-use Rattle.mcf_basis.specs.Pivots.{IsEligible}
 use Rattle.mcf_basis.specs.Private.Climbs.{laid}
-use Rattle.mcf_basis.specs.Private.Layouts.{basis_in}
 use Rattle.mcf_basis.specs.Steps.{moved_by}
-use Rattle.mcf_basis.proofs.Pivoted.{IsTurnedTo, cycle_found, from_in_tree, number, offer_read, push_ready, reduced_is, reduced_ready}
-use Rattle.mcf_basis.proofs.Pivoted.{replace_ready, residuals_sized, same_turned, to_in_tree, turned}
+use Rattle.mcf_basis.proofs.Pivoted.{IsTurnedTo, cycle_found, from_in_tree, number, push_ready, reduced_is, reduced_ready}
+use Rattle.mcf_basis.proofs.Pivoted.{replace_ready, residuals_sized, to_in_tree, turned}
 use Rattle.mcf_basis.proofs.basis.Basis.pivot.Goals as goal
 
 pub index-offer-requires : goal.index-offer-requires
 index-offer-requires c =
-    let inside = c.self.inside in
-    let l = laid inside.net.now inside.tree inside.offers.items inside.residuals.items inside.artificial.items inside.table inside.pivots.number in
-    let el = subst (λ b. IsEligible b c.args.k) (sym c.self.view_is) c.requires in
-    (let n = number l c.args.k c.self.invariant el in let size = c.self.invariant.offers_size in omega (arith, size, n, c.place.ensures))
+    let n = number _ _ c.args.k c.self.invariant c.self.view_is c.requires in
+    let size = c.self.invariant.offers_size in
+    omega (arith, size, n, c.place.ensures)
 
 pub reduced-reduced-requires : goal.reduced-reduced-requires
 reduced-reduced-requires c =
-    let inside = c.self.inside in
-    let l = laid inside.net.now inside.tree inside.offers.items inside.residuals.items inside.artificial.items inside.table inside.pivots.number in
-    let el = subst (λ b. IsEligible b c.args.k) (sym c.self.view_is) c.requires in
-    let o : ArcOffer = c.index-offer.result.now in
-    let is = offer_read l c.args.k c.self.invariant el o c.place.result c.place.ensures c.index-offer.ensures in
-    reduced_ready l c.args.k c.self.invariant el o is
+    reduced_ready _ _ c.args.k c.self.invariant c.self.view_is c.requires c.index-offer.result.now c.place.result c.place.ensures c.index-offer.ensures
 
 pub of-climb-requires-clause-sized : goal.of-climb-requires-clause-sized
 of-climb-requires-clause-sized c =
-    let inside = c.self.inside in
-    let l = laid inside.net.now inside.tree inside.offers.items inside.residuals.items inside.artificial.items inside.table inside.pivots.number in
-    let el = subst (λ b. IsEligible b c.args.k) (sym c.self.view_is) c.requires in
-    rw c.deref.ensures.value (residuals_sized l c.args.k c.self.invariant el)
+    rw c.deref.ensures.value (residuals_sized _ _ c.args.k c.self.invariant c.self.view_is c.requires)
 
 pub of-climb-requires-clause-left : goal.of-climb-requires-clause-left
 of-climb-requires-clause-left c =
-    let inside = c.self.inside in
-    let l = laid inside.net.now inside.tree inside.offers.items inside.residuals.items inside.artificial.items inside.table inside.pivots.number in
-    let el = subst (λ b. IsEligible b c.args.k) (sym c.self.view_is) c.requires in
-    let o : ArcOffer = c.index-offer.result.now in
-    let is = offer_read l c.args.k c.self.invariant el o c.place.result c.place.ensures c.index-offer.ensures in
-    from_in_tree l c.args.k c.self.invariant el o is
+    from_in_tree _ _ c.args.k c.self.invariant c.self.view_is c.requires c.index-offer.result.now c.place.result c.place.ensures c.index-offer.ensures
 
 pub of-climb-requires-clause-right : goal.of-climb-requires-clause-right
 of-climb-requires-clause-right c =
-    let inside = c.self.inside in
-    let l = laid inside.net.now inside.tree inside.offers.items inside.residuals.items inside.artificial.items inside.table inside.pivots.number in
-    let el = subst (λ b. IsEligible b c.args.k) (sym c.self.view_is) c.requires in
-    let o : ArcOffer = c.index-offer.result.now in
-    let is = offer_read l c.args.k c.self.invariant el o c.place.result c.place.ensures c.index-offer.ensures in
-    to_in_tree l c.args.k c.self.invariant el o is
+    to_in_tree _ _ c.args.k c.self.invariant c.self.view_is c.requires c.index-offer.result.now c.place.result c.place.ensures c.index-offer.ensures
 
 pub width-requires : goal.width-requires
-width-requires c =
-    let inside = c.self.inside in
-    let l = laid inside.net.now inside.tree inside.offers.items inside.residuals.items inside.artificial.items inside.table inside.pivots.number in
-    let el = subst (λ b. IsEligible b c.args.k) (sym c.self.view_is) c.requires in
-    number l c.args.k c.self.invariant el
+width-requires c = number _ _ c.args.k c.self.invariant c.self.view_is c.requires
 
 pub overflow_cast-width : goal.overflow_cast-width
 overflow_cast-width c =
-    let inside = c.self.inside in
-    let l = laid inside.net.now inside.tree inside.offers.items inside.residuals.items inside.artificial.items inside.table inside.pivots.number in
-    let el = subst (λ b. IsEligible b c.args.k) (sym c.self.view_is) c.requires in
+    let g = c.self.inside.net.now in
     let width : to_z w128 (of_z w128 c.width.result) ≡ c.width.result = search (rules, to_z-of_z) in
-    let arc : IsNetArc (arc_at inside.net.now c.args.k) = net_arc_at inside.net.now c.args.k c.width.ensures.of_net (number l c.args.k c.self.invariant el) in
+    let arc : IsNetArc (arc_at g c.args.k) =
+    net_arc_at g c.args.k c.width.ensures.of_net (number _ _ c.args.k c.self.invariant c.self.view_is c.requires) in
     let low = arc.width_low in
     let high = arc.width_high in
     rw (width, c.width.ensures.value) (search (rules, low, high))
 
 pub push-requires : goal.push-requires
 push-requires c =
-    let inside = c.self.inside in
-    let l = laid inside.net.now inside.tree inside.offers.items inside.residuals.items inside.artificial.items inside.table inside.pivots.number in
-    let el = subst (λ b. IsEligible b c.args.k) (sym c.self.view_is) c.requires in
     let o : ArcOffer = c.index-offer.result.now in
-    let is = offer_read l c.args.k c.self.invariant el o c.place.result c.place.ensures c.index-offer.ensures in
     let f : Cycle = c.cycle-cycle.result in
     let width : to_z w128 (of_z w128 c.width.result) ≡ c.width.result = search (rules, to_z-of_z) in
-    let round = cycle_found l c.args.k c.self.invariant el o f c.of-climb.result c.deref.result.now (unsigned_abs (to_z w128 (of_z w128 c.width.result)))
-    is c.deref.ensures.value (ap unsigned_abs (width ∙ c.width.ensures.value)) c.of-climb.ensures.value c.cycle-cycle.ensures.arc
+    let round = cycle_found _ _ c.args.k c.self.invariant c.self.view_is c.requires o c.place.result c.place.ensures c.index-offer.ensures
+    f c.of-climb.result c.deref.result.now (unsigned_abs (to_z w128 (of_z w128 c.width.result)))
+    c.deref.ensures.value (ap unsigned_abs (width ∙ c.width.ensures.value)) c.of-climb.ensures.value c.cycle-cycle.ensures.arc
     c.cycle-cycle.ensures.from c.cycle-cycle.ensures.to c.cycle-cycle.ensures.apex c.cycle-cycle.ensures.chosen in
-    rw (c.deref_mut.ensures.value, c.deref_mut-2.ensures.value) (push_ready l c.args.k c.self.invariant el f round)
+    rw (c.deref_mut.ensures.value, c.deref_mut-2.ensures.value) (push_ready _ _ c.args.k c.self.invariant c.self.view_is c.requires f round)
 
 pub replace-requires : goal.replace-requires
 replace-requires c =
-    let inside = c.self.inside in
-    let l = laid inside.net.now inside.tree inside.offers.items inside.residuals.items inside.artificial.items inside.table inside.pivots.number in
-    let el = subst (λ b. IsEligible b c.args.k) (sym c.self.view_is) c.requires in
     let o : ArcOffer = c.index-offer.result.now in
-    let is = offer_read l c.args.k c.self.invariant el o c.place.result c.place.ensures c.index-offer.ensures in
     let f : Cycle = c.cycle-cycle.result in
     let width : to_z w128 (of_z w128 c.width.result) ≡ c.width.result = search (rules, to_z-of_z) in
-    let round = cycle_found l c.args.k c.self.invariant el o f c.of-climb.result c.deref.result.now (unsigned_abs (to_z w128 (of_z w128 c.width.result)))
-    is c.deref.ensures.value (ap unsigned_abs (width ∙ c.width.ensures.value)) c.of-climb.ensures.value c.cycle-cycle.ensures.arc
+    let round = cycle_found _ _ c.args.k c.self.invariant c.self.view_is c.requires o c.place.result c.place.ensures c.index-offer.ensures
+    f c.of-climb.result c.deref.result.now (unsigned_abs (to_z w128 (of_z w128 c.width.result)))
+    c.deref.ensures.value (ap unsigned_abs (width ∙ c.width.ensures.value)) c.of-climb.ensures.value c.cycle-cycle.ensures.arc
     c.cycle-cycle.ensures.from c.cycle-cycle.ensures.to c.cycle-cycle.ensures.apex c.cycle-cycle.ensures.chosen in
     let back : to_z w128 (of_z w128 c.reduced-reduced.result) ≡ c.reduced-reduced.result = search (rules, to_z-of_z) in
-    let reduced = c.cycle-cycle.ensures.reduced ∙ (back ∙ (c.reduced-reduced.ensures.value ∙ reduced_is l c.args.k c.self.invariant el o is)) in
-    let pushed = c.deref_mut-4.ensures.value ∙ with_items_is inside.residuals c.push.new.residuals (search rules) in
-    rw (c.deref_mut-3.ensures.value, pushed) (replace_ready l c.args.k c.self.invariant el f round c.push.new.residuals
+    let reduced = c.cycle-cycle.ensures.reduced ∙ (back ∙ (c.reduced-reduced.ensures.value
+    ∙ reduced_is _ _ c.args.k c.self.invariant c.self.view_is c.requires o c.place.result c.place.ensures c.index-offer.ensures)) in
+    let pushed = c.deref_mut-4.ensures.value ∙ with_items_is c.self.inside.residuals c.push.new.residuals (search rules) in
+    rw (c.deref_mut-3.ensures.value, pushed) (replace_ready _ _ c.args.k c.self.invariant c.self.view_is c.requires f round c.push.new.residuals
     (c.push.ensures.residuals_size ∙ ap length c.deref_mut.ensures.value) reduced)
 
 -- the pivot, as it was done
@@ -116,27 +85,24 @@ done : (c : goal.After-step_of) → IsTurnedTo c.args.self.now
     c.args.k (moved_by c.step_of.result)
 done c =
     let inside = c.self.inside in
-    let l = laid inside.net.now inside.tree inside.offers.items inside.residuals.items inside.artificial.items inside.table inside.pivots.number in
-    let el = subst (λ b. IsEligible b c.args.k) (sym c.self.view_is) c.requires in
     let o : ArcOffer = c.index-offer.result.now in
-    let is = offer_read l c.args.k c.self.invariant el o c.place.result c.place.ensures c.index-offer.ensures in
     let f : Cycle = c.cycle-cycle.result in
     let width : to_z w128 (of_z w128 c.width.result) ≡ c.width.result = search (rules, to_z-of_z) in
-    let round = cycle_found l c.args.k c.self.invariant el o f c.of-climb.result c.deref.result.now (unsigned_abs (to_z w128 (of_z w128 c.width.result)))
-    is c.deref.ensures.value (ap unsigned_abs (width ∙ c.width.ensures.value)) c.of-climb.ensures.value c.cycle-cycle.ensures.arc
+    let round = cycle_found _ _ c.args.k c.self.invariant c.self.view_is c.requires o c.place.result c.place.ensures c.index-offer.ensures
+    f c.of-climb.result c.deref.result.now (unsigned_abs (to_z w128 (of_z w128 c.width.result)))
+    c.deref.ensures.value (ap unsigned_abs (width ∙ c.width.ensures.value)) c.of-climb.ensures.value c.cycle-cycle.ensures.arc
     c.cycle-cycle.ensures.from c.cycle-cycle.ensures.to c.cycle-cycle.ensures.apex c.cycle-cycle.ensures.chosen in
     let back : to_z w128 (of_z w128 c.reduced-reduced.result) ≡ c.reduced-reduced.result = search (rules, to_z-of_z) in
-    let reduced = c.cycle-cycle.ensures.reduced ∙ (back ∙ (c.reduced-reduced.ensures.value ∙ reduced_is l c.args.k c.self.invariant el o is)) in
+    let reduced = c.cycle-cycle.ensures.reduced ∙ (back ∙ (c.reduced-reduced.ensures.value
+    ∙ reduced_is _ _ c.args.k c.self.invariant c.self.view_is c.requires o c.place.result c.place.ensures c.index-offer.ensures)) in
     let pushed = c.deref_mut-4.ensures.value ∙ with_items_is inside.residuals c.push.new.residuals (search rules) in
     let new = c.replace.new in
-    let turn = turned l c.args.k c.self.invariant el f round new.tree new.offers c.push.new.residuals new.residuals c.push.new.artificial new.table
-    c.add_one.new.self.number c.add_one.ensures reduced (rw (c.deref_mut.ensures.value, c.deref_mut-2.ensures.value) at c.push.ensures)
-    (rw (c.deref_mut-3.ensures.value, pushed) at c.replace.ensures) in
     let offers = with_items_is inside.offers new.offers (search rules) in
     let residuals = with_items_is (with_items inside.residuals c.push.new.residuals) new.residuals (search rules) in
     let artificial = with_items_is inside.artificial c.push.new.artificial (search rules) in
-    same_turned (basis_in l) c.args.self.now _ _ new.offers _ new.residuals _ c.push.new.artificial _ _ _ c.args.k _ _
-    c.self.view_is offers residuals artificial c.step_of.ensures.value turn
+    rw (offers, residuals, artificial, c.step_of.ensures.value) (turned _ _ c.args.k c.self.invariant c.self.view_is c.requires f round new.tree new.offers
+    c.push.new.residuals new.residuals c.push.new.artificial new.table c.add_one.new.self.number c.add_one.ensures reduced
+    (rw (c.deref_mut.ensures.value, c.deref_mut-2.ensures.value) at c.push.ensures) (rw (c.deref_mut-3.ensures.value, pushed) at c.replace.ensures))
 
 pub invariant_of-self : goal.invariant_of-self
 invariant_of-self c = (done c).laid_out

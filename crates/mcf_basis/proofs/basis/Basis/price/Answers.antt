@@ -1,35 +1,16 @@
 use Rattle.std.proofs.Common.{◌≡◌, get_or, ap, ◌∙◌, arith, pos}
 use Rattle.std.proofs.lemmas.Int.{ints}
-use Rattle.mcf_basis.specs.Private.Layouts.{Layout}
 use Rattle.mcf_basis.proofs.Views.{read_price}
 use Rattle.mcf_basis.proofs.basis.Basis.price.Goals as goal
 
 pub get-requires-2 : goal.get-requires-2
 get-requires-2 c =
-    let l : Layout = record {
-      net = c.self.inside.net.now;
-      tree = c.self.inside.tree;
-      offers = c.self.inside.offers.items;
-      residuals = c.self.inside.residuals.items;
-      artificial = c.self.inside.artificial.items;
-      table = c.self.inside.table;
-      pivots = c.self.inside.pivots.number;
-    } in
-    let p = read_price l c.args.self.now c.args.v c.self.view_is c.self.invariant c.requires.1 in
+    let p = read_price _ c.args.self.now c.args.v c.self.view_is c.self.invariant c.requires.1 in
     rw c.get.ensures p.in_range
 
 pub returns-clause-value : goal.returns-clause-value
 returns-clause-value c =
-    let l : Layout = record {
-      net = c.self.inside.net.now;
-      tree = c.self.inside.tree;
-      offers = c.self.inside.offers.items;
-      residuals = c.self.inside.residuals.items;
-      artificial = c.self.inside.artificial.items;
-      table = c.self.inside.table;
-      pivots = c.self.inside.pivots.number;
-    } in
-    let p = read_price l c.args.self.now c.args.v c.self.view_is c.self.invariant c.requires.1 in
+    let p = read_price _ c.args.self.now c.args.v c.self.view_is c.self.invariant c.requires.1 in
     let e : c.get-2.result ≡ get_or c.self.inside.table.prices c.args.v (pos 0) =
     c.get-2.ensures ∙ ap (λ i. get_or c.self.inside.table.prices i (pos 0)) c.get.ensures in
     let value = p.value in
@@ -38,16 +19,7 @@ returns-clause-value c =
 
 pub returns-clause-small : goal.returns-clause-small
 returns-clause-small c =
-    let l : Layout = record {
-      net = c.self.inside.net.now;
-      tree = c.self.inside.tree;
-      offers = c.self.inside.offers.items;
-      residuals = c.self.inside.residuals.items;
-      artificial = c.self.inside.artificial.items;
-      table = c.self.inside.table;
-      pivots = c.self.inside.pivots.number;
-    } in
-    let p = read_price l c.args.self.now c.args.v c.self.view_is c.self.invariant c.requires.1 in
+    let p = read_price _ c.args.self.now c.args.v c.self.view_is c.self.invariant c.requires.1 in
     let e : c.get-2.result ≡ get_or c.self.inside.table.prices c.args.v (pos 0) =
     c.get-2.ensures ∙ ap (λ i. get_or c.self.inside.table.prices i (pos 0)) c.get.ensures in
     let value = p.value in

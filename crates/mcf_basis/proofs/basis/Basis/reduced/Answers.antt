@@ -1,85 +1,39 @@
 use Rattle.std.proofs.Common.{sym, arith, subst}
 use Rattle.std.proofs.lemmas.Int.{ints}
 use Rattle.mcf_flows.specs.Network.{Network, IsArcNumber, IsNode, node_count}
-use Rattle.mcf_basis.specs.Private.Layouts.{Layout}
 use Rattle.mcf_basis.proofs.Offers.{reduced_read}
 use Rattle.mcf_basis.proofs.Views.{view_net, view_basis}
 use Rattle.mcf_basis.proofs.basis.Basis.reduced.Goals as goal
 
 pub ends-src-requires : goal.ends-src-requires
 ends-src-requires c =
-    let l : Layout = record {
-      net = c.self.inside.net.now;
-      tree = c.self.inside.tree;
-      offers = c.self.inside.offers.items;
-      residuals = c.self.inside.residuals.items;
-      artificial = c.self.inside.artificial.items;
-      table = c.self.inside.table;
-      pivots = c.self.inside.pivots.number;
-    } in
-    let net = view_net l c.args.self.now c.self.view_is in
+    let net = view_net _ c.args.self.now c.self.view_is in
     subst (λ (g : Network). IsArcNumber g c.args.k) (sym net) c.requires
 
 pub price-requires : goal.price-requires
 price-requires c =
-    let l : Layout = record {
-      net = c.self.inside.net.now;
-      tree = c.self.inside.tree;
-      offers = c.self.inside.offers.items;
-      residuals = c.self.inside.residuals.items;
-      artificial = c.self.inside.artificial.items;
-      table = c.self.inside.table;
-      pivots = c.self.inside.pivots.number;
-    } in
-    let net = view_net l c.args.self.now c.self.view_is in
+    let net = view_net _ c.args.self.now c.self.view_is in
     subst (λ (g : Network). IsNode (node_count g) c.ends-src.result.0) net c.ends-src.ensures.src_is_node
 
 pub price-requires-2 : goal.price-requires-2
 price-requires-2 c =
-    let l : Layout = record {
-      net = c.self.inside.net.now;
-      tree = c.self.inside.tree;
-      offers = c.self.inside.offers.items;
-      residuals = c.self.inside.residuals.items;
-      artificial = c.self.inside.artificial.items;
-      table = c.self.inside.table;
-      pivots = c.self.inside.pivots.number;
-    } in
-    let net = view_net l c.args.self.now c.self.view_is in
+    let net = view_net _ c.args.self.now c.self.view_is in
     subst (λ (g : Network). IsNode (node_count g) c.ends-src.result.1) net c.ends-src.ensures.dst_is_node
 
 pub overflow_sub-result : goal.overflow_sub-result
 overflow_sub-result c =
-    let l : Layout = record {
-      net = c.self.inside.net.now;
-      tree = c.self.inside.tree;
-      offers = c.self.inside.offers.items;
-      residuals = c.self.inside.residuals.items;
-      artificial = c.self.inside.artificial.items;
-      table = c.self.inside.table;
-      pivots = c.self.inside.pivots.number;
-    } in
-    let net = view_net l c.args.self.now c.self.view_is in
+    let net = view_net _ c.args.self.now c.self.view_is in
     let r = reduced_read c.args.self.now c.self.inside.net.now c.args.k c.ends-src.result.0 c.ends-src.result.1 c.cost.result net
-    (view_basis l c.args.self.now c.self.view_is c.self.invariant) c.requires c.ends-src.ensures.src c.ends-src.ensures.dst c.cost.ensures.value in
+    (view_basis _ c.args.self.now c.self.view_is c.self.invariant) c.requires c.ends-src.ensures.src c.ends-src.ensures.dst c.cost.ensures.value in
     let cost = r.cost in
     let price = c.price.ensures.small in
     omega (arith, ints, cost, price)
 
 pub overflow_add-result : goal.overflow_add-result
 overflow_add-result c =
-    let l : Layout = record {
-      net = c.self.inside.net.now;
-      tree = c.self.inside.tree;
-      offers = c.self.inside.offers.items;
-      residuals = c.self.inside.residuals.items;
-      artificial = c.self.inside.artificial.items;
-      table = c.self.inside.table;
-      pivots = c.self.inside.pivots.number;
-    } in
-    let net = view_net l c.args.self.now c.self.view_is in
+    let net = view_net _ c.args.self.now c.self.view_is in
     let r = reduced_read c.args.self.now c.self.inside.net.now c.args.k c.ends-src.result.0 c.ends-src.result.1 c.cost.result net
-    (view_basis l c.args.self.now c.self.view_is c.self.invariant) c.requires c.ends-src.ensures.src c.ends-src.ensures.dst c.cost.ensures.value in
+    (view_basis _ c.args.self.now c.self.view_is c.self.invariant) c.requires c.ends-src.ensures.src c.ends-src.ensures.dst c.cost.ensures.value in
     let cost = r.cost in
     let price = c.price.ensures.small in
     let second = c.price-2.ensures.small in
@@ -87,18 +41,9 @@ overflow_add-result c =
 
 pub returns-clause-value : goal.returns-clause-value
 returns-clause-value c =
-    let l : Layout = record {
-      net = c.self.inside.net.now;
-      tree = c.self.inside.tree;
-      offers = c.self.inside.offers.items;
-      residuals = c.self.inside.residuals.items;
-      artificial = c.self.inside.artificial.items;
-      table = c.self.inside.table;
-      pivots = c.self.inside.pivots.number;
-    } in
-    let net = view_net l c.args.self.now c.self.view_is in
+    let net = view_net _ c.args.self.now c.self.view_is in
     let r = reduced_read c.args.self.now c.self.inside.net.now c.args.k c.ends-src.result.0 c.ends-src.result.1 c.cost.result net
-    (view_basis l c.args.self.now c.self.view_is c.self.invariant) c.requires c.ends-src.ensures.src c.ends-src.ensures.dst c.cost.ensures.value in
+    (view_basis _ c.args.self.now c.self.view_is c.self.invariant) c.requires c.ends-src.ensures.src c.ends-src.ensures.dst c.cost.ensures.value in
     let cost = r.cost in
     let price = c.price.ensures.small in
     let first_value = c.price.ensures.value in
@@ -109,18 +54,9 @@ returns-clause-value c =
 
 pub returns-clause-small : goal.returns-clause-small
 returns-clause-small c =
-    let l : Layout = record {
-      net = c.self.inside.net.now;
-      tree = c.self.inside.tree;
-      offers = c.self.inside.offers.items;
-      residuals = c.self.inside.residuals.items;
-      artificial = c.self.inside.artificial.items;
-      table = c.self.inside.table;
-      pivots = c.self.inside.pivots.number;
-    } in
-    let net = view_net l c.args.self.now c.self.view_is in
+    let net = view_net _ c.args.self.now c.self.view_is in
     let r = reduced_read c.args.self.now c.self.inside.net.now c.args.k c.ends-src.result.0 c.ends-src.result.1 c.cost.result net
-    (view_basis l c.args.self.now c.self.view_is c.self.invariant) c.requires c.ends-src.ensures.src c.ends-src.ensures.dst c.cost.ensures.value in
+    (view_basis _ c.args.self.now c.self.view_is c.self.invariant) c.requires c.ends-src.ensures.src c.ends-src.ensures.dst c.cost.ensures.value in
     let cost = r.cost in
     let price = c.price.ensures.small in
     let second = c.price-2.ensures.small in

@@ -1,82 +1,35 @@
 use Rattle.std.proofs.Common.{sym, ◌∙◌}
-use Rattle.mcf_basis.specs.Private.Layouts.{Layout}
-use Rattle.mcf_basis.proofs.Endings.{IsWritten, can_be_written, flow_written}
+use Rattle.mcf_basis.proofs.Endings.{can_be_written, flow_written}
 use Rattle.mcf_basis.proofs.Views.{view_net}
 use Rattle.mcf_basis.proofs.basis.Basis.write_flow.Goals as goal
 
 pub write_outside-requires-clause-net : goal.write_outside-requires-clause-net
 write_outside-requires-clause-net c =
-    let l : Layout = record {
-      net = c.self.inside.net.now;
-      tree = c.self.inside.tree;
-      offers = c.self.inside.offers.items;
-      residuals = c.self.inside.residuals.items;
-      artificial = c.self.inside.artificial.items;
-      table = c.self.inside.table;
-      pivots = c.self.inside.pivots.number;
-    } in
-    c.requires ∙ sym (view_net l c.args.self.now c.self.view_is)
+    c.requires ∙ sym (view_net _ _ c.self.view_is)
 
 pub write_tree-requires-clause-size : goal.write_tree-requires-clause-size
 write_tree-requires-clause-size c =
-    let l : Layout = record {
-      net = c.self.inside.net.now;
-      tree = c.self.inside.tree;
-      offers = c.self.inside.offers.items;
-      residuals = c.self.inside.residuals.items;
-      artificial = c.self.inside.artificial.items;
-      table = c.self.inside.table;
-      pivots = c.self.inside.pivots.number;
-    } in
-    (can_be_written l c.self.invariant).size
+    (can_be_written _ c.self.invariant).size
 
 pub write_tree-requires-clause-low : goal.write_tree-requires-clause-low
 write_tree-requires-clause-low c =
-    let l : Layout = record {
-      net = c.self.inside.net.now;
-      tree = c.self.inside.tree;
-      offers = c.self.inside.offers.items;
-      residuals = c.self.inside.residuals.items;
-      artificial = c.self.inside.artificial.items;
-      table = c.self.inside.table;
-      pivots = c.self.inside.pivots.number;
-    } in
-    (can_be_written l c.self.invariant).low
+    (can_be_written _ c.self.invariant).low
 
 pub write_tree-requires-clause-apart : goal.write_tree-requires-clause-apart
 write_tree-requires-clause-apart c =
-    let l : Layout = record {
-      net = c.self.inside.net.now;
-      tree = c.self.inside.tree;
-      offers = c.self.inside.offers.items;
-      residuals = c.self.inside.residuals.items;
-      artificial = c.self.inside.artificial.items;
-      table = c.self.inside.table;
-      pivots = c.self.inside.pivots.number;
-    } in
-    (can_be_written l c.self.invariant).apart
+    (can_be_written _ c.self.invariant).apart
 
 pub returns-clause-value : goal.returns-clause-value
 returns-clause-value c =
-    let l : Layout = record {
-      net = c.self.inside.net.now;
-      tree = c.self.inside.tree;
-      offers = c.self.inside.offers.items;
-      residuals = c.self.inside.residuals.items;
-      artificial = c.self.inside.artificial.items;
-      table = c.self.inside.table;
-      pivots = c.self.inside.pivots.number;
-    } in
     let outside = rw c.deref.ensures.value at c.write_outside.ensures.each in
     let inside = rw c.deref-2.ensures.value at c.write_tree.ensures.inside in
-    let written : IsWritten l c.write_outside.new.state c.write_tree.new.state = record {
+    flow_written _ _ c.write_outside.new.state c.write_tree.new.state c.self.view_is c.self.invariant (record {
       flow = c.write_tree.ensures.valid;
       net = c.write_tree.ensures.net;
       outside = outside;
       inside = inside;
       others = c.write_tree.ensures.outside;
-    } in
-    flow_written l c.args.self.now c.write_outside.new.state c.write_tree.new.state c.self.view_is c.self.invariant written
+    })
 
 pub returns-clause-valid : goal.returns-clause-valid
 returns-clause-valid c = c.write_tree.ensures.valid
