@@ -43,19 +43,16 @@ module _ (gap priced : ℕ) (stored : List ℤ) (offers : List ArcOffer) (begin 
     order = can.compared.order;
     high = can.compared.high;
     ends = ends_of;
-    small = λ v h. (let n = sizes in let small = can.compared.small v (omega (arith, n, h)) in
+    small = λ v h. (let small = can.compared.small v (omega (arith, sizes, h)) in
         stored_fits narrow_limit gap (get_or stored v (pos 0)) (subst (IsUpTo (narrow_limit + gap)) (price_read gap stored v) small));
   }
 
   shown_by : (o : ArcOffer) → HasPricedEnds (length stored) o → HasOwnEnds o → reduced_by (map (price_by gap) stored) o ≡ change_by gap (reduced_by stored o)
   shown_by o ends (nodes from to) =
-      let n = sizes in
-      let a = ends.from in
-      let b = ends.to in
       let p : IsSpread gap (price_by gap (get_or stored o.from (pos 0))) =
-      subst (IsSpread gap) (price_read gap stored o.from) (can.spread o.from from (omega (arith, n, a))) in
+      subst (IsSpread gap) (price_read gap stored o.from) (can.spread o.from from (omega (arith, sizes, ends.from))) in
       let q : IsSpread gap (price_by gap (get_or stored o.to (pos 0))) =
-      subst (IsSpread gap) (price_read gap stored o.to) (can.spread o.to to (omega (arith, n, b))) in
+      subst (IsSpread gap) (price_read gap stored o.to) (can.spread o.to to (omega (arith, sizes, ends.to))) in
       ap (λ z. o.cost -ℤ z +ℤ get_or (map (price_by gap) stored) o.to (pos 0)) (price_read gap stored o.from)
       ∙ (ap (λ z. o.cost -ℤ price_by gap (get_or stored o.from (pos 0)) +ℤ z) (price_read gap stored o.to)
       ∙ reduced_shown gap o.cost (get_or stored o.from (pos 0)) (get_or stored o.to (pos 0)) ends.cost p q)
@@ -81,7 +78,7 @@ module _ (gap priced : ℕ) (stored : List ℤ) (offers : List ArcOffer) (begin 
         least = λ j from to. (let there = shown j from to in
             let le = moved_most stand_in (2 * gap) (reduced_of stored offers i) (reduced_of stored offers j) (found.least j from to) in
             omega (arith, ints, here, there, le));
-        first = λ j from to. (let top = found.high in let there = shown j from (omega (arith, to, top)) in
+        first = λ j from to. (let there = shown j from (omega (arith, to, found.high)) in
             let lt = moved_less stand_in (2 * gap) (reduced_of stored offers i) (reduced_of stored offers j) (found.first j from to) in
             omega (arith, ints, here, there, lt));
       }

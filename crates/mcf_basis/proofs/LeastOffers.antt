@@ -29,13 +29,12 @@ module _ (value : ℕ → ℤ) (begin i place : ℕ) (least : ℤ) (in_order : b
   -- a value that is less takes over
   pub so_far-less : (now : ℤ) → now ≡ value i → now <ℤ least → IsLeastSoFar value begin (i + 1) i now
   so_far-less now is lt =
-      let zero = low in
       record {
         each = λ j from to. elim (cases_eq j i) [
           | inl e ↦ (let same : value j ≡ value i = ap value e in omega (arith, ints, same, is))
           | inr ne ↦ (let h = so.each j from (omega (arith, to, ne)) in omega (arith, ints, h, lt))
         ];
-        first = met in_order (omega arith) (omega (arith, ints, is)) (omega (arith, ints, lt, zero))
+        first = met in_order (omega arith) (omega (arith, ints, is)) (omega (arith, ints, lt, low))
             (λ j from to. (let h = so.each j from to in omega (arith, ints, h, lt)));
       }
 
@@ -67,10 +66,9 @@ pub record IsReadAt (prices : List ℤ) (limit : ℕ) (offers : List ArcOffer) (
 pub read_at : (prices : List ℤ) (limit : ℕ) (offers : List ArcOffer) (begin end i : ℕ) → CanCompare prices limit offers begin end
     → begin ≤ i → i < end → IsReadAt prices limit offers i
 read_at prices limit offers begin end i can low high =
-    let far = can.high in
     let ends = can.ends i low high in
     record {
-      in_range = omega (arith, far, high);
+      in_range = omega (arith, can.high, high);
       ends = ends;
       from_small = can.small (get_or offers i no_offer).from ends.from;
       to_small = can.small (get_or offers i no_offer).to ends.to;

@@ -40,11 +40,10 @@ module _ (l : Layout) (ok : IsLaidOut l) where
     can_compare : CanCompare l.table.prices l.table.limit l.offers (first - 1) (end - 1)
     unfolding basis_in
     can_compare =
-        let size = ok.offers_size in
         let count : length l.table.prices ≡ node_count l.net + 1 = ok.basis.prices.one_per_node in
         record {
           order = omega arith;
-          high = omega (arith, size);
+          high = omega (arith, ok.offers_size);
           ends = λ i from to. (let back : i + 1 - 1 ≡ i = omega arith in
               subst (λ j. HasPricedEnds (length l.table.prices) (get_or l.offers j no_offer)) back (placed (i + 1) (omega arith, omega (arith, to))).ends);
           small = λ v h. price_fits l ok v (omega (arith, h, count));
@@ -64,18 +63,16 @@ module _ (l : Layout) (ok : IsLaidOut l) where
 
     pub most_violated_some : (i : ℕ) → IsFirstLeast l.table.prices l.offers (first - 1) (end - 1) i → IsMostViolated (basis_in l) first end (i + 1)
     most_violated_some i found =
-        let from = found.low in
-        let to = found.high in
-        let here = at_place i (omega arith, omega (arith, to)) in
+        let here = at_place i (omega arith, omega (arith, found.high)) in
         let el : IsEligible (basis_in l) (i + 1) = here.eligible found.gains in
         let size = here.size el in
         record {
-          low = omega (arith, from);
-          high = omega (arith, to);
+          low = omega (arith, found.low);
+          high = omega (arith, found.high);
           eligible = el;
           greatest = λ j above below other. (let there = (placed j (omega arith, omega arith)).size other in
               let le = found.least (j - 1) (omega arith) (omega arith) in omega (arith, ints, size, there, le));
-          first_one = λ j above below other. (let there = (placed j (omega arith, omega (arith, below, to))).size other in
+          first_one = λ j above below other. (let there = (placed j (omega arith, omega (arith, below, found.high))).size other in
               let lt = found.first (j - 1) (omega arith) (omega arith) in omega (arith, ints, size, there, lt));
         }
 

@@ -5,7 +5,7 @@ use Rattle.std.proofs.lemmas.Int.{ints}
 use Rattle.std.proofs.lemmas.Bool.{cond-true, cond-false, ne_eqb, eq-eqb}
 use Rattle.std.proofs.lemmas.List.{get_or_read}
 use Rattle.mcf_flows.specs.Limits.{limits}
-use Rattle.mcf_flows.specs.Network.{Network, IsArcNumber, node_count}
+use Rattle.mcf_flows.specs.Network.{IsArcNumber, node_count}
 use Rattle.mcf_flows.specs.WellFormed.{IsUpTo, HasEnds}
 use Rattle.mcf_network.specs.Nets.{IsNetArc}
 use Rattle.mcf_network.specs.Residual.{arc_at}
@@ -83,7 +83,7 @@ module _ (l : Layout) (k : ℕ) (ok : IsLaidOut l) (h : IsArcNumber l.net k) whe
     to = omega arith;
     cost = (omega (arith, ints), omega (arith, ints));
     eligible = λ neg. absurd (omega (arith, ints));
-    only = λ el. absurd (let w = el.wide in omega (arith, ints, cap, w));
+    only = λ el. absurd (omega (arith, ints, cap, el.wide));
     size = λ neg. absurd (omega (arith, ints));
   })
 
@@ -102,7 +102,7 @@ module _ (l : Layout) (k : ℕ) (ok : IsLaidOut l) (h : IsArcNumber l.net k) whe
             record { arc = h; outside = out; wide = wide; gains = inl (empty e out, low) });
         only = λ el. elim el.gains [
           | inl g ↦ (rw r at g.1)
-          | inr g ↦ absurd (let z = empty e el.outside in let f = g.0 in omega (arith, ints, z, f, wide))
+          | inr g ↦ absurd (let z = empty e el.outside in omega (arith, ints, z, g.0, wide))
         ];
         size = λ neg. (let low : reduced_at (basis_in l) k <ℤ pos 0 = rw r neg in sym r ∙ below_size (reduced_at (basis_in l) k) low);
       })
@@ -121,8 +121,8 @@ module _ (l : Layout) (k : ℕ) (ok : IsLaidOut l) (h : IsArcNumber l.net k) whe
             let out : ¬ IsInTree (basis_in l) k = not_in_tree (basis_in l) k ok.basis (λ z. omega (arith, ints)) in
             record { arc = h; outside = out; wide = wide; gains = inr (full e wide out, high) });
         only = λ el. elim el.gains [
-          | inl g ↦ absurd (let f = full e wide el.outside in let z = g.0 in omega (arith, ints, z, f, wide))
-          | inr g ↦ (let high = g.1 in omega (arith, ints, r, high))
+          | inl g ↦ absurd (let f = full e wide el.outside in omega (arith, ints, g.0, f, wide))
+          | inr g ↦ omega (arith, ints, r, g.1)
         ];
         size = λ neg. above_size (reduced_at (basis_in l) k) _ (omega (arith, ints, r, neg)) (omega (arith, ints, r));
       })
@@ -186,15 +186,11 @@ pub record IsReadReduced (b : TreeStructure) (k src dst : ℕ) (c : ℤ) : Type 
   pub cost : IsUpTo limits.cost c
   pub value : reduced_at b k ≡ c -ℤ price_at b src +ℤ price_at b dst
 
-pub reduced_read : (b : TreeStructure) (g : Network) (k src dst : ℕ) (c : ℤ) → g ≡ b.net → IsBasis b → IsArcNumber b.net k → src ≡ (arc_at g k).src
-    → dst ≡ (arc_at g k).dst → c ≡ (arc_at g k).cost → IsReadReduced b k src dst c
-reduced_read b g k src dst c net ok h is_src is_dst is_cost =
-    let a : IsNetArc (arc_at b.net k) = net_arc_at b.net k ok.of_net h in
-    let small = a.cost_small in
-    let s : src ≡ (arc_at b.net k).src = is_src ∙ ap (λ n. (arc_at n k).src) net in
-    let d : dst ≡ (arc_at b.net k).dst = is_dst ∙ ap (λ n. (arc_at n k).dst) net in
-    let e : c ≡ (arc_at b.net k).cost = is_cost ∙ ap (λ n. (arc_at n k).cost) net in
-    record {
-      cost = rw e small;
-      value = rw (s, d, e) (own_reduced b k h);
-    }
+pub reduced_read : (l : Layout) (b : TreeStructure) (k src dst : ℕ) (c : ℤ) → basis_in l ≡ b → IsLaidOut l → IsArcNumber b.net k
+    → src ≡ (arc_at l.net k).src → dst ≡ (arc_at l.net k).dst → c ≡ (arc_at l.net k).cost → IsReadReduced b k src dst c
+unfolding basis_in
+reduced_read l b k src dst c view ok h is_src is_dst is_cost =
+    let here : IsArcNumber l.net k = subst (λ x. IsArcNumber x.net k) (sym view) h in
+    let a : IsNetArc (arc_at l.net k) = net_arc_at l.net k ok.basis.of_net here in
+    subst (λ x. IsReadReduced x k src dst c) view
+    (rw (is_src, is_dst, is_cost) (record { cost = a.cost_small; value = own_reduced (basis_in l) k here }))

@@ -100,11 +100,11 @@ module _ (l : Layout) (b : TreeStructure) (k : ℕ) (ok : IsLaidOut l) (view : b
 
     pub from_in_tree : o.from < size_of l.tree
     unfolding basis_in
-    from_in_tree = (let n = nodes in let h : (offer_at l k).from ≤ node_count l.net = read.from in rw is (omega (arith, n, h)))
+    from_in_tree = (let h : (offer_at l k).from ≤ node_count l.net = read.from in rw is (omega (arith, nodes, h)))
 
     pub to_in_tree : o.to < size_of l.tree
     unfolding basis_in
-    to_in_tree = (let n = nodes in let h : (offer_at l k).to ≤ node_count l.net = read.to in rw is (omega (arith, n, h)))
+    to_in_tree = (let h : (offer_at l k).to ≤ node_count l.net = read.to in rw is (omega (arith, nodes, h)))
 
     pub reduced_ready : CanReduce l.table.prices o
     reduced_ready = rw is (can_reduce l k ok number)

@@ -146,11 +146,10 @@ module _ (l : Layout) (s : IsStarStored l) where
   own_amount : (k : ℕ) → IsArcNumber l.net k → amount_outside l k ≡ pos 0
   own_amount k h =
       let arc : IsNetArc (arc_at l.net k) = net_arc_at l.net k s.of_net h in
-      let low = arc.width_low in
       elim (cases_Bool (int_lt (pos 0) (arc_at l.net k).cap)) [
         | inl e ↦ cond-true _ _ _ (eq-eqb _ _ (ap (λ o. o.from) (offer_is k h ∙ cond-true _ _ _ e)))
         | inr e ↦ (let high = no_width (arc_at l.net k).cap e in
-            let none : (arc_at l.net k).cap ≡ pos 0 = omega (arith, ints, low, high) in
+            let none : (arc_at l.net k).cap ≡ pos 0 = omega (arith, ints, arc.width_low, high) in
             either (eqb (offer_at l k).from (arc_at l.net k).src) (arc_at l.net k).cap none)
       ]
     where

@@ -73,7 +73,7 @@ module _ (l : Layout) (k : ℕ) (ok : IsLaidOut l) (el : IsEligible (basis_in l)
         elim (cases_eq v 0) [
           | inl z ↦ absurd (let top = climb-root l.tree.parents (depth_of l.tree) ok.basis.spanning.rooted on_path.steps in
               let e : climb l.tree.parents on_path.steps v ≡ climb l.tree.parents on_path.steps 0 = ap (climb l.tree.parents on_path.steps) z in
-              let is = on_path.leads in omega (arith, e, top, is, low))
+              omega (arith, e, top, on_path.leads, low))
           | inr nz ↦ omega (arith, nz)
         ]
 

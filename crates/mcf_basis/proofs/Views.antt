@@ -54,8 +54,7 @@ pub price_fits : (l : Layout) → IsLaidOut l → (v : ℕ) → v ≤ node_count
 unfolding basis_in
 price_fits l ok v h =
     let p : IsUpTo (price_reach l.net) (price_at (basis_in l) v) = price_reached (basis_in l) ok.basis v h in
-    let fits = ok.fits in
-    (omega (arith, ints, p, fits), omega (arith, ints, p, fits))
+    (omega (arith, ints, p, ok.fits), omega (arith, ints, p, ok.fits))
 
 -- each price but that of the root can be stored
 pub price_spread : (l : Layout) → IsLaidOut l → (v : ℕ) → 0 < v → v ≤ node_count l.net → IsSpread l.table.gap (price_at (basis_in l) v)

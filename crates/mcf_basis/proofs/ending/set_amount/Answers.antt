@@ -11,17 +11,15 @@ returns-clause-value c =
     let old = c.amount-old.ensures.value in
     elim c.if-back.branch [
       | then-back w ↦ amount_pushed c.args.state.now c.push.new.self c.args.k true c.if-back.change c.args.amount a.in_range
-          (let change = w.change-is in omega (arith, ints, old, change)) (search (rules, to_z-of_z, w.if-back.true))
+          (omega (arith, ints, old, w.change-is)) (search (rules, to_z-of_z, w.if-back.true))
       | else-back w ↦ amount_pushed c.args.state.now c.push.new.self c.args.k false c.if-back.change c.args.amount a.in_range
-          (let change = w.change-is in omega (arith, ints, old, change)) (search (rules, to_z-of_z, w.if-back.false))
+          (omega (arith, ints, old, w.change-is)) (search (rules, to_z-of_z, w.if-back.false))
     ]
 
 pub push-requires-clause-high : goal.push-requires-clause-high
 push-requires-clause-high c =
     let old = c.amount-old.ensures.value in
-    let low = c.requires.low in
-    let high = c.requires.high in
     elim c.if-back.branch [
-      | then-back w ↦ (let change = w.change-is in rw w.if-back.true (omega (arith, ints, old, change, low)))
-      | else-back w ↦ (let change = w.change-is in rw w.if-back.false (omega (arith, ints, old, change, high)))
+      | then-back w ↦ (let change = w.change-is in rw w.if-back.true (omega (arith, ints, old, change, c.requires.low)))
+      | else-back w ↦ (let change = w.change-is in rw w.if-back.false (omega (arith, ints, old, change, c.requires.high)))
     ]

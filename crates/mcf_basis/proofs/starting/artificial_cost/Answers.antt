@@ -13,8 +13,7 @@ overflow_add-total c =
     c.weight-total.ensures.value ∙ ap (λ i. weight (get_or g.arcs i no_arc)) place in
     let next = weight_next g.arcs c.loop-i.i no_arc inside in
     let part = weight_part g.arcs (c.loop-i.i + 1) in
-    let total = c.weight-total.ensures.net.total in
-    omega (arith, here, next, part, total, c.loop-i.invariant)
+    omega (arith, here, next, part, c.weight-total.ensures.net.total, c.loop-i.invariant)
 
 pub loop-i-preserved : goal.loop-i-preserved
 loop-i-preserved c =
@@ -25,5 +24,4 @@ loop-i-preserved c =
     c.weight-total.ensures.value ∙ ap (λ i. weight (get_or g.arcs i no_arc)) place in
     let next = weight_next g.arcs c.loop-i.i no_arc inside in
     let part = weight_part g.arcs (c.loop-i.i + 1) in
-    let total = c.weight-total.ensures.net.total in
-    omega (arith, here, next, part, total, c.loop-i.invariant)
+    omega (arith, here, next, part, c.weight-total.ensures.net.total, c.loop-i.invariant)

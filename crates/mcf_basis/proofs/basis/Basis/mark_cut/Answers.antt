@@ -18,15 +18,12 @@ loop-i-init c =
 pub price-requires : goal.price-requires
 price-requires c =
     let count = c.node_count-i-end.ensures.value ∙ ap node_count (view_net _ _ c.self.view_is) in
-    let v = c.at-v.ensures in
-    (omega arith, omega (arith, count, v, c.loop-i-test.true))
+    (omega arith, omega (arith, count, c.at-v.ensures, c.loop-i-test.true))
 
 pub mark-requires : goal.mark-requires
 mark-requires c =
     let count = c.node_count-i-end.ensures.value ∙ ap node_count (view_net _ _ c.self.view_is) in
-    let room = c.loop-i.invariant.room in
-    let v = c.at-v.ensures in
-    (omega arith, omega (arith, count, room, v, c.loop-i-test.true))
+    (omega arith, omega (arith, count, c.loop-i.invariant.room, c.at-v.ensures, c.loop-i-test.true))
 
 pub loop-i-preserved : goal.loop-i-preserved
 loop-i-preserved c =

@@ -11,8 +11,7 @@ index-requires c =
     let inside = c.self.inside in
     let h : c.place.result < length inside.offers.items =
     offer_in_range _ c.args.self.now c.args.k c.place.result c.self.view_is c.self.invariant c.requires c.place.ensures in
-    let size = inside.offers.ok.0 in
-    omega (arith, h, size)
+    omega (arith, h, inside.offers.ok.0)
 
 pub reduced-requires : goal.reduced-requires
 reduced-requires c =

@@ -18,8 +18,7 @@ use Rattle.mcf_basis.proofs.basis.Basis.pivot.Goals as goal
 pub index-offer-requires : goal.index-offer-requires
 index-offer-requires c =
     let n = number _ _ c.args.k c.self.invariant c.self.view_is c.requires in
-    let size = c.self.invariant.offers_size in
-    omega (arith, size, n, c.place.ensures)
+    omega (arith, c.self.invariant.offers_size, n, c.place.ensures)
 
 pub reduced-reduced-requires : goal.reduced-reduced-requires
 reduced-reduced-requires c =

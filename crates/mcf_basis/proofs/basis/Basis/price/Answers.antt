@@ -13,15 +13,11 @@ returns-clause-value c =
     let p = read_price _ c.args.self.now c.args.v c.self.view_is c.self.invariant c.requires.1 in
     let e : c.get-2.result ≡ get_or c.self.inside.table.prices c.args.v (pos 0) =
     c.get-2.ensures ∙ ap (λ i. get_or c.self.inside.table.prices i (pos 0)) c.get.ensures in
-    let value = p.value in
-    let small = p.small in
-    omega (arith, ints, e, value, small)
+    omega (arith, ints, e, p.value, p.small)
 
 pub returns-clause-small : goal.returns-clause-small
 returns-clause-small c =
     let p = read_price _ c.args.self.now c.args.v c.self.view_is c.self.invariant c.requires.1 in
     let e : c.get-2.result ≡ get_or c.self.inside.table.prices c.args.v (pos 0) =
     c.get-2.ensures ∙ ap (λ i. get_or c.self.inside.table.prices i (pos 0)) c.get.ensures in
-    let value = p.value in
-    let small = p.small in
-    omega (arith, ints, e, value, small)
+    omega (arith, ints, e, p.value, p.small)

@@ -2,7 +2,7 @@ use Rattle.std.proofs.Common.{sym, arith, subst}
 use Rattle.std.proofs.lemmas.Int.{ints}
 use Rattle.mcf_flows.specs.Network.{Network, IsArcNumber, IsNode, node_count}
 use Rattle.mcf_basis.proofs.Offers.{reduced_read}
-use Rattle.mcf_basis.proofs.Views.{view_net, view_basis}
+use Rattle.mcf_basis.proofs.Views.{view_net}
 use Rattle.mcf_basis.proofs.basis.Basis.reduced.Goals as goal
 
 pub ends-src-requires : goal.ends-src-requires
@@ -22,42 +22,21 @@ price-requires-2 c =
 
 pub overflow_sub-result : goal.overflow_sub-result
 overflow_sub-result c =
-    let net = view_net _ c.args.self.now c.self.view_is in
-    let r = reduced_read c.args.self.now c.self.inside.net.now c.args.k c.ends-src.result.0 c.ends-src.result.1 c.cost.result net
-    (view_basis _ c.args.self.now c.self.view_is c.self.invariant) c.requires c.ends-src.ensures.src c.ends-src.ensures.dst c.cost.ensures.value in
-    let cost = r.cost in
-    let price = c.price.ensures.small in
-    omega (arith, ints, cost, price)
+    let r = reduced_read _ _ c.args.k _ _ _ c.self.view_is c.self.invariant c.requires c.ends-src.ensures.src c.ends-src.ensures.dst c.cost.ensures.value in
+    omega (arith, ints, r.cost, c.price.ensures.small)
 
 pub overflow_add-result : goal.overflow_add-result
 overflow_add-result c =
-    let net = view_net _ c.args.self.now c.self.view_is in
-    let r = reduced_read c.args.self.now c.self.inside.net.now c.args.k c.ends-src.result.0 c.ends-src.result.1 c.cost.result net
-    (view_basis _ c.args.self.now c.self.view_is c.self.invariant) c.requires c.ends-src.ensures.src c.ends-src.ensures.dst c.cost.ensures.value in
-    let cost = r.cost in
-    let price = c.price.ensures.small in
-    let second = c.price-2.ensures.small in
-    omega (arith, ints, cost, price, second)
+    let r = reduced_read _ _ c.args.k _ _ _ c.self.view_is c.self.invariant c.requires c.ends-src.ensures.src c.ends-src.ensures.dst c.cost.ensures.value in
+    omega (arith, ints, r.cost, c.price.ensures.small, c.price-2.ensures.small)
 
 pub returns-clause-value : goal.returns-clause-value
 returns-clause-value c =
-    let net = view_net _ c.args.self.now c.self.view_is in
-    let r = reduced_read c.args.self.now c.self.inside.net.now c.args.k c.ends-src.result.0 c.ends-src.result.1 c.cost.result net
-    (view_basis _ c.args.self.now c.self.view_is c.self.invariant) c.requires c.ends-src.ensures.src c.ends-src.ensures.dst c.cost.ensures.value in
-    let cost = r.cost in
-    let price = c.price.ensures.small in
-    let first_value = c.price.ensures.value in
-    let second = c.price-2.ensures.small in
+    let r = reduced_read _ _ c.args.k _ _ _ c.self.view_is c.self.invariant c.requires c.ends-src.ensures.src c.ends-src.ensures.dst c.cost.ensures.value in
     let second_value = c.price-2.ensures.value in
-    let value = r.value in
-    omega (arith, ints, cost, price, second, first_value, second_value, value)
+    omega (arith, ints, r.cost, c.price.ensures.small, c.price-2.ensures.small, c.price.ensures.value, second_value, r.value)
 
 pub returns-clause-small : goal.returns-clause-small
 returns-clause-small c =
-    let net = view_net _ c.args.self.now c.self.view_is in
-    let r = reduced_read c.args.self.now c.self.inside.net.now c.args.k c.ends-src.result.0 c.ends-src.result.1 c.cost.result net
-    (view_basis _ c.args.self.now c.self.view_is c.self.invariant) c.requires c.ends-src.ensures.src c.ends-src.ensures.dst c.cost.ensures.value in
-    let cost = r.cost in
-    let price = c.price.ensures.small in
-    let second = c.price-2.ensures.small in
-    omega (arith, ints, cost, price, second)
+    let r = reduced_read _ _ c.args.k _ _ _ c.self.view_is c.self.invariant c.requires c.ends-src.ensures.src c.ends-src.ensures.dst c.cost.ensures.value in
+    omega (arith, ints, r.cost, c.price.ensures.small, c.price-2.ensures.small)

@@ -8,10 +8,8 @@ use Rattle.mcf_basis.specs.Structures.{price_limit}
 pub write_nodes-requires : goal.write_nodes-requires
 write_nodes-requires c =
     let p = read_prices _ c.args.self.now c.self.view_is c.self.invariant in
-    let some = p.some in
-    let count = p.count in
     let short = length-drop 1 c.self.inside.table.prices in
-    omega (arith, some, count, short, c.requires)
+    omega (arith, p.some, p.count, short, c.requires)
 
 pub returns-clause-value : goal.returns-clause-value
 returns-clause-value c =
