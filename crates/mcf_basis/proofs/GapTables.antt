@@ -15,8 +15,7 @@ use Rattle.mcf_basis.specs.Private.Offered.{CanCompare, CanCompareIn, HasOwnEnds
 use Rattle.mcf_basis.specs.Private.Offered.HasOwnEnds.{nodes, nothing}
 use Rattle.mcf_basis.specs.Private.Turned.{AreRaised, CanRaise, CanReprice}
 use Rattle.mcf_basis.specs.Starts.{start_prices}
-use Rattle.mcf_basis.proofs.Gaps.IsMoved.{down, up}
-use Rattle.mcf_basis.proofs.Gaps.{moved_is, moved_less, moved_most, moved_zero, raised_shown, reduced_shown, stored_fits}
+use Rattle.mcf_basis.proofs.Gaps.{moved_less, moved_most, moved_zero, raised_shown, reduced_shown, stored_fits}
 
 -- a table in 64 bits
 abbrev pub narrow_table : ℕ → ℕ → List ℤ → Prices
@@ -129,23 +128,14 @@ module _ (gap priced : ℕ) (stored : List ℤ) (part : List ℕ) (change : ℤ)
 
 star_read : (gap cost : ℕ) (b : Bool) → gap < cost
     → price_by gap (if b then pos cost -ℤ pos gap else neg_ℤ (pos cost -ℤ pos gap)) ≡ (if b then pos cost else neg_ℤ (pos cost))
-star_read gap cost true h = sym (moved_is 0 gap (pos cost -ℤ pos gap) (pos cost) (up (omega (arith, ints, h)) (omega (arith, ints))))
-star_read gap cost false h =
-    sym (moved_is 0 gap (neg_ℤ (pos cost -ℤ pos gap)) (neg_ℤ (pos cost)) (down (omega (arith, ints, h)) (omega (arith, ints))))
+star_read gap cost b h = grind (arith, ints)
 
 stars_read : (gap : ℕ) (g : Network) (vs : List ℕ) → gap < artificial_cost g →
     map (price_by gap) (map (λ v. if is_sender g v then pos (artificial_cost g) -ℤ pos gap else neg_ℤ (pos (artificial_cost g) -ℤ pos gap)) vs)
     ≡ map (λ v. if is_sender g v then pos (artificial_cost g) else neg_ℤ (pos (artificial_cost g))) vs
 stars_read gap g [] h = refl
-stars_read gap g (v ∷ vs) h =
-    ap (λ z. z ∷ map (price_by gap) (map (λ u. if is_sender g u then pos (artificial_cost g) -ℤ pos gap else neg_ℤ (pos (artificial_cost g) -ℤ pos gap)) vs))
-    (star_read gap (artificial_cost g) (is_sender g v) h)
-    ∙ ap (λ zs. (if is_sender g v then pos (artificial_cost g) else neg_ℤ (pos (artificial_cost g))) ∷ zs) (stars_read gap g vs h)
+stars_read gap g (v ∷ vs) h = rw (star_read gap (artificial_cost g) (is_sender g v) h, stars_read gap g vs h) refl
 
 pub star_stored : (gap : ℕ) (g : Network) → gap < artificial_cost g →
     map (price_by gap) (prices_of_star g (pos (artificial_cost g) -ℤ pos gap)) ≡ start_prices g
-star_stored gap g h =
-    ap (λ z. z ∷ map (price_by gap)
-    (map (λ v. if is_sender g v then pos (artificial_cost g) -ℤ pos gap else neg_ℤ (pos (artificial_cost g) -ℤ pos gap)) (range_with_len 1 (node_count g))))
-    (moved_zero 0 gap)
-    ∙ ap (λ zs. pos 0 ∷ zs) (stars_read gap g (range_with_len 1 (node_count g)) h)
+star_stored gap g h = rw (moved_zero 0 gap, stars_read gap g (range_with_len 1 (node_count g)) h) refl

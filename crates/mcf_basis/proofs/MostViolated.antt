@@ -11,21 +11,24 @@ use Rattle.mcf_basis.proofs.Views.{price_fits, price_spread}
 
 -- an offer by its place
 pub record IsPlacedOffer (l : Layout) (k i : ℕ) : Type 0 where
-  pub ends : HasPricedEnds (length l.table.prices) (offer_at l k)
+  pub ends : HasPricedEnds (length l.table.prices) (get_or l.offers i no_offer)
+  pub own : HasOwnEnds (get_or l.offers i no_offer)
   pub eligible : reduced_of l.table.prices l.offers i <ℤ pos 0 → IsEligible (basis_in l) k
   pub only : IsEligible (basis_in l) k → reduced_of l.table.prices l.offers i <ℤ pos 0
   pub size : IsEligible (basis_in l) k → reduced_of l.table.prices l.offers i ≡ neg_ℤ (pos (violation (basis_in l) k))
 
 module _ (l : Layout) (ok : IsLaidOut l) where
+  prices_size : length l.table.prices ≡ node_count l.net + 1
+  unfolding basis_in
+  prices_size = ok.basis.prices.one_per_node
+
   placed : (k : ℕ) → IsArcNumber l.net k → IsPlacedOffer l k (k - 1)
   unfolding basis_in
   placed k h =
       let r : IsReadOffer (basis_in l) k (offer_at l k) = read_offer l k ok h in
-      let count : length l.table.prices ≡ node_count l.net + 1 = ok.basis.prices.one_per_node in
-      let from = r.from in
-      let to = r.to in
       record {
-        ends = record { from = omega (arith, count, from); to = omega (arith, count, to); cost = r.cost };
+        ends = record { from = omega (arith, prices_size, r.from); to = omega (arith, prices_size, r.to); cost = r.cost };
+        own = own_nodes_of l k ok h;
         eligible = r.eligible;
         only = r.only;
         size = λ el. r.size (r.only el);
@@ -40,25 +43,21 @@ module _ (l : Layout) (ok : IsLaidOut l) where
     can_compare : CanCompare l.table.prices l.table.limit l.offers (first - 1) (end - 1)
     unfolding basis_in
     can_compare =
-        let count : length l.table.prices ≡ node_count l.net + 1 = ok.basis.prices.one_per_node in
         record {
           order = omega arith;
           high = omega (arith, ok.offers_size);
-          ends = λ i from to. (let back : i + 1 - 1 ≡ i = omega arith in
-              subst (λ j. HasPricedEnds (length l.table.prices) (get_or l.offers j no_offer)) back (placed (i + 1) (omega arith, omega (arith, to))).ends);
-          small = λ v h. price_fits l ok v (omega (arith, h, count));
+          ends = λ i from to. (at_place i (omega arith, omega (arith, to))).ends;
+          small = λ v h. price_fits l ok v (omega (arith, h, prices_size));
         }
 
     -- the same as a table stores the prices
     pub can_compare_in : CanCompareIn l.table l.offers (first - 1) (end - 1)
     unfolding basis_in
     can_compare_in =
-        let count : length l.table.prices ≡ node_count l.net + 1 = ok.basis.prices.one_per_node in
         record {
           compared = can_compare;
-          spread = λ v up h. price_spread l ok v up (omega (arith, h, count));
-          own = λ i from to. (let back : i + 1 - 1 ≡ i = omega arith in
-              subst (λ j. HasOwnEnds (get_or l.offers j no_offer)) back (own_nodes_of l (i + 1) ok (omega arith, omega (arith, to))));
+          spread = λ v up h. price_spread l ok v up (omega (arith, h, prices_size));
+          own = λ i from to. (at_place i (omega arith, omega (arith, to))).own;
         }
 
     pub most_violated_some : (i : ℕ) → IsFirstLeast l.table.prices l.offers (first - 1) (end - 1) i → IsMostViolated (basis_in l) first end (i + 1)

@@ -150,10 +150,8 @@ module _ (l : Layout) (k : ℕ) (ok : IsLaidOut l) (h : IsArcNumber l.net k) whe
   can_reduce =
       let count : length l.table.prices ≡ node_count l.net + 1 = ok.basis.prices.one_per_node in
       let r = read_offer in
-      let from : (offer_at l k).from ≤ node_count l.net = r.from in
-      let to : (offer_at l k).to ≤ node_count l.net = r.to in
       record {
-        ends = record { from = omega (arith, count, from); to = omega (arith, count, to); cost = r.cost };
+        ends = record { from = omega (arith, count, r.from); to = omega (arith, count, r.to); cost = r.cost };
         from_small = price_small (basis_in l) ok.basis (offer_at l k).from r.from;
         to_small = price_small (basis_in l) ok.basis (offer_at l k).to r.to;
       }

@@ -78,14 +78,6 @@ module _ (l : Layout) (b : TreeStructure) (k : ℕ) (ok : IsLaidOut l) (view : b
   keep_premises : (1 ≤ k) × (k ≤ length l.offers) × IsUpTo limits.cost (offer_at l k).cost
   keep_premises = (let n = number in let size = ok.offers_size in (n.0, omega (arith, n, size), read.cost))
 
-  found_climb : (o : ArcOffer) (c : Climb) → o ≡ offer_at l k → IsClimb l.tree l.residuals o.from o.to c →
-      IsClimb l.tree l.residuals (from_of (basis_in l) k) (to_of (basis_in l) k) c
-  found_climb o c is h =
-      let ends = offer_ends l k ok el in
-      let near : o.from ≡ from_of (basis_in l) k = ap (λ x. x.from) is ∙ ends.0 in
-      let far : o.to ≡ to_of (basis_in l) k = ap (λ x. x.to) is ∙ ends.1 in
-      subst (λ v. IsClimb l.tree l.residuals (from_of (basis_in l) k) v c) far (subst (λ u. IsClimb l.tree l.residuals u o.to c) near h)
-
   pub residuals_sized : length l.residuals ≡ size_of l.tree
   unfolding basis_in
   residuals_sized = (let n = nodes in ok.residuals_size ∙ sym n)
@@ -120,10 +112,10 @@ module _ (l : Layout) (b : TreeStructure) (k : ℕ) (ok : IsLaidOut l) (view : b
     unfolding basis_in
     cycle_found f c residuals width same_residuals same_width climb arc from to apex chosen =
         let ends = offer_ends l k ok el in
-        let climbed = found_climb o c is (subst (λ r. IsClimb l.tree r o.from o.to c) same_residuals climb) in
+        let climbed : IsClimb l.tree l.residuals (from_of (basis_in l) k) (to_of (basis_in l) k) c = rw (same_residuals, is, ends.0, ends.1) at climb in
         let w = unsigned_abs (arc_at l.net k).cap in
         let turned : c.apex ≡ f.apex = sym apex in
-        let h : IsChosen c w f.amount f.leaving f.out = subst (λ x. IsChosen c x f.amount f.leaving f.out) same_width chosen in
+        let h : IsChosen c w f.amount f.leaving f.out = rw same_width at chosen in
         let wide = width_is l k ok el in
         let taken = subst (λ a. IsTaken (basis_in l) k a (pos f.amount) f.leaving f.out) turned (chosen_taken l k w c ok el wide climbed f.amount f.leaving f.out h) in
         let is_apex : IsApex l.tree.parents (depth_of l.tree) (from_of (basis_in l) k) (to_of (basis_in l) k) f.apex =
