@@ -155,26 +155,19 @@ module _ (l : Layout) (b : TreeStructure) (k : ℕ) (ok : IsLaidOut l) (view : b
         IsPushedRound l.net l.tree l.residuals residuals l.artificial artificial f.from f.to f.apex f.amount →
         IsReplaced l.net l.tree t' l.offers offers residuals residuals' l.table table' f →
         IsPivotedLayout l (next_layout l t' offers residuals' artificial table') k f.apex (pos f.amount) (leaves_by (basis_in l) k f.leaving f.out)
-    replaced t' offers residuals residuals' artificial table' is pushed done =
-        by_case done
-      where
-        round_pushed : IsPushedRound l.net l.tree l.residuals residuals l.artificial artificial (from_of (basis_in l) k) (to_of (basis_in l) k) f.apex f.amount
-        round_pushed = rw (round.same_from, round.same_to) at pushed
-
-        blocks_at_once : f.leaving ≡ Entering → ¬ CanTake (basis_in l) (entering (basis_in l) k) (pos f.amount +ℤ pos 1)
-        blocks_at_once e = leaving_blocks (basis_in l) k f.apex (pos f.amount) (entering (basis_in l) k)
-            (subst (λ w. IsLeaving (basis_in l) k f.apex (pos f.amount) (leaves_by (basis_in l) k w f.out)) e round.leaves)
-
-        by_case : IsReplaced l.net l.tree t' l.offers offers residuals residuals' l.table table' f →
-            IsPivotedLayout l (next_layout l t' offers residuals' artificial table') k f.apex (pos f.amount) (leaves_by (basis_in l) k f.leaving f.out)
-        by_case (at_once e tree turned same prices) =
-            rw (e, tree, same, prices)
-            (kept_pivot l k f.apex f.amount ok el round.is_apex round.is_around round.can went residuals artificial round_pushed offers
-            (entering_blocks l k ok el f.amount round.can.entering (blocks_at_once e)) (turned ∙ ap (λ a. offers_kept a l.offers) round.same_arc))
-        by_case (exchanged other h) =
-            exchanged_pivot l k f.apex f.amount ok el round.is_apex round.is_around round.can went residuals artificial round_pushed f.out (is_left f.leaving)
-            (leaves_by (basis_in l) k f.leaving f.out) (round.is_out other) t' offers residuals' table'
-            (rw (round.same_arc, round.same_from, round.same_to, is) at h)
+    replaced t' offers residuals residuals' artificial table' is pushed (at_once e tree turned same prices) =
+        let full : ¬ CanTake (basis_in l) (entering (basis_in l) k) (pos f.amount +ℤ pos 1) =
+        leaving_blocks (basis_in l) k f.apex (pos f.amount) (entering (basis_in l) k)
+        (subst (λ w. IsLeaving (basis_in l) k f.apex (pos f.amount) (leaves_by (basis_in l) k w f.out)) e round.leaves) in
+        rw (e, tree, same, prices)
+        (kept_pivot l k f.apex f.amount ok el round.is_apex round.is_around round.can went residuals artificial
+        (rw (round.same_from, round.same_to) at pushed) offers
+        (entering_blocks l k ok el f.amount round.can.entering full) (turned ∙ ap (λ a. offers_kept a l.offers) round.same_arc))
+    replaced t' offers residuals residuals' artificial table' is pushed (exchanged other h) =
+        exchanged_pivot l k f.apex f.amount ok el round.is_apex round.is_around round.can went residuals artificial
+        (rw (round.same_from, round.same_to) at pushed) f.out (is_left f.leaving)
+        (leaves_by (basis_in l) k f.leaving f.out) (round.is_out other) t' offers residuals' table'
+        (rw (round.same_arc, round.same_from, round.same_to, is) at h)
 
     pub pivoted : (l' : Layout) → IsPivotedLayout l l' k f.apex (pos f.amount) (leaves_by (basis_in l) k f.leaving f.out) → IsTurnedTo (basis_in l) l' k (pos f.amount)
     pivoted l' h =
