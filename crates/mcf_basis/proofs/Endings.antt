@@ -147,21 +147,16 @@ cut_blocks l b table e ok none balanced uneven marks =
 -- what the writing of the tree asks for
 pub record CanBeWritten (l : Layout) : Type 0 where
   pub size : size_of l.tree ≡ node_count l.net + 1
-  pub residuals_size : length l.residuals ≡ node_count l.net + 1
   pub low : (v : ℕ) → IsNode (node_count l.net) v → 1 ≤ label_of l.tree v
   pub apart : (u v : ℕ) → IsNode (node_count l.net) u → IsNode (node_count l.net) v → label_of l.tree u ≡ label_of l.tree v → u ≡ v
-  pub widths : (v : ℕ) → IsNode (node_count l.net) v → label_of l.tree v ≤ length l.net.arcs
-      → pos ((get_or l.residuals v no_residuals).up + (get_or l.residuals v no_residuals).down) ≡ (arc_at l.net (label_of l.tree v)).cap
 
 pub can_be_written : (l : Layout) → IsLaidOut l → CanBeWritten l
 unfolding basis_in
 can_be_written l ok =
     record {
       size = ok.basis.size;
-      residuals_size = ok.residuals_size;
       low = λ v h. (ok.basis.tree_arcs v h).label.0;
       apart = one_node l (depth_of l.tree) (tree_of (basis_in l) ok.basis) ok.basis.size;
-      widths = ok.residuals;
     }
 
 -- the amounts of the arcs above the first i nodes are written, and those of no arc outside the tree

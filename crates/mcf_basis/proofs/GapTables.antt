@@ -9,7 +9,7 @@ use Rattle.mcf_flows.specs.Network.{Network, node_count, when}
 use Rattle.mcf_flows.specs.WellFormed.{IsUpTo}
 use Rattle.mcf_basis.specs.declared.offer.ArcOffer.{ArcOffer}
 use Rattle.mcf_basis.specs.Artificial.{artificial_cost, is_sender}
-use Rattle.mcf_basis.specs.Private.Gaps.{IsShown, IsSpread, change_by, price_by, stand_in}
+use Rattle.mcf_basis.specs.Private.Gaps.{IsSpread, change_by, price_by, stand_in}
 use Rattle.mcf_basis.specs.Private.Layouts.{Prices, change_limit, narrow_limit, no_offer, prices_of_star}
 use Rattle.mcf_basis.specs.Private.Offered.{CanCompare, CanCompareIn, HasOwnEnds, HasPricedEnds, IsLeastOffer, reduced_by, reduced_of}
 use Rattle.mcf_basis.specs.Private.Offered.HasOwnEnds.{nodes, nothing}
@@ -89,12 +89,6 @@ module _ (gap priced : ℕ) (stored : List ℤ) (offers : List ArcOffer) (begin 
 -- ---- changes
 
 module _ (gap priced : ℕ) (stored : List ℤ) (part : List ℕ) (change : ℤ) (can : CanReprice part change (narrow_table gap priced stored)) where
-  room : narrow_limit + gap - gap ≡ narrow_limit
-  room = omega arith
-
-  pub change_stored : IsShown gap (change_limit narrow_limit) change
-  change_stored = subst (λ n. IsShown gap (change_limit n) change) room can.shown
-
   pub can_raise_stored : (d : ℤ) → IsUpTo (change_limit narrow_limit) d → CanRaise part d narrow_limit stored
   can_raise_stored d small = record {
     in_range = (let n = length-map stored (price_by gap) in λ k e h. (let a = can.raised.in_range k e h in omega (arith, n, a)));

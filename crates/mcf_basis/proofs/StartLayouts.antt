@@ -1,5 +1,5 @@
 -- The star of the artificial arcs, as it is stored.
-use Rattle.std.proofs.Common.{◌≡◌, ℕ, zero, suc, ◌+◌, ◌-◌, ◌*◌, ◌^◌, ◌<◌, ◌≤◌, ◌++◌, inl, inr, Bool, true, false, eqb, cond, List, [], ◌∷◌, length, map, take}
+use Rattle.std.proofs.Common.{◌≡◌, ℕ, zero, suc, ◌+◌, ◌-◌, ◌<◌, ◌≤◌, ◌++◌, inl, inr, Bool, true, false, eqb, cond, List, [], ◌∷◌, length, map, take}
 use Rattle.std.proofs.Common.{replicate, get_or, refl, sym, ap, ◌∙◌, arith, ℤ, pos, ◌<ℤ◌, ◌≤ℤ◌, length-append}
 use Rattle.std.specs.Prelude.{if◌then◌else◌, int_lt, max, sum, unsigned_abs}
 use Rattle.std.specs.List.{range_with_len}
@@ -7,13 +7,11 @@ use Rattle.std.proofs.lemmas.Int.{ints}
 use Rattle.std.proofs.lemmas.Bool.{cases_Bool, cases_lt, cond-true, cond-false, eq-eqb}
 use Rattle.std.proofs.lemmas.List.{ext_get_or, get_or_append_left, get_or-append-add, get_or-replicate, length-replicate}
 use Rattle.std.proofs.lemmas.List.FromFn.{get_or-map-range_with_len, length-map-range_with_len, map-range_with_len_more}
-use Rattle.std.proofs.lemmas.Nat.{mul-le}
 use Rattle.mcf_flows.specs.declared.arc.Arc.{Arc}
 use Rattle.mcf_flows.specs.Network.{Network, IsArcNumber, IsNode, at_node, node_count}
 use Rattle.mcf_flows.specs.WellFormed.{weight}
-use Rattle.mcf_flows.proofs.Bounds.{size_up_to, sum-weights}
-use Rattle.mcf_flows.specs.Limits.{limits}
-use Rattle.mcf_network.specs.Nets.{IsNet, IsNetArc, width_limit}
+use Rattle.mcf_flows.proofs.Bounds.{sum-weights}
+use Rattle.mcf_network.specs.Nets.{IsNet, IsNetArc}
 use Rattle.mcf_network.specs.Residual.{arc_at}
 use Rattle.mcf_network.proofs.ArcLaws.{net_arc_at}
 use Rattle.mcf_tree.specs.SpanningTree.{IsSpanning, IsStar, label_of}
@@ -63,23 +61,6 @@ weight_part [] (suc i) = omega arith
 weight_part (a ∷ arcs) zero = omega arith
 weight_part (a ∷ arcs) (suc i) =
     omega (arith, sum-weights weight a (take i arcs), sum-weights weight a arcs, weight_part arcs i)
-
-max_zero : (n : ℕ) → max 0 n ≡ n
-max_zero n = omega arith
-
--- the weight of an arc of a net, and how great it can be
-pub net_weight : (a : Arc) → IsNetArc a → weight a ≡ unsigned_abs a.cost * unsigned_abs a.cap
-net_weight a ok =
-    ap (λ z. unsigned_abs a.cost * max (unsigned_abs z) (unsigned_abs a.cap)) ok.no_low ∙ ap (λ n. unsigned_abs a.cost * n) (max_zero (unsigned_abs a.cap))
-
-pub weight_small : (a : Arc) → IsNetArc a → unsigned_abs a.cost * unsigned_abs a.cap ≤ 10 ^ 34
-weight_small a ok =
-    let cost : unsigned_abs a.cost ≤ limits.cost = size_up_to limits.cost a.cost ok.cost_small in
-    let low = ok.width_low in
-    let high = ok.width_high in
-    let cap : unsigned_abs a.cap ≤ width_limit = size_up_to width_limit a.cap (omega (arith, ints, low), omega (arith, ints, high)) in
-    let le = mul-le (unsigned_abs a.cost) (unsigned_abs a.cap) limits.cost width_limit cost cap in
-    omega (arith, le)
 
 -- ---- the greatest cost, and how far prices reach
 
