@@ -27,6 +27,7 @@ use Rattle.mcf_basis.specs.Structures.{TreeStructure, price_at, state_of, price_
 use Rattle.mcf_basis.specs.Violations.{HasNoEligible}
 use Rattle.mcf_basis.proofs.Cuts.{HasWideTree, cuts_block}
 use Rattle.mcf_basis.proofs.Cycles.{tree_of}
+use Rattle.mcf_basis.proofs.PivotKeeps.{same_state}
 use Rattle.mcf_basis.proofs.TreePrices.{price_small}
 use Rattle.mcf_basis.proofs.Views.{amount_case, carried_added, one_node}
 use Rattle.mcf_basis.proofs.Views.AmountCase.{above_node, off_tree}
@@ -196,10 +197,6 @@ pub record IsWritten (l : Layout) (first last : Pseudoflow) : Type 0 where
       → amount_at last (label_of l.tree v) ≡ inside_by l.net l.tree l.residuals v
   pub others : (k : ℕ) → IsArcNumber l.net k
       → ((v : ℕ) → IsNode (node_count l.net) v → label_of l.tree v ≢ k) → amount_at last k ≡ amount_at first k
-
-same_state : (s : Pseudoflow) (g : Network) (xs : List ℤ) → s.net ≡ g → s.amounts ≡ xs → s ≡ record { net = g; amounts = xs }
-same_state s g xs p q =
-    ap (λ (n : Network). record { net = n; amounts = s.amounts }) p ∙ ap (λ (ys : List ℤ). record { net = g; amounts = ys }) q
 
 module _ (l : Layout) (first last : Pseudoflow) (ok : IsLaidOut l) (w : IsWritten l first last) where
   written_at : (k : ℕ) → IsArcNumber l.net k → amount_at last k ≡ amount_in l k

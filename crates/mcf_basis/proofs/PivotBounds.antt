@@ -1,8 +1,8 @@
 -- The amounts after a pivot: within their bounds, and at a bound outside the new tree.
 use Rattle.std.proofs.Common.{◌≡◌, ◌≢◌, ℕ, ◌<◌, ◌≤◌, ◌⊎◌, inl, inr, true, false, not, length, sym, ap, ◌∙◌, subst, arith, ℤ, pos}
-use Rattle.std.proofs.Common.{◌+ℤ◌, ◌-ℤ◌, ◌≤ℤ◌}
+use Rattle.std.proofs.Common.{◌+ℤ◌, ◌≤ℤ◌}
 use Rattle.std.proofs.lemmas.Int.{ints}
-use Rattle.std.proofs.lemmas.Bool.{both_ways, cases_eq, cases_lt, eq-eqb, ne_eqb}
+use Rattle.std.proofs.lemmas.Bool.{both_ways, cases_eq, eq-eqb, ne_eqb}
 use Rattle.mcf_flows.specs.Network.{IsNode, node_count}
 use Rattle.mcf_links.specs.Rooted.{climb}
 use Rattle.mcf_network.specs.Residual.{arc_at}
@@ -14,7 +14,6 @@ use Rattle.mcf_basis.specs.Structures.{TreeStructure, CanTake, IsInTree, carried
 use Rattle.mcf_basis.proofs.Around.{CanGoRound, IsAround, IsLeaving, WentRound, arcs_of, from_of, left_node, left_steps, right_node, right_steps, round_amount}
 use Rattle.mcf_basis.proofs.Around.{to_of}
 use Rattle.mcf_basis.proofs.Around.IsLeaving.{right, enter, left}
-use Rattle.mcf_basis.proofs.LastBases.{zero_or_more}
 use Rattle.mcf_basis.proofs.PricesTurned.{new_tree}
 use Rattle.mcf_basis.proofs.Pushed.{node_of}
 use Rattle.mcf_basis.proofs.Pushes.{Leaves, cases_found}
@@ -46,33 +45,20 @@ module _ (b : TreeStructure) (label v : ℕ) (x : ℤ) (new : ℕ → ℤ)
       → (new label ≡ pos 0) ⊎ ((label ≤ length b.net.arcs) × (new label ≡ (arc_at b.net label).cap))
   pushed_bound full =
       elim (cases_eq (arc_at (with_artificial b.net) label).src v) [
-        | inl e ↦ (let amount : new label ≡ carried b label +ℤ x = went.forward e in
-            let back : (leaving b.net label v).back ≡ false = ap not (eq-eqb (arc_at (with_artificial b.net) label).src v e) in
-            elim (cases_lt (length b.net.arcs) label) [
-              | inl past ↦ absurd (full (record {
-                forward = λ t own. absurd (omega arith);
-                backward = λ t. absurd (both_ways (leaving b.net label v).back back t);
-              }))
-              | inr own ↦ (let fits : (carried b label +ℤ x) ≤ℤ (arc_at b.net label).cap = can.forward back own in
-                  elim (zero_or_more ((arc_at b.net label).cap -ℤ (carried b label +ℤ x)) (omega (arith, ints, fits))) [
-                    | inl z ↦ inr (own, omega (arith, ints, amount, z))
-                    | inr more ↦ absurd (full (record {
-                      forward = λ t q. omega (arith, ints, more);
-                      backward = λ t. absurd (both_ways (leaving b.net label v).back back t);
-                    }))
-                  ])
-            ])
-        | inr ne ↦ (let amount : new label +ℤ x ≡ carried b label = went.backward ne in
-            let back : (leaving b.net label v).back ≡ true = ap not (ne_eqb (arc_at (with_artificial b.net) label).src v ne) in
-            let fits : x ≤ℤ carried b label = can.backward back in
-            elim (zero_or_more (carried b label -ℤ x) (omega (arith, ints, fits))) [
-              | inl z ↦ inl (omega (arith, ints, amount, z))
-              | inr more ↦ absurd (full (record {
-                forward = λ t own. absurd (both_ways (leaving b.net label v).back t back);
-                backward = λ t. omega (arith, ints, more);
-              }))
-            ])
+        | inl e ↦ (let back : (leaving b.net label v).back ≡ false = ap not (eq-eqb (arc_at (with_artificial b.net) label).src v e) in
+            inr (forward_bound label (length b.net.arcs) (carried b label) (new label) (arc_at b.net label).cap x (went.forward e) (can.forward back)
+            (λ more. full (record { forward = λ t. more; backward = λ t. absurd (both_ways (leaving b.net label v).back back t) }))))
+        | inr ne ↦ (let back : (leaving b.net label v).back ≡ true = ap not (ne_eqb (arc_at (with_artificial b.net) label).src v ne) in
+            inl (backward_bound (carried b label) (new label) x (went.backward ne) (can.backward back)
+            (λ more. full (record { forward = λ t own. absurd (both_ways (leaving b.net label v).back t back); backward = λ t. more }))))
       ]
+    where
+      forward_bound : (label n : ℕ) (old new cap x : ℤ) → new ≡ old +ℤ x → (label ≤ n → (old +ℤ x) ≤ℤ cap)
+          → ((label ≤ n → (old +ℤ (x +ℤ pos 1)) ≤ℤ cap) → ⊥) → (label ≤ n) × (new ≡ cap)
+      forward_bound label n old new cap x moves fits full = grind (arith, ints)
+
+      backward_bound : (old new x : ℤ) → new +ℤ x ≡ old → x ≤ℤ old → ((x +ℤ pos 1) ≤ℤ old → ⊥) → new ≡ pos 0
+      backward_bound old new x moves fits full = grind (arith, ints)
 
 -- the nodes of either side are nodes of the net
 pub side_node : (b : TreeStructure) → IsBasis b → (u n p : ℕ) → u < length b.tree.parents → n ≤ depth_of b.tree u → p < n

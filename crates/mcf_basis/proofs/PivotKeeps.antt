@@ -21,7 +21,7 @@ use Rattle.mcf_basis.proofs.Pushed.{went_round}
 use Rattle.mcf_basis.proofs.PushedSums.{round_count, round_surplus}
 use Rattle.mcf_basis.proofs.StrongKept.{moved_low, strong_kept}
 
-same_state : (s : Pseudoflow) (g : Network) (amounts : List ℤ) → s.net ≡ g → s.amounts ≡ amounts → s ≡ record { net = g; amounts = amounts }
+pub same_state : (s : Pseudoflow) (g : Network) (amounts : List ℤ) → s.net ≡ g → s.amounts ≡ amounts → s ≡ record { net = g; amounts = amounts }
 same_state s g amounts e f = ap (λ n. record { net = n; amounts = s.amounts }) e ∙ ap (λ a. record { net = g; amounts = a }) f
 
 module _ (old new : TreeStructure) (k : ℕ) (moved : ℤ) (ok : IsBasis old) (pivot : IsPivot old k moved new) where

@@ -104,17 +104,11 @@ gained_one label x (r ∷ rest) (suc i) d h off =
 
 -- ---- which way x goes
 
-forth : (src v : ℕ) (x : ℤ) → src ≡ v → cond (not (eqb src v)) (neg_ℤ x) x ≡ x
-forth src v x e = rw (eq-eqb src v e) refl
-
-back : (src v : ℕ) (x : ℤ) → src ≢ v → cond (not (eqb src v)) (neg_ℤ x) x ≡ neg_ℤ x
-back src v x n = rw (ne_eqb src v n) refl
-
 leaves_from : (g : Network) (old new : ℕ → ℤ) (label v : ℕ) (x : ℤ) →
     new label ≡ old label +ℤ cond (not (eqb (arc_at (with_artificial g) label).src v)) (neg_ℤ x) x → Leaves (arcs_of g) old new label v x
 leaves_from g old new label v x e = record {
-  forward = λ t. (let way = forth (arc_at (with_artificial g) label).src v x t in omega (arith, ints, e, way));
-  backward = λ n. (let way = back (arc_at (with_artificial g) label).src v x n in omega (arith, ints, e, way));
+  forward = λ t. rw (eq-eqb (arc_at (with_artificial g) label).src v t) at e;
+  backward = λ n. (let goes = rw (ne_eqb (arc_at (with_artificial g) label).src v n) at e in omega (arith, ints, goes));
 }
 
 -- from the tail of a residual arc whose ends are apart

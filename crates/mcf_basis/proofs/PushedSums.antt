@@ -1,11 +1,11 @@
 -- What an amount that goes round the cycle of a pivot changes of the sums: no surplus, and the cost
 -- by the reduced cost of the arc that enters.
-use Rattle.std.proofs.Common.{◌≡◌, ℕ, zero, suc, ◌+◌, ◌-◌, ◌<◌, ◌≤◌, ◌++◌, Bool, true, false, not, eqb, cond, List, [], ◌∷◌, length, set, refl, sym, ap, ◌∙◌}
-use Rattle.std.proofs.Common.{subst, arith, inl, inr, ℤ, pos, negsuc, ◌+ℤ◌, ◌-ℤ◌, ◌<ℤ◌, neg_ℤ}
+use Rattle.std.proofs.Common.{◌≡◌, ℕ, zero, suc, ◌+◌, ◌-◌, ◌<◌, ◌≤◌, ◌++◌, ◌⊎◌, Bool, true, false, not, eqb, cond, List, [], ◌∷◌, length, set, refl, sym, ap, ◌∙◌}
+use Rattle.std.proofs.Common.{subst, arith, inl, inr, ℤ, pos, ◌+ℤ◌, ◌-ℤ◌, ◌<ℤ◌, neg_ℤ}
 use Rattle.std.specs.Prelude.{int_lt}
 use Rattle.std.specs.List.{All}
 use Rattle.std.proofs.Math.IntN.{◌*ℤ◌, *ℤ_comm}
-use Rattle.std.proofs.lemmas.Bool.{cases_eq, eq-eqb, ne_eqb, lt-ltb}
+use Rattle.std.proofs.lemmas.Bool.Decides.{nat_tests}
 use Rattle.std.proofs.lemmas.Int.{ints}
 use Rattle.std.proofs.lemmas.List.Elements.{All-head, All-tail}
 use Rattle.mcf_flows.specs.Flow.{cost, net}
@@ -96,22 +96,13 @@ walk_cost-append g [] ys = omega (arith, ints)
 walk_cost-append g (r ∷ xs) ys = omega (arith, ints, walk_cost-append g xs ys)
 
 -- over plain nodes: the ends, from u on, of an arc from s to t that joins u and v
-ends_forth : (s t u v : ℕ) → s ≡ u → t ≡ v → (cond (not (eqb s u)) t s ≡ u) × (cond (not (eqb s u)) s t ≡ v)
-ends_forth s t u v e f = rw (eq-eqb s u e) (e, f)
-
-ends_back : (s t u v : ℕ) → s ≡ v → t ≡ u → (cond (not (eqb s u)) t s ≡ u) × (cond (not (eqb s u)) s t ≡ v)
-ends_back s t u v e f =
-    elim (cases_eq s u) [
-      | inl same ↦ ends_forth s t u v same (f ∙ (sym same ∙ e))
-      | inr n ↦ (rw (ne_eqb s u n) (f, e))
-    ]
+ends_from : (s t u v : ℕ) → ((s ≡ u) × (t ≡ v)) ⊎ ((s ≡ v) × (t ≡ u)) → (cond (not (eqb s u)) t s ≡ u) × (cond (not (eqb s u)) s t ≡ v)
+ends_from s t u v ends = (grind (arith, nat_tests), grind (arith, nat_tests))
 
 leaving_ends : (g : Network) (label u v : ℕ) → Joins g label u v →
     (tail (with_artificial g) (leaving g label u) ≡ u) × (head (with_artificial g) (leaving g label u) ≡ v)
-leaving_ends g label u v (out_of s d) =
-    ends_forth (arc_at (with_artificial g) label).src (arc_at (with_artificial g) label).dst u v s d
-leaving_ends g label u v (into s d) =
-    ends_back (arc_at (with_artificial g) label).src (arc_at (with_artificial g) label).dst u v s d
+leaving_ends g label u v (out_of s d) = ends_from _ _ u v (inl (s, d))
+leaving_ends g label u v (into s d) = ends_from _ _ u v (inr (s, d))
 
 -- the reduced cost of a residual arc
 pub turned_reduced : (b : TreeStructure) (k : ℕ) (back : Bool) →
@@ -173,13 +164,10 @@ abbrev pub entering_cost : TreeStructure → ℕ → ℤ
 entering_cost b k = cond (int_lt (pos 0) (reduced_at b k)) (neg_ℤ (reduced_at b k)) (reduced_at b k)
 
 pub not_turned : (z : ℤ) → z <ℤ pos 0 → int_lt (pos 0) z ≡ false
-not_turned (pos n) h = absurd (omega (arith, ints))
-not_turned (negsuc n) h = refl
+not_turned z h = grind (arith, ints)
 
 pub is_turned : (z : ℤ) → pos 0 <ℤ z → int_lt (pos 0) z ≡ true
-is_turned (pos zero) h = absurd (omega (arith, ints))
-is_turned (pos (suc n)) h = lt-ltb 0 (suc n) (omega arith)
-is_turned (negsuc n) h = absurd (omega (arith, ints))
+is_turned z h = grind (arith, ints)
 
 pub entering_low : (b : TreeStructure) (k : ℕ) → IsEligible b k → entering_cost b k <ℤ pos 0
 entering_low b k el =

@@ -1,6 +1,6 @@
 -- The star of the artificial arcs is a basis.
 use Rattle.std.proofs.Common.{◌≡◌, ◌≢◌, ℕ, zero, suc, ◌+◌, ◌-◌, ◌<◌, ◌++◌, inl, inr, true, false, not, eqb, List, [], length, map, take, drop, replicate}
-use Rattle.std.proofs.Common.{get_or, refl, sym, ap, ◌∙◌, arith, subst, ℤ, pos, negsuc, neg_ℤ, ◌+ℤ◌, ◌-ℤ◌, ◌<ℤ◌, length-append}
+use Rattle.std.proofs.Common.{get_or, refl, sym, ap, ◌∙◌, arith, subst, ℤ, pos, neg_ℤ, ◌+ℤ◌, ◌-ℤ◌, ◌<ℤ◌, length-append}
 use Rattle.std.specs.Prelude.{unsigned_abs, int_le}
 use Rattle.std.specs.List.{All, range_with_len}
 use Rattle.std.proofs.lemmas.Int.{ints}
@@ -11,7 +11,7 @@ use Rattle.std.proofs.lemmas.List.FromFn.{get_or-map-range_with_len, length-map-
 use Rattle.mcf_flows.specs.declared.arc.Arc.{Arc}
 use Rattle.mcf_flows.specs.Flow.{net}
 use Rattle.mcf_flows.specs.Network.{Network, IsNode, at_node, flow_sum, node_count, when}
-use Rattle.mcf_flows.proofs.IntLaws.{at_most, at_most_passes}
+use Rattle.mcf_flows.proofs.IntLaws.{at_most}
 use Rattle.mcf_network.specs.Nets.{IsNet, IsNetArc}
 use Rattle.mcf_network.specs.Residual.{arc_at}
 use Rattle.mcf_network.specs.States.{HasNoSurplus}
@@ -30,12 +30,10 @@ use Rattle.mcf_basis.proofs.LastBases.{node_count_added, size_low, supply_added}
 use Rattle.mcf_basis.proofs.TreeFlows.{single_term}
 
 below_zero : (x : ℤ) → int_le (pos 0) x ≡ false → x <ℤ pos 0
-below_zero (pos n) e = absurd (true≢false (sym (at_most_passes (pos 0) (pos n) (omega (arith, ints))) ∙ e))
-below_zero (negsuc n) e = omega (arith, ints)
+below_zero x e = grind (arith, ints)
 
 size_below : (x : ℤ) → x <ℤ pos 0 → pos (unsigned_abs x) ≡ neg_ℤ x
-size_below (pos n) h = absurd (omega (arith, ints))
-size_below (negsuc n) h = omega (arith, ints)
+size_below x h = grind (arith, ints)
 
 -- the ends of an artificial arc
 pub sender_src : (g : Network) (v : ℕ) → is_sender g v ≡ true → (artificial_arc g v).src ≡ v
