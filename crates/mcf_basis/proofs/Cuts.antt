@@ -35,11 +35,11 @@ use Rattle.mcf_basis.specs.Violations.{HasNoEligible}
 use Rattle.mcf_basis.proofs.Cycles.{tree_of}
 use Rattle.mcf_basis.proofs.Around.{arcs_of}
 use Rattle.mcf_basis.proofs.Flows.{added_arcs, amount_count, read_added, rest_count, split_net}
-use Rattle.mcf_basis.proofs.Labels.{added_arc, added_label, cases_in_tree, inner_arc, own_arc, own_label}
+use Rattle.mcf_basis.proofs.Labels.{added_arc, added_label, cases_in_tree, inner_arc, own_arc, own_label, sender_ends, taker_ends}
 use Rattle.mcf_basis.proofs.LastBases.{each_own, empty_above, full_below, node_count_added, supply_added, zero_or_more}
 use Rattle.mcf_basis.proofs.Offers.{own_reduced}
 use Rattle.mcf_basis.proofs.Pushed.{node_of}
-use Rattle.mcf_basis.proofs.StarBases.{sender_dst, sender_net, sender_src, taker_dst, taker_net, taker_src}
+use Rattle.mcf_basis.proofs.StarBases.{sender_net, taker_net}
 use Rattle.mcf_basis.proofs.StrongPivot.{IsStep, labels_apart, step_at}
 use Rattle.mcf_basis.proofs.TreePrices.{in_tree, one_step, top, top_near}
 
@@ -137,13 +137,13 @@ module _ (b : TreeStructure) (ok : IsBasis b) where
       elim (cases_Bool (is_sender b.net v)) [
         | inl e ↦ sends (unsent_is v h ∙ (sender_net b.net (drop (length b.net.arcs) b.amounts) (rest_count b ok) v h e
             ∙ read_added b (v - 1) v (omega arith))) (λ some. (let falls = added_price v h some in
-            let from = ap (price_at b) (sender_src b.net v e) in
-            let to = ap (price_at b) (sender_dst b.net v e) in
+            let from = ap (price_at b) (sender_ends b.net v e).0 in
+            let to = ap (price_at b) (sender_ends b.net v e).1 in
             omega (arith, ints, falls, from, to, root)))
         | inr e ↦ takes (unsent_is v h ∙ (taker_net b.net (drop (length b.net.arcs) b.amounts) (rest_count b ok) v h e
             ∙ ap neg_ℤ (read_added b (v - 1) v (omega arith)))) (λ some. (let falls = added_price v h some in
-            let from = ap (price_at b) (taker_src b.net v e) in
-            let to = ap (price_at b) (taker_dst b.net v e) in
+            let from = ap (price_at b) (taker_ends b.net v e).0 in
+            let to = ap (price_at b) (taker_ends b.net v e).1 in
             omega (arith, ints, falls, from, to, root)))
       ]
 
@@ -308,20 +308,17 @@ not_above_zero : (z : ℤ) → int_lt (pos 0) z ≡ false → z ≤ℤ pos 0
 not_above_zero z e = grind (arith, ints)
 
 not_true : (t : Bool) → not t ≡ true → t ≡ false
-not_true true e = sym e
-not_true false e = refl
+not_true t e = grind arith
 
 when_agree : (t : Bool) (f c : ℤ) → (t ≡ true → f ≡ c) → when t f ≡ when t c
 when_agree true f c h = h refl
 when_agree false f c h = refl
 
 when_low : (t : Bool) (z : ℤ) → (t ≡ true → pos 0 ≤ℤ z) → pos 0 ≤ℤ when t z
-when_low true z h = h refl
-when_low false z h = omega (arith, ints)
+when_low t z h = grind (arith, ints)
 
 when_gap : (t : Bool) (z : ℤ) → (t ≡ false → z ≤ℤ pos 0) → pos 0 ≤ℤ (when t z -ℤ z)
-when_gap true z h = omega (arith, ints)
-when_gap false z h = let low = h refl in omega (arith, ints, low)
+when_gap t z h = grind (arith, ints)
 
 module _ (b : TreeStructure) (ok : IsBasis b) (none : HasNoEligible b) where
   abbrev side : ℕ → Bool

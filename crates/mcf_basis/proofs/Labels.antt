@@ -1,7 +1,7 @@
 -- The arcs of a net with its artificial arcs, by their labels.
 use Rattle.std.proofs.Common.{◌≡◌, ℕ, ◌+◌, ◌-◌, ◌<◌, ◌++◌, ◌⊎◌, inl, inr, Bool, true, false, length, map, refl, ap, sym, ◌∙◌, arith, get_or, pos, length-append}
 use Rattle.std.specs.List.{range_with_len}
-use Rattle.std.proofs.lemmas.Bool.{cases_lt}
+use Rattle.std.proofs.lemmas.Bool.{cases_Bool, cases_lt}
 use Rattle.std.proofs.lemmas.List.{get_or_append_left, get_or-append-add}
 use Rattle.std.proofs.lemmas.List.FromFn.{length-map-range_with_len, get_or-map-range_with_len}
 use Rattle.mcf_flows.specs.Network.{Network, IsArcNumber, IsNode, node_count}
@@ -56,10 +56,12 @@ pub added_label : (g : Network) (v : ℕ) → IsNode (node_count g) v → IsLabe
 added_label g v h =
     let count : length (with_artificial g).arcs ≡ length g.arcs + node_count g = label_count g in (omega arith, omega arith)
 
--- an artificial arc joins its node and the root
-one_is_root : (g : Network) (v : ℕ) (sender : Bool) → is_sender g v ≡ sender → ((artificial_arc g v).src ≡ 0) ⊎ ((artificial_arc g v).dst ≡ 0)
-one_is_root g v true e = inr (rw e refl)
-one_is_root g v false e = inl (rw e refl)
+-- an artificial arc leads from its node to the root, or from the root to its node
+pub sender_ends : (g : Network) (v : ℕ) → is_sender g v ≡ true → ((artificial_arc g v).src ≡ v) × ((artificial_arc g v).dst ≡ 0)
+sender_ends g v e = rw e (refl, refl)
+
+pub taker_ends : (g : Network) (v : ℕ) → is_sender g v ≡ false → ((artificial_arc g v).src ≡ 0) × ((artificial_arc g v).dst ≡ v)
+taker_ends g v e = rw e (refl, refl)
 
 -- an arc at the root is artificial
 pub root_arc : (g : Network) (label v : ℕ) → IsNet g → IsLabel g label → 0 < v → Joins g label v 0
@@ -86,9 +88,9 @@ inner_arc g label u v h pu pv joins =
       | own k ↦ k
       | added w node e ↦ absurd (let same = added_arc g w label node e in
           let up = both_up g label u v pu pv joins in
-          elim (one_is_root g w (is_sender g w) refl) [
-            | inl s ↦ (let z = ap (λ a. a.src) same ∙ s in omega (arith, z, up))
-            | inr d ↦ (let z = ap (λ a. a.dst) same ∙ d in omega (arith, z, up))
+          elim (cases_Bool (is_sender g w)) [
+            | inl e ↦ (let z = ap (λ a. a.dst) same ∙ (sender_ends g w e).1 in omega (arith, z, up))
+            | inr e ↦ (let z = ap (λ a. a.src) same ∙ (taker_ends g w e).0 in omega (arith, z, up))
           ])
     ]
 

@@ -1,5 +1,5 @@
 -- The flow of a basis at which no arc is eligible.
-use Rattle.std.proofs.Common.{◌≡◌, ℕ, zero, suc, ◌+◌, ◌-◌, ◌<◌, ◌⊎◌, inl, inr, length, drop, get_or, refl, sym, ap, ◌∙◌, arith, subst, ℤ, pos, negsuc, ◌<ℤ◌}
+use Rattle.std.proofs.Common.{◌≡◌, ℕ, ◌+◌, ◌-◌, ◌<◌, ◌⊎◌, inl, inr, length, drop, get_or, refl, sym, ap, ◌∙◌, arith, subst, ℤ, pos, ◌<ℤ◌}
 use Rattle.std.proofs.Common.{◌≤ℤ◌}
 use Rattle.std.specs.Prelude.{unsigned_abs}
 use Rattle.std.specs.List.{AllZip}
@@ -24,13 +24,10 @@ use Rattle.mcf_basis.proofs.Labels.{own_label}
 use Rattle.mcf_basis.proofs.Offers.{not_in_tree, own_reduced}
 
 pub zero_or_more : (z : ℤ) → pos 0 ≤ℤ z → (z ≡ pos 0) ⊎ (pos 0 <ℤ z)
-zero_or_more (pos zero) h = inl refl
-zero_or_more (pos (suc n)) h = inr (omega (arith, ints))
-zero_or_more (negsuc n) h = absurd (omega (arith, ints))
+zero_or_more z h = grind (arith, ints, inl, inr)
 
 pub size_low : (x : ℤ) → pos 0 ≤ℤ x → pos (unsigned_abs x) ≡ x
-size_low (pos n) h = refl
-size_low (negsuc n) h = absurd (omega (arith, ints))
+size_low x h = grind (arith, ints)
 
 pub node_count_added : (g : Network) → node_count g ≡ node_count (with_artificial g)
 unfolding with_artificial

@@ -1,5 +1,5 @@
 -- The offer of an arc says whether it can enter.
-use Rattle.std.proofs.Common.{◌≡◌, ◌≢◌, ℕ, ◌+◌, ◌-◌, ◌<◌, ◌≤◌, inl, inr, length, get_or, ap, sym, ◌∙◌, arith, subst, ℤ, pos, negsuc, neg_ℤ, ◌+ℤ◌, ◌-ℤ◌, ◌<ℤ◌}
+use Rattle.std.proofs.Common.{◌≡◌, ◌≢◌, ℕ, ◌+◌, ◌-◌, ◌<◌, ◌≤◌, inl, inr, length, get_or, ap, sym, ◌∙◌, arith, subst, ℤ, pos, neg_ℤ, ◌+ℤ◌, ◌-ℤ◌, ◌<ℤ◌}
 use Rattle.std.specs.Prelude.{◌↔◌, unsigned_abs}
 use Rattle.std.proofs.lemmas.Int.{ints}
 use Rattle.std.proofs.lemmas.Bool.{cond-true, cond-false, ne_eqb, eq-eqb}
@@ -46,12 +46,10 @@ pub record IsReadOffer (b : TreeStructure) (k : ℕ) (o : ArcOffer) : Type 0 whe
   pub size : offered b o <ℤ pos 0 → offered b o ≡ neg_ℤ (pos (violation b k))
 
 below_size : (z : ℤ) → z <ℤ pos 0 → z ≡ neg_ℤ (pos (unsigned_abs z))
-below_size (pos n) h = absurd (omega (arith, ints))
-below_size (negsuc n) h = omega (arith, ints)
+below_size z h = grind (arith, ints)
 
 above_size : (z y : ℤ) → pos 0 <ℤ z → y ≡ neg_ℤ z → y ≡ neg_ℤ (pos (unsigned_abs z))
-above_size (pos n) y h e = e
-above_size (negsuc n) y h e = absurd (omega (arith, ints))
+above_size z y h e = grind (arith, ints)
 
 module _ (l : Layout) (k : ℕ) (ok : IsLaidOut l) (h : IsArcNumber l.net k) where
   arc_ok : IsNetArc (arc_at l.net k)

@@ -1,16 +1,16 @@
 -- Each pivot lowers the pair of the cost and the sum of the prices.
-use Rattle.std.proofs.Common.{◌≡◌, ℕ, ◌<◌, Bool, true, false, sym, ap, ◌∙◌, subst, arith, inl, inr, ℤ, pos}
+use Rattle.std.proofs.Common.{◌≡◌, ℕ, ◌<◌, ◌⊎◌, Bool, true, false, sym, ap, ◌∙◌, subst, arith, inl, inr, ℤ, pos}
 use Rattle.std.proofs.Common.{◌+ℤ◌, ◌-ℤ◌, ◌≤ℤ◌, ◌<ℤ◌}
 use Rattle.std.specs.Prelude.{int_lt}
 use Rattle.std.proofs.Math.IntN.{◌*ℤ◌, *ℤ_comm}
-use Rattle.std.proofs.lemmas.Bool.{both_ways, false_from_ne_true}
+use Rattle.std.proofs.lemmas.Bool.{false_from_ne_true}
 use Rattle.std.proofs.lemmas.Int.{ints}
 use Rattle.mcf_flows.specs.Flow.{cost}
 use Rattle.mcf_flows.specs.Network.{Network, IsNode, node_count, node_sum, when}
 use Rattle.mcf_flows.proofs.IntLaws.{mul_below_zero, zero-mul}
 use Rattle.mcf_flows.proofs.NodeSums.{node_sum-sub, node_sum_above_zero}
 use Rattle.mcf_network.specs.declared.rid.Rid.{Rid}
-use Rattle.mcf_network.specs.Residual.{head, tail, unit_cost}
+use Rattle.mcf_network.specs.Residual.{arc_at, head, tail, unit_cost}
 use Rattle.mcf_links.specs.Rooted.{climb}
 use Rattle.mcf_tree.specs.SpanningTree.{depth_of, label_of}
 use Rattle.mcf_tree.specs.Subtree.{is_above}
@@ -20,33 +20,33 @@ use Rattle.mcf_basis.specs.Bases.{IsBasis}
 use Rattle.mcf_basis.specs.Laws.{PivotsLowerThePair}
 use Rattle.mcf_basis.specs.Pivots.{IsEligible, IsExchanged, IsMended, IsPivot, PairFalls, entering, full_cost, price_sum}
 use Rattle.mcf_basis.specs.Pivots.IsMended.{exchanged, kept}
-use Rattle.mcf_basis.specs.Structures.{TreeStructure, CanTake, price_at, reduced_at}
+use Rattle.mcf_basis.specs.Structures.{TreeStructure, CanTake, carried, price_at, reduced_at}
 use Rattle.mcf_basis.proofs.Around.{IsAround, IsLeaving, from_of, left_node, left_steps, right_node, to_of}
 use Rattle.mcf_basis.proofs.Around.IsLeaving.{enter, left, right}
 use Rattle.mcf_basis.proofs.CyclePlaces.{leaving_of_last}
 use Rattle.mcf_basis.proofs.Cycles.{HasTwoEnds, around, two_ends}
 use Rattle.mcf_basis.proofs.LastBases.{zero_or_more}
 use Rattle.mcf_basis.proofs.Pushed.{left_outside, left_step, right_step, step_of}
-use Rattle.mcf_basis.proofs.PushedSums.{entering_cost, entering_low, is_turned, none_turned, not_turned, round_cost, turned_reduced}
+use Rattle.mcf_basis.proofs.PushedSums.{entering_cost, entering_low, none_turned, round_cost, turned_reduced}
 use Rattle.mcf_basis.proofs.StrongKept.{moved_low, strong_up}
 use Rattle.mcf_basis.proofs.TreePrices.{in_tree}
 
 not_above_zero : (b : Bool) (z : ℤ) → z <ℤ pos 0 → when b z ≤ℤ pos 0
-not_above_zero true z h = omega (arith, ints, h)
-not_above_zero false z h = omega (arith, ints)
+not_above_zero b z h = grind (arith, ints)
 
 -- one unit can go along the residual arc that enters
 entering_takes : (b : TreeStructure) (k : ℕ) → IsEligible b k → CanTake b (entering b k) (pos 1)
 entering_takes b k el =
-    let wide = el.wide in
-    elim el.gains [
-      | inl g ↦ (let way : int_lt (pos 0) (reduced_at b k) ≡ false = not_turned (reduced_at b k) g.1 in
-          let none = g.0 in
-          record { forward = λ t own. omega (arith, ints, none, wide); backward = λ t. absurd (both_ways (int_lt (pos 0) (reduced_at b k)) way t) })
-      | inr g ↦ (let way : int_lt (pos 0) (reduced_at b k) ≡ true = is_turned (reduced_at b k) g.1 in
-          let full = g.0 in
-          record { forward = λ t own. absurd (both_ways (int_lt (pos 0) (reduced_at b k)) t way); backward = λ t. omega (arith, ints, full, wide) })
-    ]
+    record {
+      forward = λ t own. takes_forth (carried b k) (arc_at b.net k).cap (reduced_at b k) el.wide el.gains t;
+      backward = λ t. takes_back (carried b k) (arc_at b.net k).cap (reduced_at b k) el.wide el.gains t;
+    }
+  where
+    takes_forth : (a cap z : ℤ) → pos 0 <ℤ cap → ((a ≡ pos 0) × (z <ℤ pos 0)) ⊎ ((a ≡ cap) × (pos 0 <ℤ z)) → int_lt (pos 0) z ≡ false → (a +ℤ pos 1) ≤ℤ cap
+    takes_forth a cap z wide gains t = grind (arith, ints)
+
+    takes_back : (a cap z : ℤ) → pos 0 <ℤ cap → ((a ≡ pos 0) × (z <ℤ pos 0)) ⊎ ((a ≡ cap) × (pos 0 <ℤ z)) → int_lt (pos 0) z ≡ true → pos 1 ≤ℤ a
+    takes_back a cap z wide gains t = grind (arith, ints)
 
 module _ (old new : TreeStructure) (k : ℕ) (moved : ℤ) (ok : IsBasis old) (pivot : IsPivot old k moved new) where
   is_around : IsAround old k pivot.apex

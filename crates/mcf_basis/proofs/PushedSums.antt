@@ -112,8 +112,7 @@ turned_reduced b k true = omega (arith, ints)
 turned_reduced b k false = refl
 
 pub none_turned : (b : Bool) (z : ℤ) → z ≡ pos 0 → cond b (neg_ℤ z) z ≡ pos 0
-none_turned true z e = omega (arith, ints, e)
-none_turned false z e = e
+none_turned b z e = grind (arith, ints)
 
 -- a walk whose cost is the fall of the price
 record IsPricedWalk (b : TreeStructure) (u : ℕ) (arcs : List Rid) (w : ℕ) : Type 0 where

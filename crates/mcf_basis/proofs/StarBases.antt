@@ -1,5 +1,5 @@
 -- The star of the artificial arcs is a basis.
-use Rattle.std.proofs.Common.{◌≡◌, ◌≢◌, ℕ, zero, suc, ◌+◌, ◌-◌, ◌<◌, ◌++◌, inl, inr, true, false, not, eqb, List, [], length, map, take, drop, replicate}
+use Rattle.std.proofs.Common.{◌≡◌, ◌≢◌, ℕ, zero, suc, ◌+◌, ◌-◌, ◌<◌, inl, inr, true, false, not, eqb, List, [], length, map, take, drop, replicate}
 use Rattle.std.proofs.Common.{get_or, refl, sym, ap, ◌∙◌, arith, subst, ℤ, pos, neg_ℤ, ◌+ℤ◌, ◌-ℤ◌, ◌<ℤ◌, length-append}
 use Rattle.std.specs.Prelude.{unsigned_abs, int_le}
 use Rattle.std.specs.List.{All, range_with_len}
@@ -24,7 +24,7 @@ use Rattle.mcf_basis.specs.Starts.{start_amounts, start_price, start_prices}
 use Rattle.mcf_basis.specs.Structures.{TreeStructure, CanTake, IsInTree, carried, full_state, leaving, price_at, reduced_at, up_path}
 use Rattle.mcf_basis.specs.Structures.Joins.{out_of, into}
 use Rattle.mcf_basis.proofs.Flows.{added_arcs, arc_at_place, net_of_zeros, read_added, split_net}
-use Rattle.mcf_basis.proofs.Labels.{added_arc, added_label, label_case, label_count}
+use Rattle.mcf_basis.proofs.Labels.{added_arc, added_label, label_case, label_count, sender_ends, taker_ends}
 use Rattle.mcf_basis.proofs.Labels.LabelCase.{own, added}
 use Rattle.mcf_basis.proofs.LastBases.{node_count_added, size_low, supply_added}
 use Rattle.mcf_basis.proofs.TreeFlows.{single_term}
@@ -35,34 +35,21 @@ below_zero x e = grind (arith, ints)
 size_below : (x : ℤ) → x <ℤ pos 0 → pos (unsigned_abs x) ≡ neg_ℤ x
 size_below x h = grind (arith, ints)
 
--- the ends of an artificial arc
-pub sender_src : (g : Network) (v : ℕ) → is_sender g v ≡ true → (artificial_arc g v).src ≡ v
-sender_src g v e = rw e refl
-
-pub sender_dst : (g : Network) (v : ℕ) → is_sender g v ≡ true → (artificial_arc g v).dst ≡ 0
-sender_dst g v e = rw e refl
-
-pub taker_src : (g : Network) (v : ℕ) → is_sender g v ≡ false → (artificial_arc g v).src ≡ 0
-taker_src g v e = rw e refl
-
-pub taker_dst : (g : Network) (v : ℕ) → is_sender g v ≡ false → (artificial_arc g v).dst ≡ v
-taker_dst g v e = rw e refl
-
 -- an artificial arc has no end at another node
 pub apart_src : (g : Network) (u v : ℕ) → 0 < v → u ≢ v → (artificial_arc g u).src ≢ v
 apart_src g u v up ne q = elim (cases_Bool (is_sender g u)) [
-  | inl e ↦ ne (sym (sender_src g u e) ∙ q)
-  | inr e ↦ (let z : 0 ≡ v = sym (taker_src g u e) ∙ q in omega (arith, z, up))
+  | inl e ↦ ne (sym (sender_ends g u e).0 ∙ q)
+  | inr e ↦ (let z : 0 ≡ v = sym (taker_ends g u e).0 ∙ q in omega (arith, z, up))
 ]
 
 pub apart_dst : (g : Network) (u v : ℕ) → 0 < v → u ≢ v → (artificial_arc g u).dst ≢ v
 apart_dst g u v up ne q = elim (cases_Bool (is_sender g u)) [
-  | inl e ↦ (let z : 0 ≡ v = sym (sender_dst g u e) ∙ q in omega (arith, z, up))
-  | inr e ↦ ne (sym (taker_dst g u e) ∙ q)
+  | inl e ↦ (let z : 0 ≡ v = sym (sender_ends g u e).1 ∙ q in omega (arith, z, up))
+  | inr e ↦ ne (sym (taker_ends g u e).1 ∙ q)
 ]
 
 -- what the artificial arcs carry at the start
-abbrev star_amount : Network → ℕ → ℤ
+abbrev pub star_amount : Network → ℕ → ℤ
 star_amount g u = pos (unsigned_abs (at_node g.supplies u))
 
 abbrev star_flow : Network → List ℤ
@@ -86,17 +73,39 @@ module _ (g : Network) (flow : List ℤ) (count : length flow ≡ node_count g) 
   sender_net e =
       let out = at_end (λ a. a.src) (λ u ne. apart_src g u v h.0 ne) in
       let inn = at_end (λ a. a.dst) (λ u ne. apart_dst g u v h.0 ne) in
-      let s = when-same (artificial_arc g v).src v (get_or flow (v - 1) (pos 0)) (sym (sender_src g v e)) in
-      let d = when-other (artificial_arc g v).dst v (get_or flow (v - 1) (pos 0)) (λ q. (let z : v ≡ 0 = q ∙ sender_dst g v e in omega (arith, z, h))) in
+      let s = when-same (artificial_arc g v).src v (get_or flow (v - 1) (pos 0)) (sym (sender_ends g v e).0) in
+      let d = when-other (artificial_arc g v).dst v (get_or flow (v - 1) (pos 0)) (λ q. (let z : v ≡ 0 = q ∙ (sender_ends g v e).1 in omega (arith, z, h))) in
       omega (arith, ints, out, inn, s, d)
 
   pub taker_net : is_sender g v ≡ false → net (added_arcs g) flow v ≡ neg_ℤ (get_or flow (v - 1) (pos 0))
   taker_net e =
       let out = at_end (λ a. a.src) (λ u ne. apart_src g u v h.0 ne) in
       let inn = at_end (λ a. a.dst) (λ u ne. apart_dst g u v h.0 ne) in
-      let s = when-other (artificial_arc g v).src v (get_or flow (v - 1) (pos 0)) (λ q. (let z : v ≡ 0 = q ∙ taker_src g v e in omega (arith, z, h))) in
-      let d = when-same (artificial_arc g v).dst v (get_or flow (v - 1) (pos 0)) (sym (taker_dst g v e)) in
+      let s = when-other (artificial_arc g v).src v (get_or flow (v - 1) (pos 0)) (λ q. (let z : v ≡ 0 = q ∙ (taker_ends g v e).0 in omega (arith, z, h))) in
+      let d = when-same (artificial_arc g v).dst v (get_or flow (v - 1) (pos 0)) (sym (taker_ends g v e).1) in
       omega (arith, ints, out, inn, s, d)
+
+-- by their places among the amounts of the start
+pub start_own : (g : Network) (i : ℕ) → i < length g.arcs → get_or (start_amounts g) i (pos 0) ≡ pos 0
+start_own g i h =
+    let n = length-replicate (length g.arcs) (pos 0) in
+    get_or_append_left (replicate (length g.arcs) (pos 0)) (star_flow g) (pos 0) i (omega (arith, n, h))
+    ∙ get_or-replicate (length g.arcs) i (pos 0) (pos 0) h
+
+pub start_added : (g : Network) (v i : ℕ) → IsNode (node_count g) v → i + 1 ≡ length g.arcs + v → get_or (start_amounts g) i (pos 0) ≡ star_amount g v
+start_added g v i h e =
+    let n = length-replicate (length g.arcs) (pos 0) in
+    let place : i ≡ length (replicate (length g.arcs) (pos 0)) + (v - 1) = omega (arith, n, e, h) in
+    ap (λ j. get_or (start_amounts g) j (pos 0)) place
+    ∙ (get_or-append-add (replicate (length g.arcs) (pos 0)) (star_flow g) (v - 1) (pos 0)
+    ∙ get_or-map-range_with_len (star_amount g) 1 (node_count g) (v - 1) v (pos 0) (omega arith) (omega arith))
+
+pub start_count : (g : Network) → length (start_amounts g) ≡ length g.arcs + node_count g
+start_count g =
+    let all = length-append (replicate (length g.arcs) (pos 0)) (star_flow g) in
+    let own = length-replicate (length g.arcs) (pos 0) in
+    let added = length-map-range_with_len (star_amount g) 1 (node_count g) in
+    omega (arith, all, own, added)
 
 -- the star with these amounts and prices is a basis
 module _ (b : TreeStructure) (ok : IsNet b.net) (spanning : IsSpanning b.tree) (star : IsStar b.tree (node_count b.net) (length b.net.arcs))
@@ -111,20 +120,10 @@ module _ (b : TreeStructure) (ok : IsNet b.net) (spanning : IsSpanning b.tree) (
   star_arc v h = added_arc b.net v (label_of b.tree v) h (star_label v h)
 
   own_empty : (i : ℕ) → i < length b.net.arcs → get_or b.amounts i (pos 0) ≡ pos 0
-  own_empty i h =
-      let n = length-replicate (length b.net.arcs) (pos 0) in
-      ap (λ xs. get_or xs i (pos 0)) amounts
-      ∙ (get_or_append_left (replicate (length b.net.arcs) (pos 0)) (star_flow b.net) (pos 0) i (omega (arith, n, h))
-      ∙ get_or-replicate (length b.net.arcs) i (pos 0) (pos 0) h)
+  own_empty i h = ap (λ xs. get_or xs i (pos 0)) amounts ∙ start_own b.net i h
 
   added_amount : (v label : ℕ) → IsNode (node_count b.net) v → label ≡ length b.net.arcs + v → carried b label ≡ star_amount b.net v
-  added_amount v label h e =
-      let n = length-replicate (length b.net.arcs) (pos 0) in
-      let place : label - 1 ≡ length (replicate (length b.net.arcs) (pos 0)) + (v - 1) = omega (arith, n, e, h) in
-      ap (λ xs. get_or xs (label - 1) (pos 0)) amounts
-      ∙ (ap (λ i. get_or (replicate (length b.net.arcs) (pos 0) ++ star_flow b.net) i (pos 0)) place
-      ∙ (get_or-append-add (replicate (length b.net.arcs) (pos 0)) (star_flow b.net) (v - 1) (pos 0)
-      ∙ get_or-map-range_with_len (λ u. pos (unsigned_abs (at_node b.net.supplies u))) 1 (node_count b.net) (v - 1) v (pos 0) (omega arith) (omega arith)))
+  added_amount v label h e = ap (λ xs. get_or xs (label - 1) (pos 0)) amounts ∙ start_added b.net v (label - 1) h (omega (arith, e, h))
 
   node_start_price : (v : ℕ) → IsNode (node_count b.net) v → price_at b v ≡ start_price b.net v
   node_start_price v h = ap (λ xs. get_or xs v (pos 0)) prices ∙ later v h
@@ -143,8 +142,8 @@ module _ (b : TreeStructure) (ok : IsNet b.net) (spanning : IsSpanning b.tree) (
       record {
         label = subst (IsLabel b.net) (sym (star_label v h)) (added_label b.net v h);
         joins = elim (cases_Bool (is_sender b.net v)) [
-          | inl e ↦ out_of (ap (λ a. a.src) arc ∙ sender_src b.net v e) (ap (λ a. a.dst) arc ∙ (sender_dst b.net v e ∙ sym up))
-          | inr e ↦ into (ap (λ a. a.src) arc ∙ (taker_src b.net v e ∙ sym up)) (ap (λ a. a.dst) arc ∙ taker_dst b.net v e)
+          | inl e ↦ out_of (ap (λ a. a.src) arc ∙ (sender_ends b.net v e).0) (ap (λ a. a.dst) arc ∙ ((sender_ends b.net v e).1 ∙ sym up))
+          | inr e ↦ into (ap (λ a. a.src) arc ∙ ((taker_ends b.net v e).0 ∙ sym up)) (ap (λ a. a.dst) arc ∙ (taker_ends b.net v e).1)
         ];
       }
 
@@ -155,12 +154,12 @@ module _ (b : TreeStructure) (ok : IsNet b.net) (spanning : IsSpanning b.tree) (
       let root = root_start_price in
       let here = node_start_price v h in
       elim (cases_Bool (is_sender b.net v)) [
-        | inl e ↦ (let s = ap (price_at b) (sender_src b.net v e) in
-            let d = ap (price_at b) (sender_dst b.net v e) in
+        | inl e ↦ (let s = ap (price_at b) (sender_ends b.net v e).0 in
+            let d = ap (price_at b) (sender_ends b.net v e).1 in
             let p : start_price b.net v ≡ pos (artificial_cost b.net) = rw e refl in
             omega (arith, ints, cut, root, here, s, d, p))
-        | inr e ↦ (let s = ap (price_at b) (taker_src b.net v e) in
-            let d = ap (price_at b) (taker_dst b.net v e) in
+        | inr e ↦ (let s = ap (price_at b) (taker_ends b.net v e).0 in
+            let d = ap (price_at b) (taker_ends b.net v e).1 in
             let p : start_price b.net v ≡ neg_ℤ (pos (artificial_cost b.net)) = rw e refl in
             omega (arith, ints, cut, root, here, s, d, p))
       ]
@@ -174,13 +173,7 @@ module _ (b : TreeStructure) (ok : IsNet b.net) (spanning : IsSpanning b.tree) (
   }
 
   star_amount_count : length b.amounts ≡ length (with_artificial b.net).arcs
-  star_amount_count =
-      let l : length b.amounts ≡ length (start_amounts b.net) = ap length amounts in
-      let a = length-append (replicate (length b.net.arcs) (pos 0)) (star_flow b.net) in
-      let r = length-replicate (length b.net.arcs) (pos 0) in
-      let n = length-map-range_with_len (λ u. pos (unsigned_abs (at_node b.net.supplies u))) 1 (node_count b.net) in
-      let count = label_count b.net in
-      omega (arith, l, a, r, n, count)
+  star_amount_count = ap length amounts ∙ (start_count b.net ∙ sym (label_count b.net))
 
   star_held : (label : ℕ) → IsLabel b.net label → CanHold b.net label (carried b label)
   star_held label h = elim (label_case b.net label h) [
@@ -234,7 +227,7 @@ module _ (b : TreeStructure) (ok : IsNet b.net) (spanning : IsSpanning b.tree) (
         backward = λ back. (let amount = added_amount v (label_of b.tree v) h (star_label v h) in
             elim (cases_Bool (is_sender b.net v)) [
               | inl e ↦ absurd (let src : (arc_at (with_artificial b.net) (label_of b.tree v)).src ≡ v =
-                  ap (λ a. a.src) (star_arc v h) ∙ sender_src b.net v e in
+                  ap (λ a. a.src) (star_arc v h) ∙ (sender_ends b.net v e).0 in
                   true≢false (sym back ∙ ap not (eq-eqb _ _ src)))
               | inr e ↦ (let size = size_below (at_node b.net.supplies v) (below_zero (at_node b.net.supplies v) e) in
                   let low = below_zero (at_node b.net.supplies v) e in

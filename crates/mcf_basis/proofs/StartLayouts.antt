@@ -1,11 +1,11 @@
 -- The star of the artificial arcs, as it is stored.
 use Rattle.std.proofs.Common.{◌≡◌, ℕ, zero, suc, ◌+◌, ◌-◌, ◌<◌, ◌≤◌, ◌++◌, inl, inr, Bool, true, false, eqb, cond, List, [], ◌∷◌, length, map, take}
-use Rattle.std.proofs.Common.{replicate, get_or, refl, sym, ap, ◌∙◌, arith, ℤ, pos, ◌<ℤ◌, ◌≤ℤ◌, length-append}
+use Rattle.std.proofs.Common.{get_or, refl, sym, ap, ◌∙◌, arith, ℤ, pos, ◌<ℤ◌, ◌≤ℤ◌}
 use Rattle.std.specs.Prelude.{if◌then◌else◌, int_lt, max, sum, unsigned_abs}
 use Rattle.std.specs.List.{range_with_len}
 use Rattle.std.proofs.lemmas.Int.{ints}
 use Rattle.std.proofs.lemmas.Bool.{cases_Bool, cases_lt, cond-true, cond-false, eq-eqb}
-use Rattle.std.proofs.lemmas.List.{ext_get_or, get_or_append_left, get_or-append-add, get_or-replicate, length-replicate}
+use Rattle.std.proofs.lemmas.List.{ext_get_or}
 use Rattle.std.proofs.lemmas.List.FromFn.{get_or-map-range_with_len, length-map-range_with_len, map-range_with_len_more}
 use Rattle.mcf_flows.specs.declared.arc.Arc.{Arc}
 use Rattle.mcf_flows.specs.Network.{Network, IsArcNumber, IsNode, at_node, node_count}
@@ -24,7 +24,8 @@ use Rattle.mcf_basis.specs.Private.Layouts.{forward_offer, no_offer, no_residual
 use Rattle.mcf_basis.specs.Private.Layouts.IsOffer.{closed, forward}
 use Rattle.mcf_basis.specs.Ranks.{greatest_cost}
 use Rattle.mcf_basis.specs.Starts.{IsStart, start_amounts}
-use Rattle.mcf_basis.proofs.StarBases.{star_is_basis}
+use Rattle.mcf_basis.proofs.StarBases.{star_is_basis, start_added, start_count, start_own}
+pub use Rattle.mcf_basis.proofs.StarBases.{star_amount}
 use Rattle.mcf_basis.proofs.Views.{amount_added, amount_none}
 
 -- ---- lists that are made entry by entry
@@ -81,9 +82,6 @@ star_offer g k = if int_lt (pos 0) (arc_at g k).cap then forward_offer g k else 
 
 abbrev pub star_residuals : Network → ℕ → Residuals
 star_residuals g v = artificial_residuals (is_sender g v) (unsigned_abs (at_node g.supplies v))
-
-abbrev pub star_amount : Network → ℕ → ℤ
-star_amount g v = pos (unsigned_abs (at_node g.supplies v))
 
 pub record IsStarStored (l : Layout) : Type 0 where
   pub of_net : IsNet l.net
@@ -148,34 +146,14 @@ module _ (l : Layout) (s : IsStarStored l) where
   amounts_are : map (amount_in l) (range_with_len 1 (length l.net.arcs + node_count l.net)) ≡ start_amounts l.net
   amounts_are =
       let all = length-map-range_with_len (amount_in l) 1 (length l.net.arcs + node_count l.net) in
-      let own = length-replicate (length l.net.arcs) (pos 0) in
-      let added = length-map-range_with_len (star_amount l.net) 1 (node_count l.net) in
-      let both = length-append (replicate (length l.net.arcs) (pos 0)) (map (star_amount l.net) (range_with_len 1 (node_count l.net))) in
-      ext_get_or (pos 0) (map (amount_in l) (range_with_len 1 (length l.net.arcs + node_count l.net))) (start_amounts l.net)
-      (omega (arith, all, own, added, both))
-      (λ i h. elim (cases_lt i (length l.net.arcs)) [
-        | inl lt ↦ (let k : IsArcNumber l.net (i + 1) = (omega arith, omega arith) in
-            get_or-map-range_with_len (amount_in l) 1 (length l.net.arcs + node_count l.net) i (i + 1) (pos 0) (omega (arith, all, h)) (omega arith)
-            ∙ (own_part (i + 1) k ∙ sym (left_part i lt)))
+      ext_get_or (pos 0) (map (amount_in l) (range_with_len 1 (length l.net.arcs + node_count l.net))) (start_amounts l.net) (all ∙ sym (start_count l.net))
+      (λ i h. get_or-map-range_with_len (amount_in l) 1 (length l.net.arcs + node_count l.net) i (i + 1) (pos 0) (omega (arith, all, h)) (omega arith)
+      ∙ elim (cases_lt i (length l.net.arcs)) [
+        | inl lt ↦ (let k : IsArcNumber l.net (i + 1) = (omega arith, omega arith) in own_part (i + 1) k ∙ sym (start_own l.net i lt))
         | inr ge ↦ (let v : IsNode (node_count l.net) (i + 1 - length l.net.arcs) = (omega arith, omega (arith, all, h)) in
-            get_or-map-range_with_len (amount_in l) 1 (length l.net.arcs + node_count l.net) i (i + 1) (pos 0) (omega (arith, all, h)) (omega arith)
-            ∙ (added_part (i + 1 - length l.net.arcs) (i + 1) v (omega (arith, ge)) ∙ sym (right_part i (i + 1 - length l.net.arcs) v (omega (arith, ge)))))
+            let e : i + 1 ≡ length l.net.arcs + (i + 1 - length l.net.arcs) = omega (arith, ge) in
+            added_part (i + 1 - length l.net.arcs) (i + 1) v e ∙ sym (start_added l.net (i + 1 - length l.net.arcs) i v e))
       ])
-    where
-      left_part : (i : ℕ) → i < length l.net.arcs → get_or (start_amounts l.net) i (pos 0) ≡ pos 0
-      left_part i lt =
-          let own = length-replicate (length l.net.arcs) (pos 0) in
-          get_or_append_left (replicate (length l.net.arcs) (pos 0)) (map (star_amount l.net) (range_with_len 1 (node_count l.net))) (pos 0) i
-          (omega (arith, own, lt)) ∙ get_or-replicate (length l.net.arcs) i (pos 0) (pos 0) lt
-
-      right_part : (i v : ℕ) → IsNode (node_count l.net) v → i + 1 ≡ length l.net.arcs + v
-          → get_or (start_amounts l.net) i (pos 0) ≡ star_amount l.net v
-      right_part i v h e =
-          let own = length-replicate (length l.net.arcs) (pos 0) in
-          let place : i ≡ length (replicate (length l.net.arcs) (pos 0)) + (v - 1) = omega (arith, own, e, h) in
-          ap (λ j. get_or (start_amounts l.net) j (pos 0)) place
-          ∙ (get_or-append-add (replicate (length l.net.arcs) (pos 0)) (map (star_amount l.net) (range_with_len 1 (node_count l.net))) (v - 1) (pos 0)
-          ∙ get_or-map-range_with_len (star_amount l.net) 1 (node_count l.net) (v - 1) v (pos 0) (omega arith) (omega arith))
 
   star_basis : IsBasis (basis_in l)
   unfolding basis_in

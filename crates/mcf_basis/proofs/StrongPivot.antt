@@ -33,6 +33,10 @@ step_at ps d t v n p h short lt =
     let within : climb ps p v < length ps = climb-within ps d t p v h in
     record { above = above_root ps d t (climb ps p v) (omega arith); within = within; deep = deep }
 
+-- a node isn't its own parent
+pub parent_apart : (ps : List ℕ) (d : ℕ → ℕ) → IsRooted ps d → (v : ℕ) → 0 < v → v < length ps → v ≢ slice_index ps v
+parent_apart ps d t v p h e = (let f : d v ≡ d (slice_index ps v) + 1 = t.falls v p h in let q : d v ≡ d (slice_index ps v) = ap d e in omega arith)
+
 -- an arc of the tree is that of one node alone
 pub labels_apart : (g : Arcs) (ps ls : List ℕ) (d : ℕ → ℕ) → IsTreeOf g ps ls d → (u v : ℕ) → 0 < u → u < length ps → 0 < v → v < length ps → u ≢ v
     → slice_index ls u ≢ slice_index ls v
@@ -59,16 +63,19 @@ same_node g ps ls d t u v pu hu pv hv e = elim (cases_eq u v) [
   | inr ne ↦ absurd (labels_apart g ps ls d t u v pu hu pv hv ne e)
 ]
 
--- what holds of the label, the node and the parent of each arc of a turned tree: of the entering
--- arc at inner, of an arc of the stretch with its ends exchanged, and of any other
-pub each_turned : (ps ls qs ms : List ℕ) (d : ℕ → ℕ) (enter inner outer m : ℕ) → IsRooted ps d → inner < length ps → m ≤ d inner
-    → IsTurned ps qs d (climb ps m inner) inner outer → IsRelabelled ps ls ms d (climb ps m inner) enter inner → (R : ℕ → ℕ → ℕ → Type 0) (v : ℕ)
-    → R enter inner outer → ((k : ℕ) → k < m → R (slice_index ls (climb ps k inner)) (slice_index ps (climb ps k inner)) (climb ps k inner))
-    → (((k : ℕ) → k ≤ m → v ≢ climb ps k inner) → R (slice_index ls v) v (slice_index ps v)) → R (slice_index ms v) v (slice_index qs v)
-each_turned ps ls qs ms d enter inner outer m rooted in_range short turned relabelled R v first stretch rest =
+-- what holds of each node with its label and its entry of a column, after labels and column moved
+-- along the stretch of a turned tree: of the entering arc at inner, of an arc of the stretch at its
+-- upper end, and of any other
+pub each_moved : {X : Type 0} (ps ls ms : List ℕ) (d : ℕ → ℕ) (enter inner m : ℕ) (old new : ℕ → X) (first : X) (next : ℕ → X) → IsRooted ps d
+    → inner < length ps → m ≤ d inner → IsRelabelled ps ls ms d (climb ps m inner) enter inner → new inner ≡ first
+    → ((k : ℕ) → k < d inner - d (climb ps m inner) → new (climb ps (k + 1) inner) ≡ next k)
+    → ((v : ℕ) → ((k : ℕ) → k ≤ d inner - d (climb ps m inner) → v ≢ climb ps k inner) → new v ≡ old v) → (R : ℕ → ℕ → X → Type 0) (v : ℕ)
+    → R enter inner first → ((k : ℕ) → k < m → R (slice_index ls (climb ps k inner)) (slice_index ps (climb ps k inner)) (next k))
+    → (((k : ℕ) → k ≤ m → v ≢ climb ps k inner) → R (slice_index ls v) v (old v)) → R (slice_index ms v) v (new v)
+each_moved ps ls ms d enter inner m old new first next rooted in_range short relabelled joined moved kept R v at_inner stretch rest =
     elim (cases_walk ps inner (m + 1) v) [
       | inl w ↦ on_stretch w.at w.short w.leads
-      | inr off ↦ rw (relabelled.kept v (λ k le. off k (inside k le)), turned.kept v (λ k le. off k (inside k le))) (rest (λ k le. off k (omega arith)))
+      | inr off ↦ rw (relabelled.kept v (λ k le. off k (inside k le)), kept v (λ k le. off k (inside k le))) (rest (λ k le. off k (omega arith)))
     ]
   where
     length_is : d inner - d (climb ps m inner) ≡ m
@@ -77,23 +84,29 @@ each_turned ps ls qs ms d enter inner outer m rooted in_range short turned relab
     inside : (k : ℕ) → k ≤ d inner - d (climb ps m inner) → k < m + 1
     inside = λ k le. (let e = length_is in omega (arith, e, le))
 
-    on_stretch : (k : ℕ) → k < m + 1 → v ≡ climb ps k inner → R (slice_index ms v) v (slice_index qs v)
-    on_stretch zero h p = rw (ap (slice_index ms) p ∙ relabelled.joined, ap (slice_index qs) p ∙ turned.joined, p) first
+    on_stretch : (k : ℕ) → k < m + 1 → v ≡ climb ps k inner → R (slice_index ms v) v (new v)
+    on_stretch zero h p = rw (ap (slice_index ms) p ∙ relabelled.joined, ap new p ∙ joined, p) at_inner
     on_stretch (suc k) h p =
         let e = length_is in
-        let next : suc k ≡ k + 1 = omega arith in
-        let here : v ≡ climb ps (k + 1) inner = p ∙ ap (λ i. climb ps i inner) next in
+        let next_place : suc k ≡ k + 1 = omega arith in
+        let here : v ≡ climb ps (k + 1) inner = p ∙ ap (λ i. climb ps i inner) next_place in
         let label : slice_index ms v ≡ slice_index ls (climb ps k inner) = ap (slice_index ms) here ∙ relabelled.turned k (omega (arith, e, h)) in
-        let parent : slice_index qs v ≡ climb ps k inner = ap (slice_index qs) here ∙ turned.turned k (omega (arith, e, h)) in
+        let entry : new v ≡ next k = ap new here ∙ moved k (omega (arith, e, h)) in
         let up : v ≡ slice_index ps (climb ps k inner) = p ∙ climb-suc ps k inner in
-        rw (label, parent, up) (stretch k (omega arith))
+        rw (label, entry, up) (stretch k (omega arith))
+
+-- and so of the label, the node and its parent
+pub each_turned : (ps ls qs ms : List ℕ) (d : ℕ → ℕ) (enter inner outer m : ℕ) → IsRooted ps d → inner < length ps → m ≤ d inner
+    → IsTurned ps qs d (climb ps m inner) inner outer → IsRelabelled ps ls ms d (climb ps m inner) enter inner → (R : ℕ → ℕ → ℕ → Type 0) (v : ℕ)
+    → R enter inner outer → ((k : ℕ) → k < m → R (slice_index ls (climb ps k inner)) (slice_index ps (climb ps k inner)) (climb ps k inner))
+    → (((k : ℕ) → k ≤ m → v ≢ climb ps k inner) → R (slice_index ls v) v (slice_index ps v)) → R (slice_index ms v) v (slice_index qs v)
+each_turned ps ls qs ms d enter inner outer m rooted in_range short turned relabelled =
+    each_moved ps ls ms d enter inner m (slice_index ps) (slice_index qs) outer (λ k. climb ps k inner) rooted in_range short relabelled
+    turned.joined turned.turned turned.kept
 
 module _ (g : Arcs) (ps ls : List ℕ) (d : ℕ → ℕ) (old new : ℕ → ℤ) (enter a b i j : ℕ) (delta : ℤ)
     (tree : IsTreeOf g ps ls d) (cycle : IsCycle g ps ls d enter a b i j) (push : IsPushed g ps ls old new enter a b i j delta)
     (fits : (arc : ℕ) → IsWithin (g.limit arc) (old arc)) (low : (arc : ℕ) → pos 0 ≤ℤ old arc) (strong : HasRoomUp g ps ls old) where
-  parent_apart : (v : ℕ) → 0 < v → v < length ps → slice_index ps v ≢ v
-  parent_apart v p h e = (let f : d v ≡ d (slice_index ps v) + 1 = tree.rooted.falls v p h in let q : d (slice_index ps v) ≡ d v = ap d e in omega arith)
-
   left_at : (k : ℕ) → k < i → IsStep ps d a k
   left_at k lt = step_at ps d tree.rooted a i k cycle.left_in_range cycle.left_short lt
 
@@ -111,7 +124,7 @@ module _ (g : Arcs) (ps ls : List ℕ) (d : ℕ → ℕ) (old new : ℕ → ℤ)
   kept_left k lt =
       let w = left_at k lt in
       CanLeave-kept g old new (slice_index ls (climb ps k a)) (slice_index ps (climb ps k a)) (climb ps k a) delta
-      (parent_apart (climb ps k a) w.above w.within) (left_joins k lt) (push.left k lt) push.some (strong.room (climb ps k a) w.above w.within)
+      (λ e. parent_apart ps d tree.rooted (climb ps k a) w.above w.within (sym e)) (left_joins k lt) (push.left k lt) push.some (strong.room (climb ps k a) w.above w.within)
 
   -- where an arc up from b doesn't block, its node keeps room
   kept_right : (k : ℕ) → k < j → CanLeave g old (slice_index ls (climb ps k b)) (climb ps k b) (delta +ℤ pos 1)
@@ -119,7 +132,7 @@ module _ (g : Arcs) (ps ls : List ℕ) (d : ℕ → ℕ) (old new : ℕ → ℤ)
   kept_right k lt room =
       let w = right_at k lt in
       CanLeave-more g old new (slice_index ls (climb ps k b)) (climb ps k b) (slice_index ps (climb ps k b)) delta
-      (λ e. parent_apart (climb ps k b) w.above w.within (sym e)) (tree.joined (climb ps k b) w.above w.within) (push.right k lt) room
+      (parent_apart ps d tree.rooted (climb ps k b) w.above w.within) (tree.joined (climb ps k b) w.above w.within) (push.right k lt) room
 
   kept_other : (v : ℕ) → 0 < v → v < length ps → ((k : ℕ) → k < i → v ≢ climb ps k a) → ((k : ℕ) → k < j → v ≢ climb ps k b)
       → CanLeave g new (slice_index ls v) v (pos 1)
@@ -158,7 +171,7 @@ module _ (g : Arcs) (ps ls : List ℕ) (d : ℕ → ℕ) (old new : ℕ → ℤ)
         (λ k lt. (let w = right_at k (omega arith) in
         CanLeave-le g new (slice_index ls (climb ps k b)) (slice_index ps (climb ps k b)) (pos 1) delta positive
         (CanLeave-back g old new (slice_index ls (climb ps k b)) (climb ps k b) (slice_index ps (climb ps k b)) delta
-        (λ q. parent_apart (climb ps k b) w.above w.within (sym q)) (tree.joined (climb ps k b) w.above w.within) (push.right k (omega arith))
+        (parent_apart ps d tree.rooted (climb ps k b) w.above w.within) (tree.joined (climb ps k b) w.above w.within) (push.right k (omega arith))
         (fits (slice_index ls (climb ps k b))) (low (slice_index ls (climb ps k b))))))
         (λ off. kept v p (omega arith) (λ k lt e. elim (cases_lt m k) [
           | inl beyond ↦ room k beyond lt
@@ -178,7 +191,7 @@ module _ (g : Arcs) (ps ls : List ℕ) (d : ℕ → ℕ) (old new : ℕ → ℤ)
         (CanLeave-more g old new enter a b delta cycle.apart cycle.joined push.entering room_entering)
         (λ k lt. (let w = left_at k (omega arith) in
         CanLeave-more g old new (slice_index ls (climb ps k a)) (slice_index ps (climb ps k a)) (climb ps k a) delta
-        (parent_apart (climb ps k a) w.above w.within) (left_joins k (omega arith)) (push.left k (omega arith)) (room_left k lt)))
+        (λ e. parent_apart ps d tree.rooted (climb ps k a) w.above w.within (sym e)) (left_joins k (omega arith)) (push.left k (omega arith)) (room_left k lt)))
         (λ off. kept v p (omega arith) (λ k lt e. room_right k lt)));
   }
 

@@ -4,12 +4,13 @@ use Rattle.std.proofs.Common.{◌≡◌, ◌≢◌, ℕ, zero, suc, ◌+◌, ◌
 use Rattle.std.proofs.Common.{ℤ, pos, ◌-ℤ◌}
 use Rattle.std.proofs.lemmas.Int.{ints}
 use Rattle.std.proofs.lemmas.Bool.{cases_eq}
+use Rattle.std.proofs.lemmas.Bool.Decides.{nat_tests}
 use Rattle.mcf_flows.specs.declared.arc.Arc.{Arc}
 use Rattle.mcf_flows.specs.Network.{IsArcNumber, IsNode, flow_sum, node_count, when}
 use Rattle.mcf_network.specs.Nets.{IsNetArc}
 use Rattle.mcf_network.specs.Residual.{no_arc, arc_at}
 use Rattle.mcf_network.proofs.ArcLaws.{net_arc_at}
-use Rattle.mcf_network.proofs.StateLaws.{when-same, when-other, when-zero}
+use Rattle.mcf_network.proofs.StateLaws.{when-other, when-zero}
 use Rattle.mcf_links.proofs.Depths.{depth-lt}
 use Rattle.mcf_tree.specs.SpanningTree.{depth_of, label_of, parent_of, size_of}
 use Rattle.mcf_basis.specs.Bases.{IsBasis}
@@ -19,6 +20,7 @@ use Rattle.mcf_basis.specs.Structures.Joins.{out_of, into}
 use Rattle.mcf_network.specs.TreeSolutions.{IsFreeCirculation, at_arc}
 use Rattle.mcf_basis.proofs.Flows.{own_carried, zero_terms}
 use Rattle.mcf_basis.proofs.Labels.{cases_in_tree, own_arc, own_label}
+use Rattle.mcf_basis.proofs.StrongPivot.{parent_apart}
 use Rattle.mcf_basis.proofs.TreePrices.{in_tree}
 
 -- a sum over the arcs of which one term alone isn't 0
@@ -45,14 +47,7 @@ elsewhere v a f s d = (when-other a.src v f (λ q. s (sym q)), when-other a.dst 
 -- an arc between v and another node alone makes the net at v: it carries 0 where that is 0
 alone : (v p : ℕ) (a : Arc) (f : ℤ) → v ≢ p → ((a.src ≡ v) × (a.dst ≡ p)) ⊎ ((a.src ≡ p) × (a.dst ≡ v)) → when (eqb a.src v) f -ℤ when (eqb a.dst v) f ≡ pos 0
     → f ≡ pos 0
-alone v p a f ne (inl ends) e =
-    let s : when (eqb a.src v) f ≡ f = when-same a.src v f (sym ends.0) in
-    let d : when (eqb a.dst v) f ≡ pos 0 = when-other a.dst v f (λ q. ne (q ∙ ends.1)) in
-    omega (arith, ints, s, d, e)
-alone v p a f ne (inr ends) e =
-    let s : when (eqb a.src v) f ≡ pos 0 = when-other a.src v f (λ q. ne (q ∙ ends.0)) in
-    let d : when (eqb a.dst v) f ≡ f = when-same a.dst v f (sym ends.1) in
-    omega (arith, ints, s, d, e)
+alone v p a f ne ends e = grind (arith, ints, nat_tests)
 
 module _ (b : TreeStructure) (ok : IsBasis b) (z : List ℤ) (free : IsFreeCirculation b.net (state_of b).amounts z) where
   -- the ends of an arc of the tree that is one of the net
@@ -81,9 +76,7 @@ module _ (b : TreeStructure) (ok : IsBasis b) (z : List ℤ) (free : IsFreeCircu
   from_the_leaves zero v h deep own = absurd (let s = depth-lt b.tree.parents (depth_of b.tree) ok.spanning.rooted v (in_tree b ok v h.1) in omega
       (arith, s, deep))
   from_the_leaves (suc j) v h deep own =
-      let falls : depth_of b.tree v ≡ depth_of b.tree (parent_of b.tree v) + 1 = ok.spanning.rooted.falls v (omega arith) (in_tree b ok v h.1) in
-      let apart : v ≢ parent_of b.tree v = (λ q. (let e : depth_of b.tree v ≡ depth_of b.tree (parent_of b.tree v) =
-      ap (depth_of b.tree) q in omega (arith, e, falls))) in
+      let apart = parent_apart b.tree.parents (depth_of b.tree) ok.spanning.rooted v h.0 (in_tree b ok v h.1) in
       let term = other_term j v h deep (λ u hu du ou. from_the_leaves j u hu du ou) in
       let out : flow_sum (λ a f. when (eqb a.src v) f) b.net.arcs z ≡ when (eqb (arc_at b.net (label_of b.tree v)).src v) (at_arc z (label_of b.tree v)) =
       single_term (λ a f. when (eqb a.src v) f) b.net.arcs z (label_of b.tree v - 1) free.one_per_arc (omega arith) (λ i l ne. (term i l ne).0) in
