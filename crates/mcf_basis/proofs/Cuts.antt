@@ -33,7 +33,6 @@ use Rattle.mcf_basis.specs.Laws.{HasNoArtificial}
 use Rattle.mcf_basis.specs.Structures.{TreeStructure, Joins, carried, price_at, reduced_at, state_of}
 use Rattle.mcf_basis.specs.Violations.{HasNoEligible}
 use Rattle.mcf_basis.proofs.Cycles.{tree_of}
-use Rattle.mcf_basis.proofs.Around.{arcs_of}
 use Rattle.mcf_basis.proofs.Flows.{added_arcs, amount_count, read_added, rest_count, split_net}
 use Rattle.mcf_basis.proofs.Labels.{added_arc, added_label, cases_in_tree, inner_arc, own_arc, own_label, sender_ends, taker_ends}
 use Rattle.mcf_basis.proofs.LastBases.{each_own, empty_above, full_below, node_count_added, supply_added, zero_or_more}
@@ -212,7 +211,7 @@ module _ (b : TreeStructure) (ok : IsBasis b) where
       let other = own_at v j hv lj in
       let one = at u i hu (omega arith) in
       let two = at v j hv (omega arith) in
-      labels_apart (arcs_of b.net) ps b.tree.labels (depth_of b.tree) (tree_of b ok) (climb ps i u) (climb ps j v)
+      labels_apart (tree_of b ok) (climb ps i u) (climb ps j v)
       one.above one.within two.above two.within ne (omega (arith, own, other, e))
 
   own_apart : (v i j : ℕ) → v ≤ node_count b.net → i < j → suc j < depth v → place_of b v i ≢ place_of b v j

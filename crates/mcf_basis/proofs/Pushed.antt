@@ -170,8 +170,7 @@ module _ (b : TreeStructure) (k apex : ℕ) (ok : IsBasis b) (el : IsEligible b 
   labels_differ : (u v p q : ℕ) → IsStep b.tree.parents (depth_of b.tree) u p → IsStep b.tree.parents (depth_of b.tree) v q
       → climb b.tree.parents p u ≢ climb b.tree.parents q v → label_of b.tree (climb b.tree.parents p u) ≢ label_of b.tree (climb b.tree.parents q v)
   labels_differ u v p q one two =
-      labels_apart (arcs_of b.net) b.tree.parents b.tree.labels (depth_of b.tree) around.tree
-      (climb b.tree.parents p u) (climb b.tree.parents q v) one.above one.within two.above two.within
+      labels_apart around.tree (climb b.tree.parents p u) (climb b.tree.parents q v) one.above one.within two.above two.within
 
   path_differs : (u p q : ℕ) → IsStep b.tree.parents (depth_of b.tree) u p → IsStep b.tree.parents (depth_of b.tree) u q → p ≢ q
       → label_of b.tree (climb b.tree.parents p u) ≢ label_of b.tree (climb b.tree.parents q u)
@@ -185,7 +184,7 @@ module _ (b : TreeStructure) (k apex : ℕ) (ok : IsBasis b) (el : IsEligible b 
       → label_of b.tree (climb b.tree.parents p v) ≡ label_of b.tree u → u ≡ climb b.tree.parents p v
   step_of v p u w node e =
       let size : length b.tree.parents ≡ node_count b.net + 1 = ok.size in
-      same_node (arcs_of b.net) b.tree.parents b.tree.labels (depth_of b.tree) around.tree u (climb b.tree.parents p v)
+      same_node around.tree u (climb b.tree.parents p v)
       (omega (arith, node)) (omega (arith, node, size)) w.above w.within (sym e)
 
   pub left_outside : (p : ℕ) → p < left_steps b k apex → label_of b.tree (left_node b k p) ≢ k

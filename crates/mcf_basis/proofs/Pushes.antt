@@ -66,26 +66,26 @@ IsWithin-le None m n h p = tt
 IsWithin-le (Some w) m n h p = omega (arith, ints, h, p)
 
 -- an end that isn't the tail is the head
-pub other_end : (g : Arcs) (arc u v : ℕ) → JoinsEnds g arc u v → g.tail arc ≢ v → g.tail arc ≡ u
-other_end g arc u v (out_of t h) ne = t
-other_end g arc u v (into t h) ne = absurd (ne t)
+pub other_end : {g : Arcs} {arc u v : ℕ} → JoinsEnds g arc u v → g.tail arc ≢ v → g.tail arc ≡ u
+other_end (out_of t h) ne = t
+other_end (into t h) ne = absurd (ne t)
 
-pub JoinsEnds-sym : (g : Arcs) (arc u v : ℕ) → JoinsEnds g arc u v → JoinsEnds g arc v u
-JoinsEnds-sym g arc u v (out_of t h) = into t h
-JoinsEnds-sym g arc u v (into t h) = out_of t h
+pub JoinsEnds-sym : {g : Arcs} {arc u v : ℕ} → JoinsEnds g arc u v → JoinsEnds g arc v u
+JoinsEnds-sym (out_of t h) = into t h
+JoinsEnds-sym (into t h) = out_of t h
 
-pub CanLeave-le : (g : Arcs) (x : ℕ → ℤ) (arc v : ℕ) (d e : ℤ) → d ≤ℤ e → CanLeave g x arc v e → CanLeave g x arc v d
-CanLeave-le g x arc v d e h c = record {
+pub CanLeave-le : {g : Arcs} {x : ℕ → ℤ} {arc v : ℕ} {d e : ℤ} → d ≤ℤ e → CanLeave g x arc v e → CanLeave g x arc v d
+CanLeave-le {g} {x} {arc} {d} {e} h c = record {
   forward = λ t. IsWithin-le (g.limit arc) (x arc +ℤ d) (x arc +ℤ e) (omega (arith, ints, h)) (c.forward t);
   backward = λ t. (let b : e ≤ℤ x arc = c.backward t in omega (arith, ints, h, b));
 }
 
-module _ (g : Arcs) (old new : ℕ → ℤ) (arc u v : ℕ) (d : ℤ) (apart : u ≢ v) (joins : JoinsEnds g arc u v) (pushed : Leaves g old new arc u d) where
+module _ {g : Arcs} {old new : ℕ → ℤ} {arc u v : ℕ} {d : ℤ} (apart : u ≢ v) (joins : JoinsEnds g arc u v) (pushed : Leaves g old new arc u d) where
   -- what went from u can go back from v
   pub CanLeave-back : IsWithin (g.limit arc) (old arc) → pos 0 ≤ℤ old arc → CanLeave g new arc v d
   CanLeave-back fits low = record {
     forward = λ t. (let e : new arc +ℤ d ≡ old arc = pushed.backward (λ q. apart (sym q ∙ t)) in rw e fits);
-    backward = λ t. (let e : new arc ≡ old arc +ℤ d = pushed.forward (other_end g arc u v joins t) in omega (arith, ints, e, low));
+    backward = λ t. (let e : new arc ≡ old arc +ℤ d = pushed.forward (other_end joins t) in omega (arith, ints, e, low));
   }
 
   -- where one more could have gone from u, one can still go
@@ -102,12 +102,12 @@ module _ (g : Arcs) (old new : ℕ → ℤ) (arc u v : ℕ) (d : ℤ) (apart : u
   CanLeave-kept some c = record {
     forward = λ t. (let e : new arc +ℤ d ≡ old arc = pushed.backward (λ q. apart (sym q ∙ t)) in
         IsWithin-le (g.limit arc) (new arc +ℤ pos 1) (old arc +ℤ pos 1) (omega (arith, ints, e, some)) (c.forward t));
-    backward = λ t. (let e : new arc ≡ old arc +ℤ d = pushed.forward (other_end g arc u v joins t) in
+    backward = λ t. (let e : new arc ≡ old arc +ℤ d = pushed.forward (other_end joins t) in
         let b : pos 1 ≤ℤ old arc = c.backward t in omega (arith, ints, e, b, some));
   }
 
-pub CanLeave-same : (g : Arcs) (old new : ℕ → ℤ) (arc v : ℕ) (d : ℤ) → new arc ≡ old arc → CanLeave g old arc v d → CanLeave g new arc v d
-CanLeave-same g old new arc v d e c = record {
+pub CanLeave-same : {g : Arcs} {old new : ℕ → ℤ} {arc v : ℕ} {d : ℤ} → new arc ≡ old arc → CanLeave g old arc v d → CanLeave g new arc v d
+CanLeave-same e c = record {
   forward = λ t. rw e (c.forward t);
   backward = λ t. rw e (c.backward t);
 }

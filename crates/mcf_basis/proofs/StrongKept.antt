@@ -16,7 +16,7 @@ use Rattle.mcf_basis.specs.Bases.{CanHold, HasTreeArc, IsBasis, IsStronglyFeasib
 use Rattle.mcf_basis.specs.Pivots.{IsEligible, IsExchanged, IsMended, IsPivot, entering}
 use Rattle.mcf_basis.specs.Pivots.IsMended.{kept, exchanged}
 use Rattle.mcf_basis.specs.Structures.{TreeStructure, CanTake, carried, leaving, reduced_at}
-use Rattle.mcf_basis.proofs.Around.{IsAround, IsLeaving, WentRound, arcs_of, down_arc, from_of, left_node, left_steps, right_node, right_steps}
+use Rattle.mcf_basis.proofs.Around.{IsAround, IsLeaving, WentRound, arcs_of, down_arc, from_of, left_node, right_node, right_steps}
 use Rattle.mcf_basis.proofs.Around.{round_amount, to_of, up_arc}
 use Rattle.mcf_basis.proofs.Around.IsLeaving.{right, enter, left}
 use Rattle.mcf_basis.proofs.CyclePlaces.{last_at, up_all, up_at}
@@ -119,7 +119,7 @@ strong_of_room b g amount spanning size joined same reads up v h =
     each = λ u p l.
         let arc : HasTreeArc b u = joined u (omega arith, omega (arith, size, l)) in
         take_of_leave b (label_of b.tree u) u (pos 1) (arc.label).0
-        (CanLeave-same (arcs_of b.net) amount (carried b) (label_of b.tree u) u (pos 1) (reads (label_of b.tree u) (arc.label).0)
+        (CanLeave-same (reads (label_of b.tree u) (arc.label).0)
         (subst (λ n. CanLeave (arcs_of n) amount (label_of b.tree u) u (pos 1)) (sym same) (up.room u p l)))
 
 -- ---- the three cases
@@ -160,9 +160,7 @@ module _ (old : TreeStructure) (k apex : ℕ) (moved : ℤ) (ok : IsBasis old) (
   -- the tree stays
   pub stays : ((p : ℕ) → p < right_steps old k apex → CanTake old (up_arc old (right_node old k p)) (moved +ℤ pos 1)) → HasRoom old.tree.parents old.tree.labels
   stays free =
-      strong_entering (arcs_of old.net) old.tree.parents old.tree.labels (depth_of old.tree) (carried old) (round_amount old k apex moved)
-      k (from_of old k) (to_of old k)
-      (left_steps old k apex) (right_steps old k apex) moved is_around.tree is_around.cycle went (fits old ok) (not_below old ok) (room_of_strong old ok)
+      strong_entering is_around.tree is_around.cycle went (fits old ok) (not_below old ok) (room_of_strong old ok)
       (λ p l. right_room p (free p l))
 
   module _ (out inner outer : ℕ) (new : TreeStructure) (x : IsExchanged old (entering old k) out inner outer new) where
@@ -175,9 +173,7 @@ module _ (old : TreeStructure) (k apex : ℕ) (moved : ℤ) (ok : IsBasis old) (
           | inl e ↦ absurd (below_apex old.tree.parents (depth_of old.tree) (to_of old k) (from_of old k) apex out m
               ok.spanning.rooted is_around.cycle.right_in_range h at_out
               (subst (λ v. IsOnPath old.tree.parents v out) e.0 x.inside) (λ y p q. is_apex.deepest y q p))
-          | inr e ↦ strong_right (arcs_of old.net) old.tree.parents old.tree.labels (depth_of old.tree) (carried old) (round_amount old k apex moved)
-              k (from_of old k) (to_of old k) (left_steps old k apex) (right_steps old k apex) moved is_around.tree is_around.cycle went
-              (fits old ok) (not_below old ok) (room_of_strong old ok) m new.tree.parents new.tree.labels h
+          | inr e ↦ strong_right is_around.tree is_around.cycle went (fits old ok) (not_below old ok) (room_of_strong old ok) m new.tree.parents new.tree.labels h
               (rw (at_out, e.0, e.1) at x.swapped.parents) (rw (at_out, e.0) at x.swapped.labels)
               (some_moves m h (subst (λ r. ¬ CanTake old r (moved +ℤ pos 1)) is full)) (λ p l u. right_room p (free p l u))
         ]
@@ -188,9 +184,7 @@ module _ (old : TreeStructure) (k apex : ℕ) (moved : ℤ) (ok : IsBasis old) (
         step_of old k apex ok eligible is_around (from_of old k) m out (left_step old k apex ok eligible is_around m h) x.is_node
         (sym (ap (λ r. r.arc) is) ∙ named) in
         elim x.ends [
-          | inl e ↦ strong_left (arcs_of old.net) old.tree.parents old.tree.labels (depth_of old.tree) (carried old) (round_amount old k apex moved)
-              k (from_of old k) (to_of old k) (left_steps old k apex) (right_steps old k apex) moved is_around.tree is_around.cycle went
-              (fits old ok) (not_below old ok) (room_of_strong old ok) m new.tree.parents new.tree.labels h
+          | inl e ↦ strong_left is_around.tree is_around.cycle went (fits old ok) (not_below old ok) (room_of_strong old ok) m new.tree.parents new.tree.labels h
               (rw (at_out, e.0, e.1) at x.swapped.parents) (rw (at_out, e.0) at x.swapped.labels)
               (λ p l. left_room p (free p l)) (enter_room first) (λ p l. right_room p (above p l))
           | inr e ↦ absurd (below_apex old.tree.parents (depth_of old.tree) (from_of old k) (to_of old k) apex out m

@@ -38,9 +38,9 @@ pub parent_apart : (ps : List ℕ) (d : ℕ → ℕ) → IsRooted ps d → (v : 
 parent_apart ps d t v p h e = (let f : d v ≡ d (slice_index ps v) + 1 = t.falls v p h in let q : d v ≡ d (slice_index ps v) = ap d e in omega arith)
 
 -- an arc of the tree is that of one node alone
-pub labels_apart : (g : Arcs) (ps ls : List ℕ) (d : ℕ → ℕ) → IsTreeOf g ps ls d → (u v : ℕ) → 0 < u → u < length ps → 0 < v → v < length ps → u ≢ v
+pub labels_apart : {g : Arcs} {ps ls : List ℕ} {d : ℕ → ℕ} → IsTreeOf g ps ls d → (u v : ℕ) → 0 < u → u < length ps → 0 < v → v < length ps → u ≢ v
     → slice_index ls u ≢ slice_index ls v
-labels_apart g ps ls d t u v pu hu pv hv ne same =
+labels_apart {g} {ps} {d} t u v pu hu pv hv ne same =
     let fu : d u ≡ d (slice_index ps u) + 1 = t.rooted.falls u pu hu in
     let fv : d v ≡ d (slice_index ps v) + 1 = t.rooted.falls v pv hv in
     let tails = ap g.tail same in
@@ -56,23 +56,23 @@ labels_apart g ps ls d t u v pu hu pv hv ne same =
       ]
     ]
 
-pub same_node : (g : Arcs) (ps ls : List ℕ) (d : ℕ → ℕ) → IsTreeOf g ps ls d → (u v : ℕ) → 0 < u → u < length ps → 0 < v → v < length ps
+pub same_node : {g : Arcs} {ps ls : List ℕ} {d : ℕ → ℕ} → IsTreeOf g ps ls d → (u v : ℕ) → 0 < u → u < length ps → 0 < v → v < length ps
     → slice_index ls u ≡ slice_index ls v → u ≡ v
-same_node g ps ls d t u v pu hu pv hv e = elim (cases_eq u v) [
+same_node t u v pu hu pv hv e = elim (cases_eq u v) [
   | inl same ↦ same
-  | inr ne ↦ absurd (labels_apart g ps ls d t u v pu hu pv hv ne e)
+  | inr ne ↦ absurd (labels_apart t u v pu hu pv hv ne e)
 ]
 
 -- what holds of each node with its label and its entry of a column, after labels and column moved
 -- along the stretch of a turned tree: of the entering arc at inner, of an arc of the stretch at its
 -- upper end, and of any other
-pub each_moved : {X : Type 0} (ps ls ms : List ℕ) (d : ℕ → ℕ) (enter inner m : ℕ) (old new : ℕ → X) (first : X) (next : ℕ → X) → IsRooted ps d
+pub each_moved : {X : Type 0} {ps ls ms : List ℕ} {d : ℕ → ℕ} {enter inner : ℕ} (m : ℕ) (old new : ℕ → X) (first : X) (next : ℕ → X) → IsRooted ps d
     → inner < length ps → m ≤ d inner → IsRelabelled ps ls ms d (climb ps m inner) enter inner → new inner ≡ first
     → ((k : ℕ) → k < d inner - d (climb ps m inner) → new (climb ps (k + 1) inner) ≡ next k)
     → ((v : ℕ) → ((k : ℕ) → k ≤ d inner - d (climb ps m inner) → v ≢ climb ps k inner) → new v ≡ old v) → (R : ℕ → ℕ → X → Type 0) (v : ℕ)
     → R enter inner first → ((k : ℕ) → k < m → R (slice_index ls (climb ps k inner)) (slice_index ps (climb ps k inner)) (next k))
     → (((k : ℕ) → k ≤ m → v ≢ climb ps k inner) → R (slice_index ls v) v (old v)) → R (slice_index ms v) v (new v)
-each_moved ps ls ms d enter inner m old new first next rooted in_range short relabelled joined moved kept R v at_inner stretch rest =
+each_moved {ps} {ls} {ms} {d} {inner} m old new first next rooted in_range short relabelled joined moved kept R v at_inner stretch rest =
     elim (cases_walk ps inner (m + 1) v) [
       | inl w ↦ on_stretch w.at w.short w.leads
       | inr off ↦ rw (relabelled.kept v (λ k le. off k (inside k le)), kept v (λ k le. off k (inside k le))) (rest (λ k le. off k (omega arith)))
@@ -96,15 +96,14 @@ each_moved ps ls ms d enter inner m old new first next rooted in_range short rel
         rw (label, entry, up) (stretch k (omega arith))
 
 -- and so of the label, the node and its parent
-pub each_turned : (ps ls qs ms : List ℕ) (d : ℕ → ℕ) (enter inner outer m : ℕ) → IsRooted ps d → inner < length ps → m ≤ d inner
+pub each_turned : {ps ls qs ms : List ℕ} {d : ℕ → ℕ} {enter inner outer : ℕ} (m : ℕ) → IsRooted ps d → inner < length ps → m ≤ d inner
     → IsTurned ps qs d (climb ps m inner) inner outer → IsRelabelled ps ls ms d (climb ps m inner) enter inner → (R : ℕ → ℕ → ℕ → Type 0) (v : ℕ)
     → R enter inner outer → ((k : ℕ) → k < m → R (slice_index ls (climb ps k inner)) (slice_index ps (climb ps k inner)) (climb ps k inner))
     → (((k : ℕ) → k ≤ m → v ≢ climb ps k inner) → R (slice_index ls v) v (slice_index ps v)) → R (slice_index ms v) v (slice_index qs v)
-each_turned ps ls qs ms d enter inner outer m rooted in_range short turned relabelled =
-    each_moved ps ls ms d enter inner m (slice_index ps) (slice_index qs) outer (λ k. climb ps k inner) rooted in_range short relabelled
-    turned.joined turned.turned turned.kept
+each_turned {ps} {qs} {inner} {outer} m rooted in_range short turned relabelled =
+    each_moved m (slice_index ps) (slice_index qs) outer (λ k. climb ps k inner) rooted in_range short relabelled turned.joined turned.turned turned.kept
 
-module _ (g : Arcs) (ps ls : List ℕ) (d : ℕ → ℕ) (old new : ℕ → ℤ) (enter a b i j : ℕ) (delta : ℤ)
+module _ {g : Arcs} {ps ls : List ℕ} {d : ℕ → ℕ} {old new : ℕ → ℤ} {enter a b i j : ℕ} {delta : ℤ}
     (tree : IsTreeOf g ps ls d) (cycle : IsCycle g ps ls d enter a b i j) (push : IsPushed g ps ls old new enter a b i j delta)
     (fits : (arc : ℕ) → IsWithin (g.limit arc) (old arc)) (low : (arc : ℕ) → pos 0 ≤ℤ old arc) (strong : HasRoomUp g ps ls old) where
   left_at : (k : ℕ) → k < i → IsStep ps d a k
@@ -117,30 +116,28 @@ module _ (g : Arcs) (ps ls : List ℕ) (d : ℕ → ℕ) (old new : ℕ → ℤ)
   left_joins : (k : ℕ) → k < i → JoinsEnds g (slice_index ls (climb ps k a)) (slice_index ps (climb ps k a)) (climb ps k a)
   left_joins k lt =
       let w = left_at k lt in
-      JoinsEnds-sym g (slice_index ls (climb ps k a)) (climb ps k a) (slice_index ps (climb ps k a)) (tree.joined (climb ps k a) w.above w.within)
+      JoinsEnds-sym (tree.joined (climb ps k a) w.above w.within)
 
   -- a node whose path from a goes down keeps its room toward the root
   kept_left : (k : ℕ) → k < i → CanLeave g new (slice_index ls (climb ps k a)) (climb ps k a) (pos 1)
   kept_left k lt =
       let w = left_at k lt in
-      CanLeave-kept g old new (slice_index ls (climb ps k a)) (slice_index ps (climb ps k a)) (climb ps k a) delta
-      (λ e. parent_apart ps d tree.rooted (climb ps k a) w.above w.within (sym e)) (left_joins k lt) (push.left k lt) push.some (strong.room (climb ps k a) w.above w.within)
+      CanLeave-kept (λ e. parent_apart ps d tree.rooted (climb ps k a) w.above w.within (sym e)) (left_joins k lt) (push.left k lt) push.some
+      (strong.room (climb ps k a) w.above w.within)
 
   -- where an arc up from b doesn't block, its node keeps room
   kept_right : (k : ℕ) → k < j → CanLeave g old (slice_index ls (climb ps k b)) (climb ps k b) (delta +ℤ pos 1)
       → CanLeave g new (slice_index ls (climb ps k b)) (climb ps k b) (pos 1)
   kept_right k lt room =
       let w = right_at k lt in
-      CanLeave-more g old new (slice_index ls (climb ps k b)) (climb ps k b) (slice_index ps (climb ps k b)) delta
-      (parent_apart ps d tree.rooted (climb ps k b) w.above w.within) (tree.joined (climb ps k b) w.above w.within) (push.right k lt) room
+      CanLeave-more (parent_apart ps d tree.rooted (climb ps k b) w.above w.within) (tree.joined (climb ps k b) w.above w.within) (push.right k lt) room
 
   kept_other : (v : ℕ) → 0 < v → v < length ps → ((k : ℕ) → k < i → v ≢ climb ps k a) → ((k : ℕ) → k < j → v ≢ climb ps k b)
       → CanLeave g new (slice_index ls v) v (pos 1)
   kept_other v p h off_left off_right =
-      CanLeave-same g old new (slice_index ls v) v (pos 1)
-      (push.others (slice_index ls v) (cycle.outside v p h)
-      (λ k lt. (let w = left_at k lt in labels_apart g ps ls d tree v (climb ps k a) p h w.above w.within (off_left k lt)))
-      (λ k lt. (let w = right_at k lt in labels_apart g ps ls d tree v (climb ps k b) p h w.above w.within (off_right k lt))))
+      CanLeave-same (push.others (slice_index ls v) (cycle.outside v p h)
+      (λ k lt. (let w = left_at k lt in labels_apart tree v (climb ps k a) p h w.above w.within (off_left k lt)))
+      (λ k lt. (let w = right_at k lt in labels_apart tree v (climb ps k b) p h w.above w.within (off_right k lt))))
       (strong.room v p h)
 
   -- what the arcs that stay with their node leave it
@@ -165,13 +162,10 @@ module _ (g : Arcs) (ps ls : List ℕ) (d : ℕ → ℕ) (old new : ℕ → ℤ)
   strong_right m qs ms in_walk turned relabelled positive room = record {
     room = λ v p h. (let size : length qs ≡ length ps = turned.size in
         let short : j ≤ d b = cycle.right_short in
-        each_turned ps ls qs ms d enter b a m tree.rooted cycle.right_in_range (omega arith) turned relabelled (λ arc u w. CanLeave g new arc u (pos 1)) v
-        (CanLeave-le g new enter b (pos 1) delta positive
-        (CanLeave-back g old new enter a b delta cycle.apart cycle.joined push.entering (fits enter) (low enter)))
+        each_turned m tree.rooted cycle.right_in_range (omega arith) turned relabelled (λ arc u w. CanLeave g new arc u (pos 1)) v
+        (CanLeave-le positive (CanLeave-back cycle.apart cycle.joined push.entering (fits enter) (low enter)))
         (λ k lt. (let w = right_at k (omega arith) in
-        CanLeave-le g new (slice_index ls (climb ps k b)) (slice_index ps (climb ps k b)) (pos 1) delta positive
-        (CanLeave-back g old new (slice_index ls (climb ps k b)) (climb ps k b) (slice_index ps (climb ps k b)) delta
-        (parent_apart ps d tree.rooted (climb ps k b) w.above w.within) (tree.joined (climb ps k b) w.above w.within) (push.right k (omega arith))
+        CanLeave-le positive (CanLeave-back (parent_apart ps d tree.rooted (climb ps k b) w.above w.within) (tree.joined (climb ps k b) w.above w.within) (push.right k (omega arith))
         (fits (slice_index ls (climb ps k b))) (low (slice_index ls (climb ps k b))))))
         (λ off. kept v p (omega arith) (λ k lt e. elim (cases_lt m k) [
           | inl beyond ↦ room k beyond lt
@@ -187,24 +181,22 @@ module _ (g : Arcs) (ps ls : List ℕ) (d : ℕ → ℕ) (old new : ℕ → ℤ)
   strong_left m qs ms in_walk turned relabelled room_left room_entering room_right = record {
     room = λ v p h. (let size : length qs ≡ length ps = turned.size in
         let short : i ≤ d a = cycle.left_short in
-        each_turned ps ls qs ms d enter a b m tree.rooted cycle.left_in_range (omega arith) turned relabelled (λ arc u w. CanLeave g new arc u (pos 1)) v
-        (CanLeave-more g old new enter a b delta cycle.apart cycle.joined push.entering room_entering)
+        each_turned m tree.rooted cycle.left_in_range (omega arith) turned relabelled (λ arc u w. CanLeave g new arc u (pos 1)) v
+        (CanLeave-more cycle.apart cycle.joined push.entering room_entering)
         (λ k lt. (let w = left_at k (omega arith) in
-        CanLeave-more g old new (slice_index ls (climb ps k a)) (slice_index ps (climb ps k a)) (climb ps k a) delta
-        (λ e. parent_apart ps d tree.rooted (climb ps k a) w.above w.within (sym e)) (left_joins k (omega arith)) (push.left k (omega arith)) (room_left k lt)))
+        CanLeave-more (λ e. parent_apart ps d tree.rooted (climb ps k a) w.above w.within (sym e)) (left_joins k (omega arith)) (push.left k (omega arith)) (room_left k lt)))
         (λ off. kept v p (omega arith) (λ k lt e. room_right k lt)));
   }
 
 -- the arcs of the turned tree join its nodes and their parents
-pub IsTreeOf-turned : (g : Arcs) (ps ls qs ms : List ℕ) (d e : ℕ → ℕ) (enter inner outer m : ℕ) → IsTreeOf g ps ls d → IsRooted qs e
+pub IsTreeOf-turned : {g : Arcs} {ps ls qs ms : List ℕ} {d e : ℕ → ℕ} {enter inner outer : ℕ} (m : ℕ) → IsTreeOf g ps ls d → IsRooted qs e
     → inner < length ps → m < d inner → JoinsEnds g enter inner outer → IsTurned ps qs d (climb ps m inner) inner outer
     → IsRelabelled ps ls ms d (climb ps m inner) enter inner → IsTreeOf g qs ms e
-IsTreeOf-turned g ps ls qs ms d e enter inner outer m tree rooted in_range short joined turned relabelled = record {
+IsTreeOf-turned {g} {ps} {ls} {qs} {d} {inner} m tree rooted in_range short joined turned relabelled = record {
   rooted = rooted;
   joined = λ v p h. (let size : length qs ≡ length ps = turned.size in
-      each_turned ps ls qs ms d enter inner outer m tree.rooted in_range (omega arith) turned relabelled (JoinsEnds g) v joined
+      each_turned m tree.rooted in_range (omega arith) turned relabelled (JoinsEnds g) v joined
       (λ k lt. (let w = step_at ps d tree.rooted inner (d inner) k in_range (omega arith) (omega arith) in
-      JoinsEnds-sym g (slice_index ls (climb ps k inner)) (climb ps k inner) (slice_index ps (climb ps k inner))
-      (tree.joined (climb ps k inner) w.above w.within)))
+      JoinsEnds-sym (tree.joined (climb ps k inner) w.above w.within)))
       (λ off. tree.joined v p (omega arith)));
 }

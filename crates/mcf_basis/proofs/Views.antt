@@ -1,6 +1,6 @@
 -- What is read of a basis that is stored.
 use Rattle.std.proofs.Common.{◌≡◌, ◌≢◌, ℕ, ◌+◌, ◌-◌, ◌*◌, ◌<◌, ◌≤◌, inl, inr, eqb, length, get_or, ap, sym, ◌∙◌, arith, subst, pos}
-use Rattle.std.proofs.lemmas.Bool.{cases_eq, cond-true, cond-false, eq-eqb, eqb-true, ne_eqb, le-leb, lt-leb}
+use Rattle.std.proofs.lemmas.Bool.{cond-true, cond-false, eq-eqb, eqb-true, ne_eqb, le-leb, lt-leb}
 use Rattle.std.proofs.lemmas.Int.{ints}
 use Rattle.std.proofs.lemmas.List.FromFn.{get_or-map-range_with_len}
 use Rattle.mcf_flows.specs.Network.{IsArcNumber, IsNode, node_count}
@@ -15,7 +15,7 @@ use Rattle.mcf_basis.proofs.Around.{arcs_of}
 use Rattle.mcf_basis.proofs.LeastFound.{found_nowhere, found_only}
 use Rattle.mcf_basis.proofs.Pushes.{IsTreeOf, cases_found}
 use Rattle.mcf_basis.proofs.Spreads.{near_spread}
-use Rattle.mcf_basis.proofs.StrongPivot.{labels_apart}
+use Rattle.mcf_basis.proofs.StrongPivot.{same_node}
 use Rattle.mcf_basis.proofs.TreePrices.{near_price, price_reached, price_small}
 
 pub view_net : (l : Layout) (b : TreeStructure) → basis_in l ≡ b → l.net ≡ b.net
@@ -89,12 +89,7 @@ pub data AmountCase (l : Layout) (j : ℕ) : Type 0 where
 module _ (l : Layout) (d : ℕ → ℕ) (tree : IsTreeOf (arcs_of l.net) l.tree.parents l.tree.labels d) (size : size_of l.tree ≡ node_count l.net + 1) where
   -- the arcs of two nodes are apart
   pub one_node : (u v : ℕ) → IsNode (node_count l.net) u → IsNode (node_count l.net) v → label_of l.tree u ≡ label_of l.tree v → u ≡ v
-  one_node u v hu hv same =
-      elim (cases_eq u v) [
-        | inl e ↦ e
-        | inr ne ↦ absurd (labels_apart (arcs_of l.net) l.tree.parents l.tree.labels d tree u v hu.0 (omega (arith, size, hu)) hv.0
-            (omega (arith, size, hv)) ne same)
-      ]
+  one_node u v hu hv = same_node tree u v hu.0 (omega (arith, size, hu)) hv.0 (omega (arith, size, hv))
 
   pub amount_found : (j v : ℕ) → IsArcNumber l.net j → IsNode (node_count l.net) v → label_of l.tree v ≡ j → amount_in l j ≡ amount_in_tree l j v
   amount_found j v h node e =
