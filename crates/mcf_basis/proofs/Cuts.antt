@@ -27,7 +27,7 @@ use Rattle.mcf_network.specs.Residual.{no_arc, arc_at}
 use Rattle.mcf_network.proofs.ArcLaws.{ends_at, net_arc_at}
 use Rattle.mcf_network.proofs.StateLaws.{when-add, when-zero}
 use Rattle.mcf_tree.specs.SpanningTree.{depth_of, label_of, parent_of}
-use Rattle.mcf_basis.specs.Artificial.{artificial_arc, artificial_cost, is_sender, with_artificial}
+use Rattle.mcf_basis.specs.Artificial.{artificial_arc, artificial_cost, is_sender}
 use Rattle.mcf_basis.specs.Bases.{CanHold, HasTreeArc, IsBasis}
 use Rattle.mcf_basis.specs.Laws.{HasNoArtificial}
 use Rattle.mcf_basis.specs.Structures.{TreeStructure, Joins, carried, price_at, reduced_at, state_of}
@@ -57,9 +57,7 @@ total f (suc n) = total f n + f n
 total-same : (f h : ℕ → ℕ) (n : ℕ) → ((i : ℕ) → i < n → f i ≡ h i) → total f n ≡ total h n
 total-same f h zero e = refl
 total-same f h (suc n) e =
-    let ih : total f n ≡ total h n = total-same f h n (λ i l. e i (omega arith)) in
-    let here : f n ≡ h n = e n (omega arith) in
-    omega (arith, ih, here)
+    omega (arith, total-same f h n (λ i l. e i (omega arith)), e n (omega arith))
 
 -- what is left of a list without them
 record HasRest (ws : List ℕ) (at : ℕ → ℕ) (n : ℕ) : Type 0 where
@@ -74,13 +72,12 @@ rest_of ws at (suc n) inside apart =
     let r : HasRest ws at n = rest_of ws at n (λ i h. inside i (omega arith)) (λ i j h l. apart i j h (omega arith)) in
     let size : length r.rest ≡ length ws = r.size in
     let here : at n < length ws = inside n (omega arith) in
-    let same : get_or r.rest (at n) 0 ≡ get_or ws (at n) 0 = r.kept (at n) (λ i h e. apart i n h (omega arith) (sym e)) in
     let sums : total (λ i. get_or ws (at i) 0) n + sum r.rest ≡ sum ws = r.sums in
     let one : sum (set r.rest (at n) 0) + get_or r.rest (at n) 0 ≡ sum r.rest + 0 = sum_by-set (λ x. x) r.rest (at n) 0 0 (omega (arith, size, here)) in
     record {
       rest = set r.rest (at n) 0;
       size = length-set r.rest (at n) 0 ∙ size;
-      sums = omega (arith, same, sums, one);
+      sums = omega (arith, r.kept (at n) (λ i h e. apart i n h (omega arith) (sym e)), sums, one);
       kept = λ j off. get_or-set_other r.rest (at n) j 0 0 (off n (omega arith)) ∙ r.kept j (λ i h. off i (omega arith));
     }
 
@@ -117,33 +114,26 @@ module _ (b : TreeStructure) (ok : IsBasis b) where
   added_price : (v : ℕ) → IsNode (node_count b.net) v → pos 0 <ℤ artificial_amount b v
       → price_at b (artificial_arc b.net v).src ≡ pos (artificial_cost b.net) +ℤ price_at b (artificial_arc b.net v).dst
   added_price v h some =
-      let none = carrying v h some in
       let r = ap (λ a. a.cost -ℤ price_at b a.src +ℤ price_at b a.dst) (added_arc b.net v (length b.net.arcs + v) h refl) in
-      omega (arith, ints, none, r)
+      omega (arith, ints, carrying v h some, r)
 
   -- what a node has unsent goes along its artificial arc
   unsent_is : (v : ℕ) → IsNode (node_count b.net) v → unsent b v ≡ net (added_arcs b.net) (drop (length b.net.arcs) b.amounts) v
   unsent_is v h =
-      let e = amount_count b ok in
-      let s = ok.flow.no_surplus v (subst (λ n. IsNode n v) (node_count_added b.net) h) in
-      let sup = supply_added b.net v in
-      let split = split_net b.net b.amounts v (omega (arith, e)) in
-      omega (arith, ints, s, sup, split)
+      let split = split_net b.net b.amounts v (omega (arith, amount_count b ok)) in
+      omega (arith, ints, ok.flow.no_surplus v (subst (λ n. IsNode n v) (node_count_added b.net) h), supply_added b.net v, split)
 
   pub node_case : (v : ℕ) → IsNode (node_count b.net) v → NodeCase b v
   node_case v h =
-      let root = ok.prices.root in
       elim (cases_Bool (is_sender b.net v)) [
         | inl e ↦ sends (unsent_is v h ∙ (sender_net b.net (drop (length b.net.arcs) b.amounts) (rest_count b ok) v h e
             ∙ read_added b (v - 1) v (omega arith))) (λ some. (let falls = added_price v h some in
-            let from = ap (price_at b) (sender_ends b.net v e).0 in
             let to = ap (price_at b) (sender_ends b.net v e).1 in
-            omega (arith, ints, falls, from, to, root)))
+            omega (arith, ints, falls, ap (price_at b) (sender_ends b.net v e).0, to, ok.prices.root)))
         | inr e ↦ takes (unsent_is v h ∙ (taker_net b.net (drop (length b.net.arcs) b.amounts) (rest_count b ok) v h e
             ∙ ap neg_ℤ (read_added b (v - 1) v (omega arith)))) (λ some. (let falls = added_price v h some in
-            let from = ap (price_at b) (taker_ends b.net v e).0 in
             let to = ap (price_at b) (taker_ends b.net v e).1 in
-            omega (arith, ints, falls, from, to, root)))
+            omega (arith, ints, falls, ap (price_at b) (taker_ends b.net v e).0, to, ok.prices.root)))
       ]
 
 -- ---- how far a price lies from that of the child of the root above it
@@ -165,10 +155,9 @@ path_weight b v = total (weight_of b v) (depth_of b.tree v - 1)
 -- an arc that can carry something weighs no less than the size of its cost
 weight_wide : (a : Arc) → pos 0 <ℤ a.cap → unsigned_abs a.cost ≤ weight a
 weight_wide a h =
-    let size = up_to_size a.cap in
     let right = le-max_right (unsigned_abs a.low) (unsigned_abs a.cap) in
     let le : unsigned_abs a.cost * 1 ≤ unsigned_abs a.cost * max (unsigned_abs a.low) (unsigned_abs a.cap) =
-    mul-le-mul_left (unsigned_abs a.cost) (omega (arith, ints, size, right, h)) in
+    mul-le-mul_left (unsigned_abs a.cost) (omega (arith, ints, up_to_size a.cap, right, h)) in
     omega (arith, le)
 
 module _ (b : TreeStructure) (ok : IsBasis b) where
@@ -179,7 +168,7 @@ module _ (b : TreeStructure) (ok : IsBasis b) where
   depth = depth_of b.tree
 
   at : (v i : ℕ) → v ≤ node_count b.net → i < depth v → IsStep ps (depth_of b.tree) v i
-  at v i h lt = step_at ps (depth_of b.tree) ok.spanning.rooted v (depth v) i (in_tree b ok v h) (omega arith) lt
+  at v i h lt = step_at ok.spanning.rooted v (depth v) i (in_tree b ok v h) (omega arith) lt
 
   at_node_of : (v i : ℕ) → v ≤ node_count b.net → i < depth v → IsNode (node_count b.net) (climb ps i v)
   at_node_of v i h lt = let w = at v i h lt in node_of b ok (climb ps i v) w.above w.within
@@ -207,12 +196,10 @@ module _ (b : TreeStructure) (ok : IsBasis b) where
   places_apart : (u v i j : ℕ) → u ≤ node_count b.net → v ≤ node_count b.net → suc i < depth u → suc j < depth v
       → climb ps i u ≢ climb ps j v → place_of b u i ≢ place_of b v j
   places_apart u v i j hu hv li lj ne e =
-      let own = own_at u i hu li in
-      let other = own_at v j hv lj in
       let one = at u i hu (omega arith) in
       let two = at v j hv (omega arith) in
       labels_apart (tree_of b ok) (climb ps i u) (climb ps j v)
-      one.above one.within two.above two.within ne (omega (arith, own, other, e))
+      one.above one.within two.above two.within ne (omega (arith, own_at u i hu li, own_at v j hv lj, e))
 
   own_apart : (v i j : ℕ) → v ≤ node_count b.net → i < j → suc j < depth v → place_of b v i ≢ place_of b v j
   own_apart v i j h lt le =
@@ -242,15 +229,12 @@ module _ (b : TreeStructure) (ok : IsBasis b) where
   pub paths_within : (u v : ℕ) → u ≤ node_count b.net → v ≤ node_count b.net → top b u ≢ top b v → path_weight b u + path_weight b v ≤ sum (weights b)
   paths_within u v hu hv ne =
       let r : HasRest (weights b) (place_of b u) (depth u - 1) = rest_of_path u hu in
-      let size : length r.rest ≡ length (weights b) = r.size in
       let t : HasRest r.rest (place_of b v) (depth v - 1) = rest_of r.rest (place_of b v) (depth v - 1)
-      (λ i l. (let w = place_within v i hv (omega arith) in omega (arith, size, w))) (λ i j l m. own_apart v i j hv l (omega arith)) in
+      (λ i l. (let w = place_within v i hv (omega arith) in omega (arith, r.size, w))) (λ i j l m. own_apart v i j hv l (omega arith)) in
       let same : total (λ i. get_or r.rest (place_of b v i) 0) (depth v - 1) ≡ path_weight b v =
       total-same (λ i. get_or r.rest (place_of b v i) 0) (weight_of b v) (depth v - 1)
       (λ j l. r.kept (place_of b v j) (λ i m e. sides_apart u v i j hu hv ne (omega arith) (omega arith) (sym e))) in
-      let first = r.sums in
-      let second = t.sums in
-      omega (arith, same, first, second)
+      omega (arith, same, r.sums, t.sums)
 
   module _ (wide : HasWideTree b) where
     near_step : (v i : ℕ) → v ≤ node_count b.net → suc i < depth v → IsUpTo (weight_of b v i) (price_at b (climb ps i v) -ℤ price_at b (climb ps (suc i) v))
@@ -259,12 +243,10 @@ module _ (b : TreeStructure) (ok : IsBasis b) where
         let arc : HasTreeArc b (climb ps i v) = ok.tree_arcs (climb ps i v) node in
         let own = own_at v i h lt in
         let room = wide (climb ps i v) node own.1 in
-        let le : unsigned_abs (arc_at b.net (label_of b.tree (climb ps i v))).cost
-        ≤ weight (arc_at b.net (label_of b.tree (climb ps i v))) = weight_wide (arc_at b.net (label_of b.tree (climb ps i v))) room in
+        let le = weight_wide (arc_at b.net (label_of b.tree (climb ps i v))) room in
         let read = read_weight (label_of b.tree (climb ps i v)) own in
         let size = up_to_size (arc_at b.net (label_of b.tree (climb ps i v))).cost in
-        let same : (arc_at (with_artificial b.net) (label_of b.tree (climb ps i v))).cost
-        ≡ (arc_at b.net (label_of b.tree (climb ps i v))).cost = ap (λ a. a.cost) (own_arc b.net (label_of b.tree (climb ps i v)) own) in
+        let same = ap (λ a. a.cost) (own_arc b.net (label_of b.tree (climb ps i v)) own) in
         let step = one_step b (label_of b.tree (climb ps i v)) (climb ps i v) (climb ps (suc i) v) (weight_of b v i) 0 (price_at b (climb ps (suc i) v))
         (subst (Joins b.net (label_of b.tree (climb ps i v)) (climb ps i v)) (up_one v i) arc.joins) (ok.prices.balanced (climb ps i v) node)
         (omega (arith, ints, le, read, size, same), omega (arith, ints, le, read, size, same)) (omega (arith, ints), omega (arith, ints)) in
@@ -273,9 +255,8 @@ module _ (b : TreeStructure) (ok : IsBasis b) where
     near_up : (v n : ℕ) → v ≤ node_count b.net → n < depth v → IsUpTo (total (weight_of b v) n) (price_at b v -ℤ price_at b (climb ps n v))
     near_up v zero h lt = (omega (arith, ints), omega (arith, ints))
     near_up v (suc n) h lt =
-        let ih = near_up v n h (omega arith) in
         let here = near_step v n h lt in
-        (omega (arith, ints, ih, here), omega (arith, ints, ih, here))
+        (omega (arith, ints, near_up v n h (omega arith), here), omega (arith, ints, near_up v n h (omega arith), here))
 
     pub near_top : (v : ℕ) → IsNode (node_count b.net) v → IsUpTo (path_weight b v) (price_at b v -ℤ price_at b (top b v))
     near_top v h = let deep = node_deep v h in near_up v (depth v - 1) h.1 (omega (arith, deep))
@@ -284,26 +265,21 @@ module _ (b : TreeStructure) (ok : IsBasis b) where
     pub prices_apart : (u v : ℕ) → IsNode (node_count b.net) u → IsNode (node_count b.net) v
         → pos 0 <ℤ price_at b u → price_at b v ≤ℤ pos 0 → pos (artificial_cost b.net + 1) ≤ℤ (price_at b u -ℤ price_at b v)
     prices_apart u v hu hv up down =
-        let near_u = near_top u hu in
-        let near_v = near_top v hv in
-        let within_u = path_within u hu.1 in
-        let within_v = path_within v hv.1 in
         elim (top_near b ok u hu.0 hu.1) [
-          | inr pu ↦ absurd (omega (arith, ints, near_u, within_u, pu, up))
+          | inr pu ↦ absurd (omega (arith, ints, near_top u hu, path_within u hu.1, pu, up))
           | inl pu ↦ elim (top_near b ok v hv.0 hv.1) [
-            | inl pv ↦ absurd (omega (arith, ints, near_v, within_v, pv, down))
+            | inl pv ↦ absurd (omega (arith, ints, near_top v hv, path_within v hv.1, pv, down))
             | inr pv ↦ (let ne : top b u ≢ top b v = (λ e. (let same = ap (price_at b) e in omega (arith, ints, same, pu, pv))) in
-                let both = paths_within u v hu.1 hv.1 ne in
-                omega (arith, ints, near_u, near_v, pu, pv, both))
+                omega (arith, ints, near_top u hu, near_top v hv, pu, pv, paths_within u v hu.1 hv.1 ne))
           ]
         ]
 
 -- ---- the cut
 
-above_zero : (z : ℤ) → int_lt (pos 0) z ≡ true → pos 0 <ℤ z
+pub above_zero : (z : ℤ) → int_lt (pos 0) z ≡ true → pos 0 <ℤ z
 above_zero z e = grind (arith, ints)
 
-not_above_zero : (z : ℤ) → int_lt (pos 0) z ≡ false → z ≤ℤ pos 0
+pub not_above_zero : (z : ℤ) → int_lt (pos 0) z ≡ false → z ≤ℤ pos 0
 not_above_zero z e = grind (arith, ints)
 
 not_true : (t : Bool) → not t ≡ true → t ≡ false
@@ -331,9 +307,7 @@ module _ (b : TreeStructure) (ok : IsBasis b) (none : HasNoEligible b) where
   narrow : (k : ℕ) → IsArcNumber b.net k → (arc_at b.net k).cap ≡ pos 0 → carried b k ≡ pos 0
   narrow k h c =
       let held : CanHold b.net k (carried b k) = ok.flow.within_bounds k (own_label b.net k h) in
-      let low = held.low in
-      let high = held.high h.1 in
-      omega (arith, ints, low, high, c)
+      omega (arith, ints, held.low, held.high h.1, c)
 
   module _ (wide : HasWideTree b) where
     over : (u v : ℕ) → IsNode (node_count b.net) u → IsNode (node_count b.net) v → (side u && not (side v)) ≡ true
@@ -345,14 +319,13 @@ module _ (b : TreeStructure) (ok : IsBasis b) (none : HasNoEligible b) where
     crossing_wide : (k : ℕ) → IsArcNumber b.net k → pos 0 <ℤ (arc_at b.net k).cap → Crosses (arc_at b.net k) (carried b k)
     crossing_wide k h some =
         let ends : HasEnds (node_count b.net) (arc_at b.net k) = ends_at b.net k ok.of_net h in
-        let r = own_reduced b k h in
         let size = up_to_size (arc_at b.net k).cost in
         let le = weight_wide (arc_at b.net k) some in
         let all : weight (arc_at b.net k) ≤ sum (weights b) = weight-le-sum weight b.net.arcs (k - 1) no_arc (omega arith) in (
           λ e. (let apart = over (arc_at b.net k).src (arc_at b.net k).dst ends.src_is_node ends.dst_is_node e in
-              full_below b ok none k h (omega (arith, ints, r, size, le, all, apart))),
+              full_below b ok none k h (omega (arith, ints, own_reduced b k h, size, le, all, apart))),
           λ e. (let apart = over (arc_at b.net k).dst (arc_at b.net k).src ends.dst_is_node ends.src_is_node e in
-              empty_above b ok none k h (omega (arith, ints, r, size, le, all, apart))),
+              empty_above b ok none k h (omega (arith, ints, own_reduced b k h, size, le, all, apart))),
         )
 
     crossing_arc : (k : ℕ) → IsArcNumber b.net k → Crosses (arc_at b.net k) (carried b k)
@@ -395,9 +368,7 @@ module _ (b : TreeStructure) (ok : IsBasis b) (none : HasNoEligible b) where
         ∙ when-add (side v) (net b.net.arcs (state_of b).amounts v) (unsent b v)) in
         let add = node_sum-add (λ v. when (side v) (net b.net.arcs (state_of b).amounts v)) (λ v. when (side v) (unsent b v)) (node_count b.net) in
         let across = nets_across (node_count b.net) b.net.arcs (state_of b).amounts side ok.of_net.ends in
-        let out = sum_leaving in
-        let inn = sum_entering in
-        omega (arith, ints, split, add, across, out, inn)
+        omega (arith, ints, split, add, across, sum_leaving, sum_entering)
       where
         parts : (s t : ℤ) → s ≡ t +ℤ (s -ℤ t)
         parts = λ s t. omega (arith, ints)
@@ -421,9 +392,7 @@ module _ (b : TreeStructure) (ok : IsBasis b) (none : HasNoEligible b) where
       all_unsent : node_sum (unsent b) (node_count b.net) ≡ pos 0
       all_unsent =
           let apart = node_sum-sub (at_node b.net.supplies) (net b.net.arcs (state_of b).amounts) (node_count b.net) in
-          let cancel = nets_cancel (node_count b.net) b.net.arcs (state_of b).amounts ok.of_net.ends in
-          let sum_zero : node_sum (at_node b.net.supplies) (node_count b.net) ≡ pos 0 = balanced in
-          omega (arith, ints, apart, cancel, sum_zero)
+          omega (arith, ints, apart, nets_cancel (node_count b.net) b.net.arcs (state_of b).amounts ok.of_net.ends, balanced)
 
       in_low : (v : ℕ) → IsNode (node_count b.net) v → pos 0 ≤ℤ when (side v) (unsent b v)
       in_low v h = when_low (side v) (unsent b v) (λ t. (let e = (by_side v h).0 t in let low = artificial_low b ok v h in omega (arith, ints, e, low)))
@@ -436,25 +405,22 @@ module _ (b : TreeStructure) (ok : IsBasis b) (none : HasNoEligible b) where
             (let up = (by_side u node).0 t in
             let is : when (side u) (unsent b u) ≡ unsent b u = ap (λ s. when s (unsent b u)) t in omega (arith, ints, up, some, is)) in_low
         | inr f ↦ (let all = all_unsent in
-            let apart = node_sum-sub (λ v. when (side v) (unsent b v)) (unsent b) (node_count b.net) in
             let more = node_sum_above_zero (λ v. when (side v) (unsent b v) -ℤ unsent b v) (node_count b.net) u node
             (let down = (by_side u node).1 f in
             let is : when (side u) (unsent b u) ≡ pos 0 = ap (λ s. when s (unsent b u)) f in omega (arith, ints, down, some, is))
             (λ v h. when_gap (side v) (unsent b v) (λ t. (let e = (by_side v h).1 t in let low = artificial_low b ok v h in omega (arith, ints, e, low)))) in
-            omega (arith, ints, all, apart, more))
+            omega (arith, ints, all, node_sum-sub (λ v. when (side v) (unsent b v)) (unsent b) (node_count b.net), more))
       ]
 
       blocked : ¬ HasNoArtificial b → Blocks b.net side Send
       blocked uneven =
-          let must = set_supply in
-          let low = low_in in
           elim (zero_or_more (node_sum (λ v. when (side v) (unsent b v)) (node_count b.net))
           (node_sum_at_least_zero (λ v. when (side v) (unsent b v)) (node_count b.net) in_low)) [
             | inl nothing ↦ absurd (uneven (λ v h. elim (zero_or_more (artificial_amount b v) (artificial_low b ok v h)) [
               | inl z ↦ z
               | inr some ↦ absurd (let more = left_over v h some in omega (arith, ints, nothing, more))
             ]))
-            | inr more ↦ omega (arith, ints, more, must, low)
+            | inr more ↦ omega (arith, ints, more, set_supply, low_in)
           ]
 
 -- where no arc is eligible and an artificial arc carries something, the nodes of price above 0 must

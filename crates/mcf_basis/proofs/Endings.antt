@@ -66,12 +66,10 @@ none_left l b t e ok test =
 
 small_prices : (b : TreeStructure) → IsBasis b → All (IsUpTo price_limit) (drop 1 b.prices)
 small_prices b ok k d h =
-    let count : length b.prices ≡ node_count b.net + 1 = ok.prices.one_per_node in
-    let short = length-drop 1 b.prices in
-    let inside : 1 + k < length b.prices = omega (arith, short, h, count) in
+    let inside : 1 + k < length b.prices = omega (arith, length-drop 1 b.prices, h, ok.prices.one_per_node) in
     let place : 1 + k ≡ k + 1 = omega arith in
     subst (IsUpTo price_limit) (sym (get_or-drop 1 b.prices k d ∙ get_or_default b.prices (1 + k) d (pos 0) inside))
-    (price_small b ok (1 + k) (omega (arith, inside, count)))
+    (price_small b ok (1 + k) (omega (arith, inside, ok.prices.one_per_node)))
 
 pub record AreReadPrices (l : Layout) (b : TreeStructure) : Type 0 where
   pub some : 1 ≤ length l.table.prices
@@ -83,11 +81,9 @@ pub read_prices : (l : Layout) (b : TreeStructure) → basis_in l ≡ b → IsLa
 unfolding basis_in
 read_prices l b e ok =
     let count : length l.table.prices ≡ node_count l.net + 1 = ok.basis.prices.one_per_node in
-    let nodes : node_count l.net ≡ node_count b.net = ap (λ x. node_count x.net) e in
-    let short = length-drop 1 l.table.prices in
     record {
       some = omega arith;
-      count = omega (arith, short, count, nodes);
+      count = omega (arith, length-drop 1 l.table.prices, count, ap (λ x. node_count x.net) e);
       value = ap (λ x. drop 1 x.prices) e;
       small = small_prices b (subst IsBasis e ok.basis);
     }

@@ -37,9 +37,7 @@ split_sum t g amounts h =
 pub split_net : (g : Network) (amounts : List ℤ) (v : ℕ) → length g.arcs ≤ length amounts →
     net (with_artificial g).arcs amounts v ≡ net g.arcs (take (length g.arcs) amounts) v +ℤ net (added_arcs g) (drop (length g.arcs) amounts) v
 split_net g amounts v h =
-    let out = split_sum (λ a f. when (eqb a.src v) f) g amounts h in
-    let inn = split_sum (λ a f. when (eqb a.dst v) f) g amounts h in
-    omega (arith, ints, out, inn)
+    omega (arith, ints, split_sum (λ a f. when (eqb a.src v) f) g amounts h, split_sum (λ a f. when (eqb a.dst v) f) g amounts h)
 
 -- a sum of terms that are all 0
 pub zero_terms : (t : Arc → ℤ → ℤ) (arcs : List Arc) (flow : List ℤ)
@@ -47,9 +45,8 @@ pub zero_terms : (t : Arc → ℤ → ℤ) (arcs : List Arc) (flow : List ℤ)
 zero_terms t [] flow each = refl
 zero_terms t (a ∷ arcs) [] each = refl
 zero_terms t (a ∷ arcs) (f ∷ flow) each =
-    let first : t a f ≡ pos 0 = each 0 (omega arith) (omega arith) in
     let rest : flow_sum t arcs flow ≡ pos 0 = zero_terms t arcs flow (λ i l m. each (suc i) (omega arith) (omega arith)) in
-    omega (arith, ints, first, rest)
+    omega (arith, ints, each 0 (omega arith) (omega arith), rest)
 
 -- and so the net of amounts that are all 0
 pub net_of_zeros : (arcs : List Arc) (flow : List ℤ) (v : ℕ) → ((i : ℕ) → i < length flow → get_or flow i (pos 0) ≡ pos 0) → net arcs flow v ≡ pos 0
@@ -82,12 +79,9 @@ module _ (b : TreeStructure) (ok : IsBasis b) where
   -- without artificial amounts the net at a node is that over the arcs of the net
   no_rest : HasNoArtificial b → (i : ℕ) → i < length (drop (length b.net.arcs) b.amounts) → get_or (drop (length b.net.arcs) b.amounts) i (pos 0) ≡ pos 0
   no_rest none i h =
-      let e = rest_count in
-      read_added b i (i + 1) refl ∙ none (i + 1) (omega (arith, e, h), omega (arith, e, h))
+      read_added b i (i + 1) refl ∙ none (i + 1) (omega (arith, rest_count, h), omega (arith, rest_count, h))
 
   pub net_without : HasNoArtificial b → (v : ℕ) → net (with_artificial b.net).arcs b.amounts v ≡ net b.net.arcs (state_of b).amounts v
   net_without none v =
-      let e = amount_count in
-      let split = split_net b.net b.amounts v (omega (arith, e)) in
       let rest = net_of_zeros (added_arcs b.net) (drop (length b.net.arcs) b.amounts) v (no_rest none) in
-      omega (arith, ints, split, rest)
+      omega (arith, ints, split_net b.net b.amounts v (omega (arith, amount_count)), rest)

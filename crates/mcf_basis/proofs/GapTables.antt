@@ -48,10 +48,8 @@ module _ (gap priced : ℕ) (stored : List ℤ) (offers : List ArcOffer) (begin 
 
   shown_by : (o : ArcOffer) → HasPricedEnds (length stored) o → HasOwnEnds o → reduced_by (map (price_by gap) stored) o ≡ change_by gap (reduced_by stored o)
   shown_by o ends (nodes from to) =
-      let p : IsSpread gap (price_by gap (get_or stored o.from (pos 0))) =
-      subst (IsSpread gap) (price_read gap stored o.from) (can.spread o.from from (omega (arith, sizes, ends.from))) in
-      let q : IsSpread gap (price_by gap (get_or stored o.to (pos 0))) =
-      subst (IsSpread gap) (price_read gap stored o.to) (can.spread o.to to (omega (arith, sizes, ends.to))) in
+      let p = subst (IsSpread gap) (price_read gap stored o.from) (can.spread o.from from (omega (arith, sizes, ends.from))) in
+      let q = subst (IsSpread gap) (price_read gap stored o.to) (can.spread o.to to (omega (arith, sizes, ends.to))) in
       ap (λ z. o.cost -ℤ z +ℤ get_or (map (price_by gap) stored) o.to (pos 0)) (price_read gap stored o.from)
       ∙ (ap (λ z. o.cost -ℤ price_by gap (get_or stored o.from (pos 0)) +ℤ z) (price_read gap stored o.to)
       ∙ reduced_shown gap o.cost (get_or stored o.from (pos 0)) (get_or stored o.to (pos 0)) ends.cost p q)
@@ -82,9 +80,8 @@ module _ (gap priced : ℕ) (stored : List ℤ) (offers : List ArcOffer) (begin 
             omega (arith, ints, here, there, lt));
       }
   least_stored None none = λ j from to. (let there = shown j from to in
-      let zero_is = moved_zero stand_in (2 * gap) in
       let le = moved_most stand_in (2 * gap) (pos 0) (reduced_of stored offers j) (none j from to) in
-      omega (arith, ints, there, zero_is, le))
+      omega (arith, ints, there, moved_zero stand_in (2 * gap), le))
 
 -- ---- changes
 

@@ -87,10 +87,9 @@ inner_arc g label u v h pu pv joins =
     elim (label_case g label h) [
       | own k ↦ k
       | added w node e ↦ absurd (let same = added_arc g w label node e in
-          let up = both_up g label u v pu pv joins in
           elim (cases_Bool (is_sender g w)) [
-            | inl e ↦ (let z = ap (λ a. a.dst) same ∙ (sender_ends g w e).1 in omega (arith, z, up))
-            | inr e ↦ (let z = ap (λ a. a.src) same ∙ (taker_ends g w e).0 in omega (arith, z, up))
+            | inl e ↦ (let z = ap (λ a. a.dst) same ∙ (sender_ends g w e).1 in omega (arith, z, both_up g label u v pu pv joins))
+            | inr e ↦ (let z = ap (λ a. a.src) same ∙ (taker_ends g w e).0 in omega (arith, z, both_up g label u v pu pv joins))
           ])
     ]
 

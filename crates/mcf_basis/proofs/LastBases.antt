@@ -45,8 +45,7 @@ module _ (b : TreeStructure) (ok : IsBasis b) where
   read_own : (i : ℕ) (y : ℤ) → i < length b.net.arcs → get_or (state_of b).amounts i y ≡ carried b (i + 1)
   read_own i y h =
       let place : i + 1 - 1 ≡ i = omega arith in
-      let count = own_count b ok in
-      get_or_default (state_of b).amounts i y (pos 0) (omega (arith, count, h)) ∙
+      get_or_default (state_of b).amounts i y (pos 0) (omega (arith, own_count b ok, h)) ∙
       (ap (λ j. get_or (state_of b).amounts j (pos 0)) (sym place) ∙ own_carried b ok (i + 1) (pos 0) (omega arith, omega arith))
 
   -- what holds of each arc of the net and its amount holds of the two lists
@@ -59,9 +58,7 @@ module _ (b : TreeStructure) (ok : IsBasis b) where
   held k h =
       let a : IsNetArc (arc_at b.net k) = net_arc_at b.net k ok.of_net h in
       let c : CanHold b.net k (carried b k) = ok.flow.within_bounds k (own_label b.net k h) in
-      let low = a.no_low in
-      let from = c.low in
-      (omega (arith, ints, low, from), c.high h.1)
+      (omega (arith, ints, a.no_low, c.low), c.high h.1)
 
   pub within : AllZip CanCarry b.net.arcs (state_of b).amounts
   within = each_own CanCarry held
@@ -70,9 +67,7 @@ module _ (b : TreeStructure) (ok : IsBasis b) where
   feasible none = record {
     within_bounds = within;
     meets_supplies = λ v h. (let s = ok.flow.no_surplus v (subst (λ n. IsNode n v) (node_count_added b.net) h) in
-        let n = net_without b ok none v in
-        let sup : at_node (with_artificial b.net).supplies v ≡ at_node b.net.supplies v = supply_added b.net v in
-        omega (arith, ints, s, n, sup));
+        omega (arith, ints, s, net_without b ok none v, supply_added b.net v));
   }
 
   -- the reduced cost by the prices of the nodes alone
@@ -84,10 +79,8 @@ module _ (b : TreeStructure) (ok : IsBasis b) where
   own_reduced_cost : (k : ℕ) → IsArcNumber b.net k → reduced_cost (drop 1 b.prices) (arc_at b.net k) ≡ reduced_at b k
   own_reduced_cost k h =
       let ends : HasEnds (node_count b.net) (arc_at b.net k) = ends_at b.net k ok.of_net h in
-      let s = node_price (arc_at b.net k).src ends.src_is_node in
-      let d = node_price (arc_at b.net k).dst ends.dst_is_node in
       let r = own_reduced b k h in
-      omega (arith, ints, s, d, r)
+      omega (arith, ints, node_price (arc_at b.net k).src ends.src_is_node, node_price (arc_at b.net k).dst ends.dst_is_node, r)
 
   module _ (none : HasNoEligible b) where
     -- an arc of positive reduced cost carries nothing, one of negative reduced cost all that it can

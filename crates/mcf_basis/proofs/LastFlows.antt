@@ -30,14 +30,12 @@ use Rattle.mcf_basis.proofs.LastBases.{node_price, shows, within, zero_or_more}
 -- within its bounds, what an arc costs changes by no more than its weight
 one_apart : (a : Arc) (f h : ℤ) → IsNetArc a → CanCarry a f → CanCarry a h → (a.cost *ℤ h -ℤ a.cost *ℤ f) ≤ℤ pos (weight a)
 one_apart a f h arc cf ch =
-    let low = arc.no_low in
     let size = up_to_size a.cap in
     let right = le-max_right (unsigned_abs a.low) (unsigned_abs a.cap) in
     let gap : IsUpTo (max (unsigned_abs a.low) (unsigned_abs a.cap)) (h -ℤ f) =
-    (omega (arith, ints, low, size, right, cf, ch), omega (arith, ints, low, size, right, cf, ch)) in
+    (omega (arith, ints, arc.no_low, size, right, cf, ch), omega (arith, ints, arc.no_low, size, right, cf, ch)) in
     let product = mul_up_to a.cost (h -ℤ f) (unsigned_abs a.cost) (max (unsigned_abs a.low) (unsigned_abs a.cap)) (up_to_size a.cost) gap in
-    let split = mul-sub a.cost h f in
-    omega (arith, ints, product, split)
+    omega (arith, ints, product, mul-sub a.cost h f)
 
 costs_apart : (arcs : List Arc) (x y : List ℤ) → All IsNetArc arcs → IsWithinBounds arcs x → IsWithinBounds arcs y
     → (cost arcs y -ℤ cost arcs x) ≤ℤ pos (sum (map weight arcs))
@@ -45,10 +43,8 @@ costs_apart [] x y each hx hy = omega (arith, ints)
 costs_apart (a ∷ arcs) [] y each hx hy = absurd hx
 costs_apart (a ∷ arcs) (f ∷ x) [] each hx hy = absurd hy
 costs_apart (a ∷ arcs) (f ∷ x) (h ∷ y) each hx hy =
-    let first = one_apart a f h (All-head IsNetArc a arcs each) hx.0 hy.0 in
     let rest = costs_apart arcs x y (All-tail IsNetArc a arcs each) hx.1 hy.1 in
-    let weights = sum-weights weight a arcs in
-    omega (arith, ints, first, rest, weights)
+    omega (arith, ints, one_apart a f h (All-head IsNetArc a arcs each) hx.0 hy.0, rest, sum-weights weight a arcs)
 
 -- where an arc is complementary, no other flow within its bounds has a smaller product with the
 -- reduced cost r
@@ -113,8 +109,7 @@ module _ (b : TreeStructure) (ok : IsBasis b) where
       node_sum-same (λ v. at_node prices v *ℤ net b.net.arcs own v)
       (λ v. at_node prices v *ℤ at_node b.net.supplies v -ℤ pos (artificial_cost b.net) *ℤ artificial_amount b v) (node_count b.net)
       (λ v h. (let u = unsent_paid v h in
-      let d = mul-sub (at_node prices v) (at_node b.net.supplies v) (net b.net.arcs own v) in
-      omega (arith, ints, u, d)))
+      omega (arith, ints, u, mul-sub (at_node prices v) (at_node b.net.supplies v) (net b.net.arcs own v))))
       ∙ (node_sum-sub (λ v. at_node prices v *ℤ at_node b.net.supplies v) (λ v. pos (artificial_cost b.net) *ℤ artificial_amount b v) (node_count b.net)
       ∙ ap (λ z. node_sum (λ v. at_node prices v *ℤ at_node b.net.supplies v) (node_count b.net) -ℤ z)
       (node_sum-mul (pos (artificial_cost b.net)) (artificial_amount b) (node_count b.net)))
@@ -127,11 +122,8 @@ module _ (b : TreeStructure) (ok : IsBasis b) where
         flow_sum-le_two (IsComplementary prices) CanCarry paid paid
         (λ a f h t q. no_smaller (reduced_cost prices a) a.low a.cap f h t.0 t.1 q.0 q.1)
         b.net.arcs own flow (shows b ok none) feasible.within_bounds in
-        let other = reduced_total b.net prices flow ok.of_net.ends feasible in
-        let here = own_total in
-        let sent = supply_paid in
         let apart = costs_apart b.net.arcs own flow ok.of_net.each_arc (within b ok) feasible.within_bounds in
-        omega (arith, ints, least, other, here, sent, apart)
+        omega (arith, ints, least, reduced_total b.net prices flow ok.of_net.ends feasible, own_total, supply_paid, apart)
 
     nothing_left : (v : ℕ) → IsNode (node_count b.net) v → artificial_amount b v ≡ pos 0
     nothing_left v h = elim (zero_or_more (artificial_amount b v) (artificial_low b ok v h)) [
@@ -140,9 +132,7 @@ module _ (b : TreeStructure) (ok : IsBasis b) where
           let times : (pos (artificial_cost b.net) *ℤ pos 1) ≤ℤ (pos (artificial_cost b.net) *ℤ node_sum (artificial_amount b) (node_count b.net)) =
           mul-mono (pos (artificial_cost b.net)) (pos 1) (node_sum (artificial_amount b) (node_count b.net))
           (omega (arith, ints)) (omega (arith, ints, more)) in
-          let one = mul-one (pos (artificial_cost b.net)) in
-          let small = artificial_small in
-          omega (arith, ints, times, one, small))
+          omega (arith, ints, times, mul-one (pos (artificial_cost b.net)), artificial_small))
     ]
 
 pub last_bases_are_feasible_lem : LastBasesAreFeasible

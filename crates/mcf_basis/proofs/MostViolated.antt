@@ -64,15 +64,14 @@ module _ (l : Layout) (ok : IsLaidOut l) where
     most_violated_some i found =
         let here = at_place i (omega arith, omega (arith, found.high)) in
         let el : IsEligible (basis_in l) (i + 1) = here.eligible found.gains in
-        let size = here.size el in
         record {
           low = omega (arith, found.low);
           high = omega (arith, found.high);
           eligible = el;
           greatest = λ j above below other. (let there = (placed j (omega arith, omega arith)).size other in
-              let le = found.least (j - 1) (omega arith) (omega arith) in omega (arith, ints, size, there, le));
+              let le = found.least (j - 1) (omega arith) (omega arith) in omega (arith, ints, here.size el, there, le));
           first_one = λ j above below other. (let there = (placed j (omega arith, omega (arith, below, found.high))).size other in
-              let lt = found.first (j - 1) (omega arith) (omega arith) in omega (arith, ints, size, there, lt));
+              let lt = found.first (j - 1) (omega arith) (omega arith) in omega (arith, ints, here.size el, there, lt));
         }
 
     pub most_violated_none : IsLeastOffer l.table.prices l.offers (first - 1) (end - 1) None → IsMostViolatedPick (basis_in l) first end None

@@ -71,8 +71,7 @@ module _ (l : Layout) (k : ℕ) (ok : IsLaidOut l) (h : IsArcNumber l.net k) whe
   -- and all that it can where it is turned
   pub full : offer_at l k ≡ turned_offer l.net k → pos 0 <ℤ (arc_at l.net k).cap → ¬ IsInTree (basis_in l) k → carried (basis_in l) k ≡ (arc_at l.net k).cap
   full e wide out =
-      let a = arc_ok in
-      carried_outside l k h out ∙ cond-false _ _ _ (ne_eqb _ _ (λ q. (let z = a.no_loop_width (sym q ∙ ap (λ o. o.from) e) in omega (arith, ints, z, wide))))
+      carried_outside l k h out ∙ cond-false _ _ _ (ne_eqb _ _ (λ q. (let z = arc_ok.no_loop_width (sym q ∙ ap (λ o. o.from) e) in omega (arith, ints, z, wide))))
 
   read_closed : (arc_at l.net k).cap ≡ pos 0 → offer_at l k ≡ no_offer → IsReadOffer (basis_in l) k (offer_at l k)
   unfolding basis_in
@@ -88,33 +87,28 @@ module _ (l : Layout) (k : ℕ) (ok : IsLaidOut l) (h : IsArcNumber l.net k) whe
   read_forward : pos 0 <ℤ (arc_at l.net k).cap → offer_at l k ≡ forward_offer l.net k → IsReadOffer (basis_in l) k (offer_at l k)
   unfolding basis_in
   read_forward wide e =
-      let a = arc_ok in
-      let n = ends_ok in
-      let r = reduced_is in
       rw e (record {
-        from = n.src_is_node.1;
-        to = n.dst_is_node.1;
-        cost = a.cost_small;
-        eligible = λ neg. (let low : reduced_at (basis_in l) k <ℤ pos 0 = rw r neg in
+        from = ends_ok.src_is_node.1;
+        to = ends_ok.dst_is_node.1;
+        cost = arc_ok.cost_small;
+        eligible = λ neg. (let low : reduced_at (basis_in l) k <ℤ pos 0 = rw reduced_is neg in
             let out : ¬ IsInTree (basis_in l) k = not_in_tree (basis_in l) k ok.basis (λ z. omega (arith, ints)) in
             record { arc = h; outside = out; wide = wide; gains = inl (empty e out, low) });
         only = λ el. elim el.gains [
-          | inl g ↦ (rw r at g.1)
+          | inl g ↦ (rw reduced_is at g.1)
           | inr g ↦ absurd (let z = empty e el.outside in omega (arith, ints, z, g.0, wide))
         ];
-        size = λ neg. (let low : reduced_at (basis_in l) k <ℤ pos 0 = rw r neg in sym r ∙ below_size (reduced_at (basis_in l) k) low);
+        size = λ neg. (let low : reduced_at (basis_in l) k <ℤ pos 0 = rw reduced_is neg in sym reduced_is ∙ below_size (reduced_at (basis_in l) k) low);
       })
 
   read_turned : pos 0 <ℤ (arc_at l.net k).cap → offer_at l k ≡ turned_offer l.net k → IsReadOffer (basis_in l) k (offer_at l k)
   unfolding basis_in
   read_turned wide e =
-      let a = arc_ok in
-      let n = ends_ok in
       let r = reduced_is in
       rw e (record {
-        from = n.dst_is_node.1;
-        to = n.src_is_node.1;
-        cost = (let c = a.cost_small in (omega (arith, ints, c), omega (arith, ints, c)));
+        from = ends_ok.dst_is_node.1;
+        to = ends_ok.src_is_node.1;
+        cost = (let c = arc_ok.cost_small in (omega (arith, ints, c), omega (arith, ints, c)));
         eligible = λ neg. (let high : pos 0 <ℤ reduced_at (basis_in l) k = omega (arith, ints, r, neg) in
             let out : ¬ IsInTree (basis_in l) k = not_in_tree (basis_in l) k ok.basis (λ z. omega (arith, ints)) in
             record { arc = h; outside = out; wide = wide; gains = inr (full e wide out, high) });
@@ -135,11 +129,10 @@ module _ (l : Layout) (k : ℕ) (ok : IsLaidOut l) (h : IsArcNumber l.net k) whe
   -- its ends are nodes of the net, unless the arc can carry nothing
   pub own_nodes_of : HasOwnEnds (offer_at l k)
   own_nodes_of =
-      let n = ends_ok in
       elim (ok.offers k h) [
         | closed cap e ↦ nothing e
-        | forward wide e ↦ rw e (nodes n.src_is_node.0 n.dst_is_node.0)
-        | turned wide e ↦ rw e (nodes n.dst_is_node.0 n.src_is_node.0)
+        | forward wide e ↦ rw e (nodes ends_ok.src_is_node.0 ends_ok.dst_is_node.0)
+        | turned wide e ↦ rw e (nodes ends_ok.dst_is_node.0 ends_ok.src_is_node.0)
       ]
 
   -- and its reduced cost can be computed

@@ -42,10 +42,12 @@ entering_takes b k el =
       backward = λ t. takes_back (carried b k) (arc_at b.net k).cap (reduced_at b k) el.wide el.gains t;
     }
   where
-    takes_forth : (a cap z : ℤ) → pos 0 <ℤ cap → ((a ≡ pos 0) × (z <ℤ pos 0)) ⊎ ((a ≡ cap) × (pos 0 <ℤ z)) → int_lt (pos 0) z ≡ false → (a +ℤ pos 1) ≤ℤ cap
+    takes_forth : (a cap z : ℤ) → pos 0 <ℤ cap → ((a ≡ pos 0) × (z <ℤ pos 0)) ⊎ ((a ≡ cap) × (pos 0 <ℤ z))
+        → int_lt (pos 0) z ≡ false → (a +ℤ pos 1) ≤ℤ cap
     takes_forth a cap z wide gains t = grind (arith, ints)
 
-    takes_back : (a cap z : ℤ) → pos 0 <ℤ cap → ((a ≡ pos 0) × (z <ℤ pos 0)) ⊎ ((a ≡ cap) × (pos 0 <ℤ z)) → int_lt (pos 0) z ≡ true → pos 1 ≤ℤ a
+    takes_back : (a cap z : ℤ) → pos 0 <ℤ cap → ((a ≡ pos 0) × (z <ℤ pos 0)) ⊎ ((a ≡ cap) × (pos 0 <ℤ z))
+        → int_lt (pos 0) z ≡ true → pos 1 ≤ℤ a
     takes_back a cap z wide gains t = grind (arith, ints)
 
 module _ (old new : TreeStructure) (k : ℕ) (moved : ℤ) (ok : IsBasis old) (pivot : IsPivot old k moved new) where
@@ -60,16 +62,13 @@ module _ (old new : TreeStructure) (k : ℕ) (moved : ℤ) (ok : IsBasis old) (p
   -- where something moves, the cost falls
   cost_falls : pos 0 <ℤ moved → full_cost new <ℤ full_cost old
   cost_falls some =
-      let after = cost_after in
       let below : (entering_cost old k *ℤ moved) <ℤ pos 0 = mul_below_zero (entering_cost old k) moved (entering_low old k pivot.eligible) some in
-      omega (arith, ints, after, below, *ℤ_comm (entering_cost old k) moved)
+      omega (arith, ints, cost_after, below, *ℤ_comm (entering_cost old k) moved)
 
   -- where nothing moves, it stays
   cost_stays : moved ≡ pos 0 → full_cost new ≡ full_cost old
   cost_stays still =
-      let after = cost_after in
-      let none = ap (λ z. z *ℤ entering_cost old k) still in
-      omega (arith, ints, after, none, zero-mul (entering_cost old k))
+      omega (arith, ints, cost_after, ap (λ z. z *ℤ entering_cost old k) still, zero-mul (entering_cost old k))
 
   ends_of : HasTwoEnds old.net k (from_of old k) (to_of old k)
   ends_of = two_ends old.net k (int_lt (pos 0) (reduced_at old k)) ok.of_net pivot.eligible.arc pivot.eligible.wide
@@ -111,11 +110,8 @@ module _ (old new : TreeStructure) (k : ℕ) (moved : ℤ) (ok : IsBasis old) (p
 
     change_is : x.change ≡ entering_cost old k
     change_is =
-        let before = turned_reduced old k (entering old k).back in
-        let after = reduced_after in
         let from = subst (λ v. price_at new v ≡ price_at old v +ℤ x.change) at_from inner_price in
-        let to = to_price in
-        omega (arith, ints, before, after, from, to)
+        omega (arith, ints, turned_reduced old k (entering old k).back, reduced_after, from, to_price)
 
     change_low : x.change <ℤ pos 0
     change_low = subst (λ z. z <ℤ pos 0) (sym change_is) (entering_low old k pivot.eligible)
@@ -123,22 +119,19 @@ module _ (old new : TreeStructure) (k : ℕ) (moved : ℤ) (ok : IsBasis old) (p
     -- no price rises, and that of this end falls
     prices_fall : price_sum new <ℤ price_sum old
     prices_fall =
-        let low = change_low in
-        let falls = inner_price in
         let sum : pos 0 <ℤ node_sum (λ v. price_at old v -ℤ price_at new v) (node_count old.net) =
-        node_sum_above_zero (λ v. price_at old v -ℤ price_at new v) (node_count old.net) inner inner_node (omega (arith, ints, falls, low))
+        node_sum_above_zero (λ v. price_at old v -ℤ price_at new v) (node_count old.net) inner inner_node (omega (arith, ints, inner_price, change_low))
         (λ v h. (let at = x.prices v h.1 in
-        let none = not_above_zero (is_above old.tree out v) x.change low in omega (arith, ints, at, none))) in
-        let split = node_sum-sub (price_at old) (price_at new) (node_count old.net) in
+        let none = not_above_zero (is_above old.tree out v) x.change change_low in omega (arith, ints, at, none))) in
         let same : price_sum new ≡ node_sum (price_at new) (node_count old.net) = ap (λ g. node_sum (price_at new) (node_count g)) pivot.net in
-        omega (arith, ints, sum, split, same)
+        omega (arith, ints, sum, node_sum-sub (price_at old) (price_at new) (node_count old.net), same)
 
   -- an arc on the side of this end leaves
   left_falls : (m out inner outer : ℕ) → m < left_steps old k pivot.apex → label_of old.tree (left_node old k m) ≡ label_of old.tree out →
       IsExchanged old (entering old k) out inner outer new → price_sum new <ℤ price_sum old
   left_falls m out inner outer h named x =
       let is : out ≡ left_node old k m =
-      step_of old k pivot.apex ok pivot.eligible is_around (from_of old k) m out (left_step old k pivot.apex ok pivot.eligible is_around m h) x.is_node named in
+      step_of old k pivot.apex ok pivot.eligible is_around (left_step old k pivot.apex ok pivot.eligible is_around m h) x.is_node named in
       elim x.ends [
         | inl e ↦ prices_fall out inner outer x e.0 e.1
         | inr e ↦ absurd (x.outside (record { steps = m; leads = ap (climb old.tree.parents m) e.1 ∙ sym is }))

@@ -6,7 +6,7 @@ use Rattle.std.proofs.lemmas.Bool.{both_ways, cases_eq, eq-eqb, ne_eqb}
 use Rattle.mcf_flows.specs.Network.{IsNode, node_count}
 use Rattle.mcf_links.specs.Rooted.{climb}
 use Rattle.mcf_network.specs.Residual.{arc_at}
-use Rattle.mcf_tree.specs.SpanningTree.{depth_of, label_of, parent_of}
+use Rattle.mcf_tree.specs.SpanningTree.{depth_of, label_of}
 use Rattle.mcf_basis.specs.Artificial.{IsLabel, with_artificial}
 use Rattle.mcf_basis.specs.Bases.{CanHold, IsAtBound, IsBasis}
 use Rattle.mcf_basis.specs.Pivots.{IsPivot, entering}
@@ -46,7 +46,8 @@ module _ (b : TreeStructure) (label v : ℕ) (x : ℤ) (new : ℕ → ℤ)
   pushed_bound full =
       elim (cases_eq (arc_at (with_artificial b.net) label).src v) [
         | inl e ↦ (let back : (leaving b.net label v).back ≡ false = ap not (eq-eqb (arc_at (with_artificial b.net) label).src v e) in
-            inr (forward_bound label (length b.net.arcs) (carried b label) (new label) (arc_at b.net label).cap x (went.forward e) (can.forward back)
+            inr (forward_bound label (length b.net.arcs) (carried b label) (new label) (arc_at b.net label).cap x
+            (went.forward e) (can.forward back)
             (λ more. full (record { forward = λ t. more; backward = λ t. absurd (both_ways (leaving b.net label v).back back t) }))))
         | inr ne ↦ (let back : (leaving b.net label v).back ≡ true = ap not (ne_eqb (arc_at (with_artificial b.net) label).src v ne) in
             inl (backward_bound (carried b label) (new label) x (went.backward ne) (can.backward back)
@@ -64,7 +65,7 @@ module _ (b : TreeStructure) (label v : ℕ) (x : ℤ) (new : ℕ → ℤ)
 pub side_node : (b : TreeStructure) → IsBasis b → (u n p : ℕ) → u < length b.tree.parents → n ≤ depth_of b.tree u → p < n
     → IsNode (node_count b.net) (climb b.tree.parents p u)
 side_node b ok u n p h short lt =
-    let w = step_at b.tree.parents (depth_of b.tree) ok.spanning.rooted u n p h short lt in
+    let w = step_at ok.spanning.rooted u n p h short lt in
     node_of b ok (climb b.tree.parents p u) w.above w.within
 
 module _ (old new : TreeStructure) (k : ℕ) (moved : ℤ) (ok : IsBasis old) (pivot : IsPivot old k moved new) (around : IsAround old k pivot.apex)
@@ -88,37 +89,31 @@ module _ (old new : TreeStructure) (k : ℕ) (moved : ℤ) (ok : IsBasis old) (p
   round_hold : (label : ℕ) → IsLabel old.net label → CanHold old.net label (now label)
   round_hold label h =
       elim (cases_eq k label) [
-        | inl e ↦ on_cycle k (from_of old k) went.entering can_enter e
+        | inl e ↦ on_cycle went.entering can_enter e
         | inr ne ↦ elim (cases_found (λ p. label_of old.tree (left_node old k p)) (left_steps old k pivot.apex) label) [
-          | inl t ↦ on_cycle (label_of old.tree (left_node old k t.at)) (parent_of old.tree (left_node old k t.at))
-              (went.left t.at t.short) (can.left t.at t.short) t.is
+          | inl t ↦ on_cycle (went.left t.at t.short) (can.left t.at t.short) t.is
           | inr off_left ↦ elim (cases_found (λ p. label_of old.tree (right_node old k p)) (right_steps old k pivot.apex) label) [
-            | inl t ↦ on_cycle (label_of old.tree (right_node old k t.at)) (right_node old k t.at) (went.right t.at t.short) (can.right t.at t.short) t.is
+            | inl t ↦ on_cycle (went.right t.at t.short) (can.right t.at t.short) t.is
             | inr off_right ↦ subst (CanHold old.net label)
                 (sym (went.others label (λ e. ne (sym e)) (λ i l e. off_left i l (sym e)) (λ i l e. off_right i l (sym e)))) (old_hold label h)
           ]
         ]
       ]
     where
-      on_cycle : (l v : ℕ) → Leaves (arcs_of old.net) (carried old) now l v moved → CanTake old (leaving old.net l v) moved → l ≡ label
+      on_cycle : {l v : ℕ} → Leaves (arcs_of old.net) (carried old) now l v moved → CanTake old (leaving old.net l v) moved → l ≡ label
           → CanHold old.net label (now label)
-      on_cycle = λ l v leaves takes e. subst (λ i. CanHold old.net i (now i)) e
+      on_cycle {l} {v} leaves takes e = subst (λ i. CanHold old.net i (now i)) e
           (pushed_hold old l v moved now leaves takes went.some (old_hold l (subst (IsLabel old.net) (sym e) h)))
 
   -- an arc outside the old tree that doesn't enter keeps its amount
   round_kept : (label : ℕ) → label ≢ k → ¬ IsInTree old label → now label ≡ carried old label
   round_kept label ne out =
       went.others label ne
-      (λ p h e. out (record {
-        node = left_node old k p;
-        is_node = side_node old ok (from_of old k) (left_steps old k pivot.apex) p around.cycle.left_in_range around.cycle.left_short h;
-        labelled = sym e;
-      }))
-      (λ p h e. out (record {
-        node = right_node old k p;
-        is_node = side_node old ok (to_of old k) (right_steps old k pivot.apex) p around.cycle.right_in_range around.cycle.right_short h;
-        labelled = sym e;
-      }))
+      (λ p h. apart (left_node old k p) (side_node old ok (from_of old k) _ p around.cycle.left_in_range around.cycle.left_short h))
+      (λ p h. apart (right_node old k p) (side_node old ok (to_of old k) _ p around.cycle.right_in_range around.cycle.right_short h))
+    where
+      apart : (v : ℕ) → IsNode (node_count old.net) v → label ≢ label_of old.tree v
+      apart = λ v node e. out (record { node = v; is_node = node; labelled = sym e })
 
   abbrev IsBound : ℕ → Type 0
   IsBound label = (now label ≡ pos 0) ⊎ ((label ≤ length old.net.arcs) × (now label ≡ (arc_at old.net label).cap))
@@ -126,15 +121,14 @@ module _ (old new : TreeStructure) (k : ℕ) (moved : ℤ) (ok : IsBasis old) (p
   -- the arc that leaves is at a bound
   leaving_bound : IsLeaving old k pivot.apex moved pivot.leaves → IsBound pivot.leaves.arc
   leaving_bound leaves = elim leaves [
-    | right m h is full rest ↦ on_cycle (label_of old.tree (right_node old k m)) (right_node old k m) (went.right m h) (can.right m h) is full
-    | enter is full rest ↦ on_cycle k (from_of old k) went.entering can_enter (is ∙ enters_from) full
-    | left m h is full rest more side ↦
-        on_cycle (label_of old.tree (left_node old k m)) (parent_of old.tree (left_node old k m)) (went.left m h) (can.left m h) is full
+    | right m h is full rest ↦ on_cycle (went.right m h) (can.right m h) is full
+    | enter is full rest ↦ on_cycle went.entering can_enter (is ∙ enters_from) full
+    | left m h is full rest more side ↦ on_cycle (went.left m h) (can.left m h) is full
   ]
     where
-      on_cycle : (l v : ℕ) → Leaves (arcs_of old.net) (carried old) now l v moved → CanTake old (leaving old.net l v) moved → pivot.leaves ≡ leaving old.net l v
+      on_cycle : {l v : ℕ} → Leaves (arcs_of old.net) (carried old) now l v moved → CanTake old (leaving old.net l v) moved → pivot.leaves ≡ leaving old.net l v
           → ¬ CanTake old pivot.leaves (moved +ℤ pos 1) → IsBound pivot.leaves.arc
-      on_cycle = λ l v leaves takes is full. subst (λ r. IsBound r.arc) (sym is)
+      on_cycle {l} {v} leaves takes is full = subst (λ r. IsBound r.arc) (sym is)
           (pushed_bound old l v moved now leaves takes went.some (subst (λ r. ¬ CanTake old r (moved +ℤ pos 1)) is full))
 
   old_bound : (label : ℕ) → IsLabel old.net label → label ≢ k → ¬ IsInTree old label → IsBound label

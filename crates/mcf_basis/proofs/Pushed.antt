@@ -13,7 +13,7 @@ use Rattle.mcf_network.specs.Residual.{arc_at, head, tail}
 use Rattle.mcf_network.specs.States.{Pseudoflow, amount_at, pushed}
 use Rattle.mcf_network.specs.Walks.{pushed_along}
 use Rattle.mcf_network.proofs.StateLaws.{read_written, rid, when-other, when-same}
-use Rattle.mcf_tree.specs.SpanningTree.{depth_of, label_of, parent_of}
+use Rattle.mcf_tree.specs.SpanningTree.{depth_of, label_of}
 use Rattle.mcf_basis.specs.Artificial.{IsLabel, with_artificial}
 use Rattle.mcf_basis.specs.Bases.{IsBasis}
 use Rattle.mcf_basis.specs.Pivots.{IsEligible, entering}
@@ -47,8 +47,7 @@ one_set : (xs : List ℤ) (k label : ℕ) (y gain : ℤ) → 1 ≤ k → k ≤ l
 one_set xs k label y gain low high h is =
     elim (read_written xs (k - 1) (label - 1) y (pos 0) (omega arith)) [
       | inl (e, w) ↦ (let old = ap (λ i. get_or xs i (pos 0)) e in
-          let all = when-same k label gain (omega arith) in
-          omega (arith, ints, w, old, all, is))
+          omega (arith, ints, w, old, when-same k label gain (omega arith), is))
       | inr (n, w) ↦ (let none = when-other k label gain (λ e. n (ap (λ i. i - 1) e)) in omega (arith, ints, w, none))
     ]
 
@@ -73,21 +72,13 @@ along_amount s (r ∷ rest) x label all h =
     let count : length (pushed s r x).amounts ≡ length s.amounts = pushed_count s r x in
     let others : All (HasEntry (pushed s r x).amounts) rest =
     All-weaker (HasEntry s.amounts) (HasEntry (pushed s r x).amounts) (λ q e. (e.0, rw count e.1)) rest (All-tail (HasEntry s.amounts) r rest all) in
-    let first = one_push s r.arc r.back x label here.0 here.1 h in
-    let more = along_amount (pushed s r x) rest x label others h in
-    omega (arith, ints, first, more)
-
-added_off : (label : ℕ) (x : ℤ) (r : Rid) → label ≢ r.arc → added_to label x r ≡ pos 0
-added_off label x r n = when-other r.arc label (along x r) n
-
-added_at : (label : ℕ) (x : ℤ) (r : Rid) → label ≡ r.arc → added_to label x r ≡ along x r
-added_at label x r e = when-same r.arc label (along x r) e
+    omega (arith, ints, one_push s r.arc r.back x label here.0 here.1 h, along_amount (pushed s r x) rest x label others h)
 
 -- an arc that isn't that of the label gains it nothing, and one that alone is gains it all
 gained_none : (label : ℕ) (x : ℤ) (walk : List Rid) → All (λ r. label ≢ r.arc) walk → gained label x walk ≡ pos 0
 gained_none label x [] off = refl
 gained_none label x (r ∷ rest) off =
-    let first = added_off label x r (All-head (λ (q : Rid). label ≢ q.arc) r rest off) in
+    let first = when-other r.arc label (along x r) (All-head (λ (q : Rid). label ≢ q.arc) r rest off) in
     let more = gained_none label x rest (All-tail (λ (q : Rid). label ≢ q.arc) r rest off) in
     omega (arith, ints, first, more)
 
@@ -95,18 +86,16 @@ gained_one : (label : ℕ) (x : ℤ) (walk : List Rid) (i : ℕ) (d : Rid) → i
     → ((j : ℕ) (e : Rid) → j < length walk → j ≢ i → label ≢ (get_or walk j e).arc) → gained label x walk ≡ added_to label x (get_or walk i d)
 gained_one label x [] i d h off = absurd (omega arith)
 gained_one label x (r ∷ rest) zero d h off =
-    let more = gained_none label x rest (λ j e l. off (suc j) e (omega arith) (λ q. omega arith)) in
-    omega (arith, ints, more)
+    omega (arith, ints, gained_none label x rest (λ j e l. off (suc j) e (omega arith) (λ q. omega arith)))
 gained_one label x (r ∷ rest) (suc i) d h off =
-    let first = added_off label x r (off 0 r (omega arith) (λ q. omega arith)) in
     let more = gained_one label x rest i d (omega arith) (λ j e l n. off (suc j) e (omega arith) (λ q. n (omega arith))) in
-    omega (arith, ints, first, more)
+    omega (arith, ints, when-other r.arc label (along x r) (off 0 r (omega arith) (λ q. omega arith)), more)
 
 -- ---- which way x goes
 
-leaves_from : (g : Network) (old new : ℕ → ℤ) (label v : ℕ) (x : ℤ) →
+leaves_from : (g : Network) {old new : ℕ → ℤ} {label v : ℕ} {x : ℤ} →
     new label ≡ old label +ℤ cond (not (eqb (arc_at (with_artificial g) label).src v)) (neg_ℤ x) x → Leaves (arcs_of g) old new label v x
-leaves_from g old new label v x e = record {
+leaves_from g {label} {v} e = record {
   forward = λ t. rw (eq-eqb (arc_at (with_artificial g) label).src v t) at e;
   backward = λ n. (let goes = rw (ne_eqb (arc_at (with_artificial g) label).src v n) at e in omega (arith, ints, goes));
 }
@@ -149,11 +138,11 @@ round_at b k apex x label h = cond-false _ _ _ (ne_eqb label 0 (λ e. omega arit
 module _ (b : TreeStructure) (k apex : ℕ) (ok : IsBasis b) (el : IsEligible b k) (around : IsAround b k apex) where
   pub left_step : (p : ℕ) → p < left_steps b k apex → IsStep b.tree.parents (depth_of b.tree) (from_of b k) p
   left_step p lt =
-      step_at b.tree.parents (depth_of b.tree) ok.spanning.rooted (from_of b k) (left_steps b k apex) p around.cycle.left_in_range around.cycle.left_short lt
+      step_at ok.spanning.rooted (from_of b k) (left_steps b k apex) p around.cycle.left_in_range around.cycle.left_short lt
 
   pub right_step : (p : ℕ) → p < right_steps b k apex → IsStep b.tree.parents (depth_of b.tree) (to_of b k) p
   right_step p lt =
-      step_at b.tree.parents (depth_of b.tree) ok.spanning.rooted (to_of b k) (right_steps b k apex) p around.cycle.right_in_range around.cycle.right_short lt
+      step_at ok.spanning.rooted (to_of b k) (right_steps b k apex) p around.cycle.right_in_range around.cycle.right_short lt
 
   pub cycle_labels : All (λ r. IsLabel b.net r.arc) (cycle_of b (entering b k) apex)
   cycle_labels = each_place b k apex (λ i r. IsLabel b.net r.arc) (record {
@@ -164,8 +153,7 @@ module _ (b : TreeStructure) (k apex : ℕ) (ok : IsBasis b) (el : IsEligible b 
 
   cycle_entries : All (HasEntry b.amounts) (cycle_of b (entering b k) apex)
   cycle_entries =
-      let count : length b.amounts ≡ length (with_artificial b.net).arcs = ok.flow.one_per_label in
-      All-weaker (λ r. IsLabel b.net r.arc) (HasEntry b.amounts) (λ r h. (h.0, rw count h.1)) (cycle_of b (entering b k) apex) cycle_labels
+      All-weaker (λ r. IsLabel b.net r.arc) (HasEntry b.amounts) (λ r h. (h.0, rw ok.flow.one_per_label h.1)) (cycle_of b (entering b k) apex) cycle_labels
 
   labels_differ : (u v p q : ℕ) → IsStep b.tree.parents (depth_of b.tree) u p → IsStep b.tree.parents (depth_of b.tree) v q
       → climb b.tree.parents p u ≢ climb b.tree.parents q v → label_of b.tree (climb b.tree.parents p u) ≢ label_of b.tree (climb b.tree.parents q v)
@@ -180,12 +168,11 @@ module _ (b : TreeStructure) (k apex : ℕ) (ok : IsBasis b) (el : IsEligible b 
   sides_differ p q hp hq = labels_differ (from_of b k) (to_of b k) p q (left_step p hp) (right_step q hq) (around.sides_apart p q hp hq)
 
   -- the node of a path that has the label of u is u
-  pub step_of : (v p u : ℕ) → IsStep b.tree.parents (depth_of b.tree) v p → IsNode (node_count b.net) u
+  pub step_of : {v p u : ℕ} → IsStep b.tree.parents (depth_of b.tree) v p → IsNode (node_count b.net) u
       → label_of b.tree (climb b.tree.parents p v) ≡ label_of b.tree u → u ≡ climb b.tree.parents p v
-  step_of v p u w node e =
-      let size : length b.tree.parents ≡ node_count b.net + 1 = ok.size in
+  step_of {v} {p} {u} w node e =
       same_node around.tree u (climb b.tree.parents p v)
-      (omega (arith, node)) (omega (arith, node, size)) w.above w.within (sym e)
+      (omega (arith, node)) (omega (arith, node, ok.size)) w.above w.within (sym e)
 
   pub left_outside : (p : ℕ) → p < left_steps b k apex → label_of b.tree (left_node b k p) ≢ k
   left_outside p lt = let one = left_step p lt in around.cycle.outside (left_node b k p) one.above one.within
@@ -225,7 +212,7 @@ module _ (b : TreeStructure) (k apex : ℕ) (ok : IsBasis b) (el : IsEligible b 
         let r : Rid = get_or (cycle_of b (entering b k) apex) i d in
         let label = cycle_labels i d h in
         round_is r.arc label.0 ∙ ap (λ z. carried b r.arc +ℤ z)
-        (gained_one r.arc x (cycle_of b (entering b k) apex) i d h (arcs_differ i d h) ∙ added_at r.arc x r refl))
+        (gained_one r.arc x (cycle_of b (entering b k) apex) i d h (arcs_differ i d h) ∙ when-same r.arc r.arc (along x r) refl))
 
     -- and no other arc gains anything
     round_other : (label : ℕ) → label ≢ k → ((p : ℕ) → p < left_steps b k apex → label ≢ label_of b.tree (left_node b k p)) →
@@ -242,11 +229,9 @@ module _ (b : TreeStructure) (k apex : ℕ) (ok : IsBasis b) (el : IsEligible b 
     pub went_round_by : pos 0 ≤ℤ x → WentRound b k apex x
     went_round_by low = record {
       some = low;
-      left = λ p lt. leaves_from b.net (carried b) (round_amount b k apex x) (label_of b.tree (left_node b k p)) (parent_of b.tree (left_node b k p)) x
-          (round_each.left (left_steps b k apex - suc p) p (omega arith));
+      left = λ p lt. leaves_from b.net (round_each.left (left_steps b k apex - suc p) p (omega arith));
       entering = leaves_tail b.net (carried b) (round_amount b k apex x) k (entering b k).back x around.cycle.apart round_each.entering;
-      right = λ p lt. leaves_from b.net (carried b) (round_amount b k apex x) (label_of b.tree (right_node b k p)) (right_node b k p) x
-          (round_each.right (left_steps b k apex + (p + 1)) p lt refl);
+      right = λ p lt. leaves_from b.net (round_each.right (left_steps b k apex + (p + 1)) p lt refl);
       others = round_other;
     }
 

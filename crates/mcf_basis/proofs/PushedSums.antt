@@ -27,7 +27,7 @@ use Rattle.mcf_basis.specs.Bases.{IsBasis}
 use Rattle.mcf_basis.specs.Pivots.{IsEligible, entering, full_cost}
 use Rattle.mcf_basis.specs.Structures.{TreeStructure, Joins, cycle_of, down_path, full_state, leaving, price_at, reduced_at, up_path}
 use Rattle.mcf_basis.specs.Structures.Joins.{out_of, into}
-use Rattle.mcf_basis.proofs.Around.{IsAround, down_arc, from_of, left_node, left_steps, right_node, right_steps, to_of, up_arc}
+use Rattle.mcf_basis.proofs.Around.{IsAround, from_of, left_node, left_steps, right_node, right_steps, to_of}
 use Rattle.mcf_basis.proofs.Labels.{joins_back}
 use Rattle.mcf_basis.proofs.Pushed.{along_count, cycle_labels, node_of, pushed_count}
 
@@ -54,15 +54,12 @@ one_surplus s k false x count h v = let e = net_changed s k x v count h in omega
 moved_along : (s : Pseudoflow) (walk : List Rid) (x : ℤ) (u w : ℕ) → length s.amounts ≡ length s.net.arcs → All (λ r. IsArcNumber s.net r.arc) walk →
     IsWalk s.net u walk w → (v : ℕ) → surplus_at (pushed_along s walk x) v ≡ surplus_at s v -ℤ when (eqb u v) x +ℤ when (eqb w v) x
 moved_along s [] x u w count all walk v =
-    let same = ap (λ i. when (eqb i v) x) walk in
-    omega (arith, ints, same)
+    omega (arith, ints, ap (λ i. when (eqb i v) x) walk)
 moved_along s (r ∷ rest) x u w count all walk v =
     let here : IsArcNumber s.net r.arc = All-head (λ (q : Rid). IsArcNumber s.net q.arc) r rest all in
-    let first = one_surplus s r.arc r.back x count here v in
     let more =
     moved_along (pushed s r x) rest x (head s.net r) w (pushed_count s r x ∙ count) (All-tail (λ (q : Rid). IsArcNumber s.net q.arc) r rest all) walk.1 v in
-    let same = ap (λ i. when (eqb i v) x) walk.0 in
-    omega (arith, ints, first, more, same)
+    omega (arith, ints, one_surplus s r.arc r.back x count here v, more, ap (λ i. when (eqb i v) x) walk.0)
 
 one_cost : (s : Pseudoflow) (k : ℕ) (b : Bool) (x : ℤ) → length s.amounts ≡ length s.net.arcs → IsArcNumber s.net k →
     cost s.net.arcs (pushed s (rid k b) x).amounts ≡ cost s.net.arcs s.amounts +ℤ unit_cost s.net (rid k b) *ℤ x
@@ -81,9 +78,8 @@ paid_along : (s : Pseudoflow) (walk : List Rid) (x : ℤ) → length s.amounts �
 paid_along s [] x count all = omega (arith, ints, zero-mul x)
 paid_along s (r ∷ rest) x count all =
     let here : IsArcNumber s.net r.arc = All-head (λ (q : Rid). IsArcNumber s.net q.arc) r rest all in
-    let first = one_cost s r.arc r.back x count here in
     let more = paid_along (pushed s r x) rest x (pushed_count s r x ∙ count) (All-tail (λ (q : Rid). IsArcNumber s.net q.arc) r rest all) in
-    omega (arith, ints, first, more, add-mul (unit_cost s.net r) (walk_cost s.net rest) x)
+    omega (arith, ints, one_cost s r.arc r.back x count here, more, add-mul (unit_cost s.net r) (walk_cost s.net rest) x)
 
 -- ---- walks in the tree
 
@@ -122,20 +118,16 @@ record IsPricedWalk (b : TreeStructure) (u : ℕ) (arcs : List Rid) (w : ℕ) : 
 priced_one : (b : TreeStructure) (label u v : ℕ) → Joins b.net label u v → reduced_at b label ≡ pos 0 → IsPricedWalk b u (leaving b.net label u ∷ []) v
 priced_one b label u v joins zero_cost =
     let ends = leaving_ends b.net label u v joins in
-    let reduced = turned_reduced b label (leaving b.net label u).back in
     let none = none_turned (leaving b.net label u).back (reduced_at b label) zero_cost in
     let from = ap (price_at b) ends.0 in
     let to = ap (price_at b) ends.1 in
-    record { joined = ends; paid = omega (arith, ints, reduced, none, from, to) }
+    record { joined = ends; paid = omega (arith, ints, turned_reduced b label (leaving b.net label u).back, none, from, to) }
 
-priced_append : (b : TreeStructure) (xs ys : List Rid) (u m w : ℕ) → IsPricedWalk b u xs m → IsPricedWalk b m ys w → IsPricedWalk b u (xs ++ ys) w
-priced_append b xs ys u m w one two =
-    let split = walk_cost-append (with_artificial b.net) xs ys in
-    let first = one.paid in
-    let second = two.paid in
+priced_append : {b : TreeStructure} {xs ys : List Rid} {u m w : ℕ} → IsPricedWalk b u xs m → IsPricedWalk b m ys w → IsPricedWalk b u (xs ++ ys) w
+priced_append {b} {xs} {ys} {u} {m} {w} one two =
     record {
       joined = IsWalk-append (with_artificial b.net) xs ys u m w one.joined two.joined;
-      paid = omega (arith, ints, split, first, second);
+      paid = omega (arith, ints, walk_cost-append (with_artificial b.net) xs ys, one.paid, two.paid);
     }
 
 module _ (b : TreeStructure) (ok : IsBasis b) where
@@ -151,9 +143,8 @@ module _ (b : TreeStructure) (ok : IsBasis b) where
       let joins = (ok.tree_arcs v node).joins in
       let none = ok.prices.balanced v node in
       let rest = tree_walks k p (ok.spanning.rooted.within v h) (omega arith) in (
-        priced_append b (up_arc b v ∷ []) (up_path b k p) v p (climb b.tree.parents k p) (priced_one b (label_of b.tree v) v p joins none) rest.0,
-        priced_append b (down_path b k p) (down_arc b v ∷ []) (climb b.tree.parents k p) p v rest.1
-            (priced_one b (label_of b.tree v) p v (joins_back b.net (label_of b.tree v) v p joins) none),
+        priced_append (priced_one b (label_of b.tree v) v p joins none) rest.0,
+        priced_append rest.1 (priced_one b (label_of b.tree v) p v (joins_back b.net (label_of b.tree v) v p joins) none),
       )
 
 -- ---- the cycle
@@ -192,32 +183,23 @@ module _ (b : TreeStructure) (k apex : ℕ) (ok : IsBasis b) (el : IsEligible b 
       let split =
       walk_cost-append (with_artificial b.net) (down_path b (left_steps b k apex) (from_of b k))
       (entering b k ∷ up_path b (right_steps b k apex) (to_of b k)) in
-      let left = down_side.paid in
-      let right = up_side.paid in
-      let enter = turned_reduced b k (entering b k).back in
       let same = ap (price_at b) around.cycle.closed in
-      omega (arith, ints, split, left, right, enter, same)
-
-  one_each : length b.amounts ≡ length (with_artificial b.net).arcs
-  one_each = ok.flow.one_per_label
+      omega (arith, ints, split, down_side.paid, up_side.paid, turned_reduced b k (entering b k).back, same)
 
   -- nodes have no surplus afterwards either
   pub round_surplus : (x : ℤ) → HasNoSurplus (pushed_along (full_state b) (cycle_of b (entering b k) apex) x)
   round_surplus x v h =
-      let node : IsNode (node_count (with_artificial b.net)) v =
-      subst (λ g. IsNode (node_count g) v) (along_net (full_state b) (cycle_of b (entering b k) apex) x) h in
+      let node = subst (λ g. IsNode (node_count g) v) (along_net (full_state b) (cycle_of b (entering b k) apex) x) h in
       let moves =
-      moved_along (full_state b) (cycle_of b (entering b k) apex) x (left_node b k (left_steps b k apex)) (right_node b k (right_steps b k apex)) one_each
-      (cycle_labels b k apex ok el around) closed_walk v in
-      let none = ok.flow.no_surplus v node in
-      let same = ap (λ u. when (eqb u v) x) around.cycle.closed in
-      omega (arith, ints, moves, none, same)
+      moved_along (full_state b) (cycle_of b (entering b k) apex) x (left_node b k (left_steps b k apex)) (right_node b k (right_steps b k apex))
+      ok.flow.one_per_label (cycle_labels b k apex ok el around) closed_walk v in
+      omega (arith, ints, moves, ok.flow.no_surplus v node, ap (λ u. when (eqb u v) x) around.cycle.closed)
 
   -- the cost changes by the reduced cost of the residual arc that enters, for each unit
   pub round_cost : (x : ℤ) →
       cost (with_artificial b.net).arcs (pushed_along (full_state b) (cycle_of b (entering b k) apex) x).amounts ≡ full_cost b +ℤ x *ℤ entering_cost b k
   round_cost x =
-      paid_along (full_state b) (cycle_of b (entering b k) apex) x one_each (cycle_labels b k apex ok el around)
+      paid_along (full_state b) (cycle_of b (entering b k) apex) x ok.flow.one_per_label (cycle_labels b k apex ok el around)
       ∙ ap (λ z. full_cost b +ℤ z) (ap (λ z. z *ℤ x) cycle_cost ∙ *ℤ_comm (entering_cost b k) x)
 
 -- there is an amount for each label

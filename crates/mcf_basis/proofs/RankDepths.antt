@@ -26,9 +26,8 @@ sum_low : (t : Arc → ℤ → ℤ) (arcs : List Arc) (flow : List ℤ)
 sum_low t [] flow each = omega (arith, ints)
 sum_low t (a ∷ arcs) [] each = omega (arith, ints)
 sum_low t (a ∷ arcs) (f ∷ flow) each =
-    let first : pos 0 ≤ℤ t a f = each 0 (omega arith) (omega arith) in
     let rest : pos 0 ≤ℤ flow_sum t arcs flow = sum_low t arcs flow (λ i l m. each (suc i) (omega arith) (omega arith)) in
-    omega (arith, ints, first, rest)
+    omega (arith, ints, each 0 (omega arith) (omega arith), rest)
 
 artificial_paid : (b : TreeStructure) → IsBasis b → (i : ℕ) → i < length (added_arcs b.net)
     → pos 0 ≤ℤ ((get_or (added_arcs b.net) i no_arc).cost *ℤ get_or (drop (length b.net.arcs) b.amounts) i (pos 0))
@@ -36,32 +35,25 @@ artificial_paid b ok i h =
     let n : length (added_arcs b.net) ≡ node_count b.net = length-map-range_with_len (artificial_arc b.net) 1 (node_count b.net) in
     let node : IsNode (node_count b.net) (i + 1) = (omega arith, omega (arith, n, h)) in
     let held = ok.flow.within_bounds (length b.net.arcs + (i + 1)) (added_label b.net (i + 1) node) in
-    let low = held.low in
     let read = read_added b i (i + 1) refl in
     let paid = ap (λ a. a.cost) (arc_at_place b.net i (omega (arith, n, h))) in
     mul_at_least_zero (get_or (added_arcs b.net) i no_arc).cost
-    (get_or (drop (length b.net.arcs) b.amounts) i (pos 0)) (omega (arith, ints, paid)) (omega (arith, ints, read, low))
+    (get_or (drop (length b.net.arcs) b.amounts) i (pos 0)) (omega (arith, ints, paid)) (omega (arith, ints, read, held.low))
 
 -- a basis costs no less than all arcs of the net can earn
 cost_low : (b : TreeStructure) → IsBasis b → neg_ℤ (pos (artificial_cost b.net)) ≤ℤ full_cost b
 cost_low b ok =
-    let count = amount_count b ok in
-    let split : full_cost b ≡ cost b.net.arcs (state_of b).amounts +ℤ flow_sum (λ a f. a.cost *ℤ f) (added_arcs b.net) (drop (length b.net.arcs) b.amounts) =
-    split_sum (λ a f. a.cost *ℤ f) b.net b.amounts (omega (arith, count)) in
-    let own : IsUpTo (sum (map weight b.net.arcs)) (cost b.net.arcs (state_of b).amounts) =
-    cost_up_to b.net.arcs (state_of b).amounts (sum (map weight b.net.arcs)) (omega arith) (within b ok) in
+    let own = cost_up_to b.net.arcs (state_of b).amounts (sum (map weight b.net.arcs)) (omega arith) (within b ok) in
     let paid = sum_low (λ a f. a.cost *ℤ f) (added_arcs b.net) (drop (length b.net.arcs) b.amounts)
     (λ i l m. artificial_paid b ok i l) in
-    omega (arith, ints, split, own, paid)
+    omega (arith, ints, split_sum (λ a f. a.cost *ℤ f) b.net b.amounts (omega (arith, amount_count b ok)), own, paid)
 
 -- over plain numbers
 deep : (c s : ℤ) (low half : ℕ) → neg_ℤ (pos low) ≤ℤ c → IsUpTo half s → pos 0 ≤ℤ ((c *ℤ pos (2 * half + 1) +ℤ s) +ℤ pos (low * (2 * half + 1) + 2 * half))
 deep c s low half h near =
-    let times : (neg_ℤ (pos low) *ℤ pos (2 * half + 1)) ≤ℤ (c *ℤ pos (2 * half + 1)) =
-    mul-mono_left (neg_ℤ (pos low)) c (pos (2 * half + 1)) (omega (arith, ints)) h in
     let turned : neg_ℤ (pos low) *ℤ pos (2 * half + 1) ≡ neg_ℤ (pos low *ℤ pos (2 * half + 1)) = neg-mul (pos low) (pos (2 * half + 1)) in
     let product : pos low *ℤ pos (2 * half + 1) ≡ pos (low * (2 * half + 1)) = refl in
-    omega (arith, ints, times, turned, product, near)
+    omega (arith, ints, mul-mono_left (neg_ℤ (pos low)) c (pos (2 * half + 1)) (omega (arith, ints)) h, turned, product, near)
 
 counted : (b : TreeStructure) → IsBasis b → pos (rank_above b) ≡ rank_of b +ℤ pos (rank_depth b.net)
 counted b ok =
@@ -70,8 +62,4 @@ counted b ok =
 
 pub ranks_count_down_lem : RanksCountDown
 ranks_count_down_lem old new ok ok' net falls =
-    let lt = rank_falls old new ok ok' net falls in
-    let was = counted old ok in
-    let is = counted new ok' in
-    let same : pos (rank_depth new.net) ≡ pos (rank_depth old.net) = ap (λ g. pos (rank_depth g)) net in
-    omega (arith, ints, lt, was, is, same)
+    omega (arith, ints, rank_falls old new ok ok' net falls, counted old ok, counted new ok', ap (λ g. pos (rank_depth g)) net)

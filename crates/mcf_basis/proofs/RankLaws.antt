@@ -20,23 +20,19 @@ price_sum_reached b ok = node_sum_up_to (price_at b) (price_reach b.net) (node_c
 lower_cost : (c d s t : ℤ) (half : ℕ) → IsUpTo half s → IsUpTo half t → d <ℤ c → (d *ℤ pos (2 * half + 1) +ℤ t) <ℤ (c *ℤ pos (2 * half + 1) +ℤ s)
 lower_cost c d s t half a b lt =
     let step : d ≤ℤ (c -ℤ pos 1) = omega (arith, ints) in
-    let times : (d *ℤ pos (2 * half + 1)) ≤ℤ ((c -ℤ pos 1) *ℤ pos (2 * half + 1)) =
-    mul-mono_left d (c -ℤ pos 1) (pos (2 * half + 1)) (omega (arith, ints)) step in
     let split : (c -ℤ pos 1) *ℤ pos (2 * half + 1) ≡ c *ℤ pos (2 * half + 1) -ℤ pos 1 *ℤ pos (2 * half + 1) = sub-mul c (pos 1) (pos (2 * half + 1)) in
     let one : pos 1 *ℤ pos (2 * half + 1) ≡ pos (2 * half + 1) = one-mul (pos (2 * half + 1)) in
-    omega (arith, ints, a, b, times, split, one)
+    omega (arith, ints, a, b, mul-mono_left d (c -ℤ pos 1) (pos (2 * half + 1)) (omega (arith, ints)) step, split, one)
 
 lower_sum : (c d s t : ℤ) (half : ℕ) → d ≡ c → t <ℤ s → (d *ℤ pos (2 * half + 1) +ℤ t) <ℤ (c *ℤ pos (2 * half + 1) +ℤ s)
 lower_sum c d s t half e lt =
-    let same : d *ℤ pos (2 * half + 1) ≡ c *ℤ pos (2 * half + 1) = ap (λ x. x *ℤ pos (2 * half + 1)) e in
-    omega (arith, ints, same, lt)
+    omega (arith, ints, ap (λ x. x *ℤ pos (2 * half + 1)) e, lt)
 
 pub rank_falls : (old new : TreeStructure) → IsBasis old → IsBasis new → new.net ≡ old.net → PairFalls old new → rank_of new <ℤ rank_of old
 rank_falls old new ok ok' net falls =
     let half : ℕ = node_count old.net * price_reach old.net in
     let was : IsUpTo (node_count old.net * price_reach old.net) (price_sum old) = price_sum_reached old ok in
-    let is : IsUpTo (node_count old.net * price_reach old.net) (price_sum new) =
-    subst (λ (g : Network). IsUpTo (node_count g * price_reach g) (price_sum new)) net (price_sum_reached new ok') in
+    let is = subst (λ (g : Network). IsUpTo (node_count g * price_reach g) (price_sum new)) net (price_sum_reached new ok') in
     subst (λ (g : Network). (full_cost new *ℤ pos (price_span g + 1) +ℤ price_sum new) <ℤ rank_of old) (sym net)
     (elim falls [
       | inl lt ↦ lower_cost (full_cost old) (full_cost new) (price_sum old) (price_sum new) (node_count old.net * price_reach old.net) was is lt
@@ -54,21 +50,15 @@ within_bound c d s t floor pivots half a b low h =
     let times : (floor *ℤ pos (2 * half + 1)) ≤ℤ (d *ℤ pos (2 * half + 1)) = mul-mono_left floor d (pos (2 * half + 1)) (omega (arith, ints)) low in
     let more_pos : pos (2 * half + 1) ≡ pos (2 * half) +ℤ pos 1 = omega (arith, ints) in
     let c_split : c *ℤ pos (2 * half + 1) ≡ c *ℤ pos (2 * half) +ℤ c *ℤ pos 1 = ap (λ x. c *ℤ x) more_pos ∙ mul-add c (pos (2 * half)) (pos 1) in
-    let c_one : c *ℤ pos 1 ≡ c = mul-one c in
-    let f_split : floor *ℤ pos (2 * half + 1) ≡ floor *ℤ pos (2 * half) +ℤ floor *ℤ pos 1 =
-    ap (λ x. floor *ℤ x) more_pos ∙ mul-add floor (pos (2 * half)) (pos 1) in
-    let f_one : floor *ℤ pos 1 ≡ floor = mul-one floor in
-    let e_split : ((c -ℤ floor) +ℤ pos 1) *ℤ pos (2 * half) ≡ (c -ℤ floor) *ℤ pos (2 * half) +ℤ pos 1 *ℤ pos (2 * half) =
-    add-mul (c -ℤ floor) (pos 1) (pos (2 * half)) in
-    let e_one : pos 1 *ℤ pos (2 * half) ≡ pos (2 * half) = one-mul (pos (2 * half)) in
+    let f_split = ap (λ x. floor *ℤ x) more_pos ∙ mul-add floor (pos (2 * half)) (pos 1) in
+    let e_split = add-mul (c -ℤ floor) (pos 1) (pos (2 * half)) in
     let d_split : (c -ℤ floor) *ℤ pos (2 * half) ≡ c *ℤ pos (2 * half) -ℤ floor *ℤ pos (2 * half) = sub-mul c floor (pos (2 * half)) in
-    omega (arith, ints, a, b, times, h, c_split, c_one, f_split, f_one, e_split, e_one, d_split)
+    omega (arith, ints, a, b, times, h, c_split, mul-one c, f_split, mul-one floor, e_split, one-mul (pos (2 * half)), d_split)
 
 pub ranks_bound_pivots_lem : RanksBoundPivots
 ranks_bound_pivots_lem first last pivots floor ok ok' net h low =
     let was : IsUpTo (node_count first.net * price_reach first.net) (price_sum first) = price_sum_reached first ok in
-    let is : IsUpTo (node_count first.net * price_reach first.net) (price_sum last) =
-    subst (λ (g : Network). IsUpTo (node_count g * price_reach g) (price_sum last)) net (price_sum_reached last ok') in
+    let is = subst (λ (g : Network). IsUpTo (node_count g * price_reach g) (price_sum last)) net (price_sum_reached last ok') in
     let flow : IsFullFlow (full_state last) first.net = subst (IsFullFlow (full_state last)) net ok'.flow in
     let above : floor ≤ℤ full_cost last = low (full_state last) flow in
     let ranks : (pos pivots +ℤ (full_cost last *ℤ pos (price_span first.net + 1) +ℤ price_sum last)) ≤ℤ rank_of first =

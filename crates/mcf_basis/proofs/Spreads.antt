@@ -54,24 +54,20 @@ reduced_is_shown g gap limit reach c p q cost (far is le) short fits (inr h) (in
     stored_as gap (change_limit (limit - gap)) (c -ℤ p +ℤ q) (c -ℤ p +ℤ q) (stays (omega (arith, ints, cost, s, h, k)) (omega (arith, ints, cost, s, h, k)) refl)
     (omega (arith, ints, cost, is, fits, h, k), omega (arith, ints, cost, is, fits, h, k))
 reduced_is_shown g gap limit reach c p q cost (far is le) short fits (inl h) (inr k) =
-    let s = short le in
     stored_as gap (change_limit (limit - gap)) (c -ℤ p +ℤ q +ℤ pos (2 * gap)) (c -ℤ p +ℤ q)
-    (down (omega (arith, ints, cost, s, is, h, k)) (omega (arith, ints)))
+    (down (omega (arith, ints, cost, short le, is, h, k)) (omega (arith, ints)))
     (omega (arith, ints, cost, is, fits, h, k), omega (arith, ints, cost, is, fits, h, k))
 reduced_is_shown g gap limit reach c p q cost (far is le) short fits (inr h) (inl k) =
-    let s = short le in
     stored_as gap (change_limit (limit - gap)) (c -ℤ p +ℤ q -ℤ pos (2 * gap)) (c -ℤ p +ℤ q)
-    (up (omega (arith, ints, cost, s, is, h, k)) (omega (arith, ints)))
+    (up (omega (arith, ints, cost, short le, is, h, k)) (omega (arith, ints)))
     (omega (arith, ints, cost, is, fits, h, k), omega (arith, ints, cost, is, fits, h, k))
 
 -- the same the other way
 pub turned_shown : (gap limit : ℕ) (left : Bool) (r : ℤ) → IsShown gap limit r → IsShown gap limit (price_change left r)
 turned_shown gap limit true r h = h
 turned_shown gap limit false r h =
-    let s = h.small in
-    let e = h.is in
     stored_as gap limit (neg_ℤ h.stored) (neg_ℤ r) (elim (is_moved stand_in (2 * gap) h.stored) [
-      | up k f ↦ down (omega (arith, ints, k)) (omega (arith, ints, e, f))
-      | down k f ↦ up (omega (arith, ints, k)) (omega (arith, ints, e, f))
-      | stays j k f ↦ stays (omega (arith, ints, k)) (omega (arith, ints, j)) (omega (arith, ints, e, f))
-    ]) (omega (arith, ints, s), omega (arith, ints, s))
+      | up k f ↦ down (omega (arith, ints, k)) (omega (arith, ints, h.is, f))
+      | down k f ↦ up (omega (arith, ints, k)) (omega (arith, ints, h.is, f))
+      | stays j k f ↦ stays (omega (arith, ints, k)) (omega (arith, ints, j)) (omega (arith, ints, h.is, f))
+    ]) (omega (arith, ints, h.small), omega (arith, ints, h.small))

@@ -71,19 +71,17 @@ module _ (g : Network) (flow : List ℤ) (count : length flow ≡ node_count g) 
   -- a sender sends away along it, a taker takes
   pub sender_net : is_sender g v ≡ true → net (added_arcs g) flow v ≡ get_or flow (v - 1) (pos 0)
   sender_net e =
-      let out = at_end (λ a. a.src) (λ u ne. apart_src g u v h.0 ne) in
       let inn = at_end (λ a. a.dst) (λ u ne. apart_dst g u v h.0 ne) in
       let s = when-same (artificial_arc g v).src v (get_or flow (v - 1) (pos 0)) (sym (sender_ends g v e).0) in
       let d = when-other (artificial_arc g v).dst v (get_or flow (v - 1) (pos 0)) (λ q. (let z : v ≡ 0 = q ∙ (sender_ends g v e).1 in omega (arith, z, h))) in
-      omega (arith, ints, out, inn, s, d)
+      omega (arith, ints, at_end (λ a. a.src) (λ u ne. apart_src g u v h.0 ne), inn, s, d)
 
   pub taker_net : is_sender g v ≡ false → net (added_arcs g) flow v ≡ neg_ℤ (get_or flow (v - 1) (pos 0))
   taker_net e =
-      let out = at_end (λ a. a.src) (λ u ne. apart_src g u v h.0 ne) in
       let inn = at_end (λ a. a.dst) (λ u ne. apart_dst g u v h.0 ne) in
       let s = when-other (artificial_arc g v).src v (get_or flow (v - 1) (pos 0)) (λ q. (let z : v ≡ 0 = q ∙ (taker_ends g v e).0 in omega (arith, z, h))) in
       let d = when-same (artificial_arc g v).dst v (get_or flow (v - 1) (pos 0)) (sym (taker_ends g v e).1) in
-      omega (arith, ints, out, inn, s, d)
+      omega (arith, ints, at_end (λ a. a.src) (λ u ne. apart_src g u v h.0 ne), inn, s, d)
 
 -- by their places among the amounts of the start
 pub start_own : (g : Network) (i : ℕ) → i < length g.arcs → get_or (start_amounts g) i (pos 0) ≡ pos 0
@@ -92,7 +90,8 @@ start_own g i h =
     get_or_append_left (replicate (length g.arcs) (pos 0)) (star_flow g) (pos 0) i (omega (arith, n, h))
     ∙ get_or-replicate (length g.arcs) i (pos 0) (pos 0) h
 
-pub start_added : (g : Network) (v i : ℕ) → IsNode (node_count g) v → i + 1 ≡ length g.arcs + v → get_or (start_amounts g) i (pos 0) ≡ star_amount g v
+pub start_added : (g : Network) (v i : ℕ) → IsNode (node_count g) v → i + 1 ≡ length g.arcs + v
+    → get_or (start_amounts g) i (pos 0) ≡ star_amount g v
 start_added g v i h e =
     let n = length-replicate (length g.arcs) (pos 0) in
     let place : i ≡ length (replicate (length g.arcs) (pos 0)) + (v - 1) = omega (arith, n, e, h) in
@@ -102,10 +101,9 @@ start_added g v i h e =
 
 pub start_count : (g : Network) → length (start_amounts g) ≡ length g.arcs + node_count g
 start_count g =
-    let all = length-append (replicate (length g.arcs) (pos 0)) (star_flow g) in
     let own = length-replicate (length g.arcs) (pos 0) in
     let added = length-map-range_with_len (star_amount g) 1 (node_count g) in
-    omega (arith, all, own, added)
+    omega (arith, length-append (replicate (length g.arcs) (pos 0)) (star_flow g), own, added)
 
 -- the star with these amounts and prices is a basis
 module _ (b : TreeStructure) (ok : IsNet b.net) (spanning : IsSpanning b.tree) (star : IsStar b.tree (node_count b.net) (length b.net.arcs))
@@ -142,26 +140,23 @@ module _ (b : TreeStructure) (ok : IsNet b.net) (spanning : IsSpanning b.tree) (
       record {
         label = subst (IsLabel b.net) (sym (star_label v h)) (added_label b.net v h);
         joins = elim (cases_Bool (is_sender b.net v)) [
-          | inl e ↦ out_of (ap (λ a. a.src) arc ∙ (sender_ends b.net v e).0) (ap (λ a. a.dst) arc ∙ ((sender_ends b.net v e).1 ∙ sym up))
-          | inr e ↦ into (ap (λ a. a.src) arc ∙ ((taker_ends b.net v e).0 ∙ sym up)) (ap (λ a. a.dst) arc ∙ (taker_ends b.net v e).1)
+          | inl e ↦ out_of (ap (λ a. a.src) arc ∙ (sender_ends b.net v e).0)
+              (ap (λ a. a.dst) arc ∙ ((sender_ends b.net v e).1 ∙ sym up))
+          | inr e ↦ into (ap (λ a. a.src) arc ∙ ((taker_ends b.net v e).0 ∙ sym up))
+              (ap (λ a. a.dst) arc ∙ (taker_ends b.net v e).1)
         ];
       }
 
   star_balanced : (v : ℕ) → IsNode (node_count b.net) v → reduced_at b (label_of b.tree v) ≡ pos 0
   star_balanced v h =
-      let cut : reduced_at b (label_of b.tree v) ≡ (artificial_arc b.net v).cost -ℤ price_at b (artificial_arc b.net v).src +ℤ price_at b
-      (artificial_arc b.net v).dst = ap (λ a. a.cost -ℤ price_at b a.src +ℤ price_at b a.dst) (star_arc v h) in
-      let root = root_start_price in
-      let here = node_start_price v h in
+      let cut = ap (λ a. a.cost -ℤ price_at b a.src +ℤ price_at b a.dst) (star_arc v h) in
       elim (cases_Bool (is_sender b.net v)) [
         | inl e ↦ (let s = ap (price_at b) (sender_ends b.net v e).0 in
-            let d = ap (price_at b) (sender_ends b.net v e).1 in
             let p : start_price b.net v ≡ pos (artificial_cost b.net) = rw e refl in
-            omega (arith, ints, cut, root, here, s, d, p))
+            omega (arith, ints, cut, root_start_price, node_start_price v h, s, ap (price_at b) (sender_ends b.net v e).1, p))
         | inr e ↦ (let s = ap (price_at b) (taker_ends b.net v e).0 in
-            let d = ap (price_at b) (taker_ends b.net v e).1 in
             let p : start_price b.net v ≡ neg_ℤ (pos (artificial_cost b.net)) = rw e refl in
-            omega (arith, ints, cut, root, here, s, d, p))
+            omega (arith, ints, cut, root_start_price, node_start_price v h, s, ap (price_at b) (taker_ends b.net v e).1, p))
       ]
 
   star_prices : HasTreePrices b
@@ -179,8 +174,7 @@ module _ (b : TreeStructure) (ok : IsNet b.net) (spanning : IsSpanning b.tree) (
   star_held label h = elim (label_case b.net label h) [
     | own k ↦ (let z = own_empty (label - 1) (omega (arith, k)) in
         let a : IsNetArc (arc_at b.net label) = net_arc_at b.net label ok k in
-        let w = a.width_low in
-        record { low = omega (arith, ints, z); high = λ l. omega (arith, ints, z, w) })
+        record { low = omega (arith, ints, z); high = λ l. omega (arith, ints, z, a.width_low) })
     | added v node e ↦ (let x = added_amount v label node e in
         record { low = omega (arith, ints, x); high = λ l. absurd (omega (arith, e, l, node)) })
   ]
@@ -202,22 +196,20 @@ module _ (b : TreeStructure) (ok : IsNet b.net) (spanning : IsSpanning b.tree) (
       let none = net_of_zeros b.net.arcs (take (length b.net.arcs) b.amounts) v (λ i l. (let m : i < length b.net.arcs = omega (arith, l, short) in
       get_or-take (length b.net.arcs) b.amounts i (pos 0) m ∙ own_empty i m)) in
       let read = read_added b (v - 1) v (omega arith) ∙ added_amount v (length b.net.arcs + v) node refl in
-      let supply = supply_added b.net v in
       elim (cases_Bool (is_sender b.net v)) [
         | inl e ↦ (let away = sender_net b.net (drop (length b.net.arcs) b.amounts) count v node e in
             let whole = size_low (at_node b.net.supplies v) (at_most (pos 0) (at_node b.net.supplies v) e) in
-            omega (arith, ints, split, none, away, read, whole, supply))
+            omega (arith, ints, split, none, away, read, whole, supply_added b.net v))
         | inr e ↦ (let away = taker_net b.net (drop (length b.net.arcs) b.amounts) count v node e in
             let whole = size_below (at_node b.net.supplies v) (below_zero (at_node b.net.supplies v) e) in
-            omega (arith, ints, split, none, away, read, whole, supply))
+            omega (arith, ints, split, none, away, read, whole, supply_added b.net v))
       ]
 
   star_strong : (v : ℕ) → IsNode (node_count b.net) v → All (λ r. CanTake b r (pos 1)) (up_path b (depth_of b.tree v) v)
   star_strong v h =
       let inside : v < size_of b.tree = (let size = star.size in omega (arith, size, h)) in
-      let falls = spanning.rooted.falls v (omega arith) inside in
       let top : depth_of b.tree (parent_of b.tree v) ≡ 0 = ap (depth_of b.tree) (star_parent v h) ∙ spanning.rooted.root in
-      let one : depth_of b.tree v ≡ 1 = omega (arith, falls, top) in
+      let one : depth_of b.tree v ≡ 1 = omega (arith, spanning.rooted.falls v (omega arith) inside, top) in
       subst (λ d. All (λ r. CanTake b r (pos 1)) (up_path b d v)) (sym one)
       (All-cons (λ r. CanTake b r (pos 1)) (leaving b.net (label_of b.tree v) v) [] room (All-nil (λ r. CanTake b r (pos 1))))
     where
@@ -226,12 +218,10 @@ module _ (b : TreeStructure) (ok : IsNet b.net) (spanning : IsSpanning b.tree) (
         forward = λ f l. absurd (let e = star_label v h in omega (arith, e, l, h));
         backward = λ back. (let amount = added_amount v (label_of b.tree v) h (star_label v h) in
             elim (cases_Bool (is_sender b.net v)) [
-              | inl e ↦ absurd (let src : (arc_at (with_artificial b.net) (label_of b.tree v)).src ≡ v =
-                  ap (λ a. a.src) (star_arc v h) ∙ (sender_ends b.net v e).0 in
+              | inl e ↦ absurd (let src = ap (λ a. a.src) (star_arc v h) ∙ (sender_ends b.net v e).0 in
                   true≢false (sym back ∙ ap not (eq-eqb _ _ src)))
               | inr e ↦ (let size = size_below (at_node b.net.supplies v) (below_zero (at_node b.net.supplies v) e) in
-                  let low = below_zero (at_node b.net.supplies v) e in
-                  omega (arith, ints, amount, size, low))
+                  omega (arith, ints, amount, size, below_zero (at_node b.net.supplies v) e))
             ]);
       }
 

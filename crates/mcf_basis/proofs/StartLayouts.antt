@@ -1,6 +1,6 @@
 -- The star of the artificial arcs, as it is stored.
 use Rattle.std.proofs.Common.{◌≡◌, ℕ, zero, suc, ◌+◌, ◌-◌, ◌<◌, ◌≤◌, ◌++◌, inl, inr, Bool, true, false, eqb, cond, List, [], ◌∷◌, length, map, take}
-use Rattle.std.proofs.Common.{get_or, refl, sym, ap, ◌∙◌, arith, ℤ, pos, ◌<ℤ◌, ◌≤ℤ◌}
+use Rattle.std.proofs.Common.{get_or, refl, sym, ap, ◌∙◌, arith, ℤ, pos}
 use Rattle.std.specs.Prelude.{if◌then◌else◌, int_lt, max, sum, unsigned_abs}
 use Rattle.std.specs.List.{range_with_len}
 use Rattle.std.proofs.lemmas.Int.{ints}
@@ -24,6 +24,7 @@ use Rattle.mcf_basis.specs.Private.Layouts.{forward_offer, no_offer, no_residual
 use Rattle.mcf_basis.specs.Private.Layouts.IsOffer.{closed, forward}
 use Rattle.mcf_basis.specs.Ranks.{greatest_cost}
 use Rattle.mcf_basis.specs.Starts.{IsStart, start_amounts}
+use Rattle.mcf_basis.proofs.Cuts.{above_zero, not_above_zero}
 use Rattle.mcf_basis.proofs.StarBases.{star_is_basis, start_added, start_count, start_own}
 pub use Rattle.mcf_basis.proofs.StarBases.{star_amount}
 use Rattle.mcf_basis.proofs.Views.{amount_added, amount_none}
@@ -71,9 +72,7 @@ greatest_next [] i d h = absurd (omega arith)
 greatest_next (a ∷ arcs) zero d h = omega arith
 greatest_next (a ∷ arcs) (suc i) d h =
     let place : suc i + 1 ≡ suc (i + 1) = omega arith in
-    let ih : greatest_cost (take (i + 1) arcs) ≡ max (greatest_cost (take i arcs)) (unsigned_abs (get_or arcs i d).cost) =
-    greatest_next arcs i d (omega arith) in
-    ap (λ j. greatest_cost (take j (a ∷ arcs))) place ∙ omega (arith, ih)
+    ap (λ j. greatest_cost (take j (a ∷ arcs))) place ∙ omega (arith, greatest_next arcs i d (omega arith))
 
 -- ---- the star, as it is stored
 
@@ -98,12 +97,6 @@ behind : {X : Type 0} (y d : X) (f : ℕ → X) (n v : ℕ) → IsNode n v → g
 behind y d f n zero h = absurd (omega arith)
 behind y d f n (suc i) h = get_or-map-range_with_len f 1 n i (suc i) d (omega arith) (omega arith)
 
-open_width : (x : ℤ) → int_lt (pos 0) x ≡ true → pos 0 <ℤ x
-open_width x e = grind (arith, ints)
-
-no_width : (x : ℤ) → int_lt (pos 0) x ≡ false → x ≤ℤ pos 0
-no_width x e = grind (arith, ints)
-
 module _ (l : Layout) (s : IsStarStored l) where
   label_is : (v : ℕ) → IsNode (node_count l.net) v → label_of l.tree v ≡ length l.net.arcs + v
   label_is v h = s.star.label v (omega arith) h.1
@@ -116,10 +109,9 @@ module _ (l : Layout) (s : IsStarStored l) where
   offer_ok : (k : ℕ) → IsArcNumber l.net k → IsOffer l.net k (offer_at l k)
   offer_ok k h =
       let arc : IsNetArc (arc_at l.net k) = net_arc_at l.net k s.of_net h in
-      let low = arc.width_low in
       elim (cases_Bool (int_lt (pos 0) (arc_at l.net k).cap)) [
-        | inl e ↦ forward (open_width (arc_at l.net k).cap e) (offer_is k h ∙ cond-true _ _ _ e)
-        | inr e ↦ closed (let high = no_width (arc_at l.net k).cap e in omega (arith, ints, low, high)) (offer_is k h ∙ cond-false _ _ _ e)
+        | inl e ↦ forward (above_zero (arc_at l.net k).cap e) (offer_is k h ∙ cond-true _ _ _ e)
+        | inr e ↦ closed (let high = not_above_zero (arc_at l.net k).cap e in omega (arith, ints, arc.width_low, high)) (offer_is k h ∙ cond-false _ _ _ e)
       ]
 
   own_amount : (k : ℕ) → IsArcNumber l.net k → amount_outside l k ≡ pos 0
@@ -127,7 +119,7 @@ module _ (l : Layout) (s : IsStarStored l) where
       let arc : IsNetArc (arc_at l.net k) = net_arc_at l.net k s.of_net h in
       elim (cases_Bool (int_lt (pos 0) (arc_at l.net k).cap)) [
         | inl e ↦ cond-true _ _ _ (eq-eqb _ _ (ap (λ o. o.from) (offer_is k h ∙ cond-true _ _ _ e)))
-        | inr e ↦ (let high = no_width (arc_at l.net k).cap e in
+        | inr e ↦ (let high = not_above_zero (arc_at l.net k).cap e in
             let none : (arc_at l.net k).cap ≡ pos 0 = omega (arith, ints, arc.width_low, high) in
             either (eqb (offer_at l k).from (arc_at l.net k).src) (arc_at l.net k).cap none)
       ]

@@ -1,7 +1,7 @@
 -- A pivot keeps a basis strongly feasible.
 use Rattle.std.proofs.Common.{◌≡◌, ◌≢◌, ℕ, zero, ◌+◌, ◌-◌, ◌<◌, ◌≤◌, ◌&&◌, ◌⊎◌, inl, inr, Bool, true, false, not, eqb, List, length, Some, None, sym, ap, ◌∙◌, subst}
-use Rattle.std.proofs.Common.{arith, refl, ℤ, pos, negsuc, ◌+ℤ◌, ◌≤ℤ◌}
-use Rattle.std.specs.Prelude.{nat_le, slice_index, slice_index_or, int_lt, if◌then◌else◌}
+use Rattle.std.proofs.Common.{arith, refl, ℤ, pos, ◌+ℤ◌, ◌≤ℤ◌}
+use Rattle.std.specs.Prelude.{nat_le, slice_index_or, int_lt, if◌then◌else◌}
 use Rattle.std.proofs.lemmas.Bool.{and_from, and_parts, cases_Bool, cases_lt, eq-eqb, eqb-true, le-leb, leb-true, ne_eqb, true≢false}
 use Rattle.std.proofs.lemmas.Int.{ints}
 use Rattle.std.proofs.lemmas.List.{get_or_past}
@@ -16,7 +16,7 @@ use Rattle.mcf_basis.specs.Bases.{CanHold, HasTreeArc, IsBasis, IsStronglyFeasib
 use Rattle.mcf_basis.specs.Pivots.{IsEligible, IsExchanged, IsMended, IsPivot, entering}
 use Rattle.mcf_basis.specs.Pivots.IsMended.{kept, exchanged}
 use Rattle.mcf_basis.specs.Structures.{TreeStructure, CanTake, carried, leaving, reduced_at}
-use Rattle.mcf_basis.proofs.Around.{IsAround, IsLeaving, WentRound, arcs_of, down_arc, from_of, left_node, right_node, right_steps}
+use Rattle.mcf_basis.proofs.Around.{IsAround, IsLeaving, WentRound, arcs_of, from_of, left_node, right_node, right_steps}
 use Rattle.mcf_basis.proofs.Around.{round_amount, to_of, up_arc}
 use Rattle.mcf_basis.proofs.Around.IsLeaving.{right, enter, left}
 use Rattle.mcf_basis.proofs.CyclePlaces.{last_at, up_all, up_at}
@@ -49,8 +49,8 @@ back_of g label v e = elim (cases_Bool (eqb (arc_at (with_artificial g) label).s
   | inr f ↦ absurd (true≢false (sym (ap not f) ∙ e))
 ]
 
-pub leave_of_take : (b : TreeStructure) (label v : ℕ) (x : ℤ) → CanTake b (leaving b.net label v) x → CanLeave (arcs_of b.net) (carried b) label v x
-leave_of_take b label v x can = record {
+pub leave_of_take : {b : TreeStructure} {label v : ℕ} {x : ℤ} → CanTake b (leaving b.net label v) x → CanLeave (arcs_of b.net) (carried b) label v x
+leave_of_take {b} {label} {x} can = record {
   forward = λ t. within_limit b.net label (carried b label +ℤ x) (λ low high. can.forward (ap not (eq-eqb _ _ t)) high);
   backward = λ ne. can.backward (ap not (ne_eqb _ _ ne));
 }
@@ -70,8 +70,7 @@ entering_by_ends g k true apart =
     let e : true ≡ not (eqb (arc_at (with_artificial g) k).src (arc_at (with_artificial g) k).dst) = sym (ap not (ne_eqb _ _ (λ q. apart (sym q)))) in
     ap (λ (t : Bool). record { arc = k; back = t }) e
 entering_by_ends g k false apart =
-    let e : false ≡ not (eqb (arc_at (with_artificial g) k).src (arc_at (with_artificial g) k).src) =
-    sym (ap not (eq-eqb (arc_at (with_artificial g) k).src _ refl)) in
+    let e = sym (ap not (eq-eqb (arc_at (with_artificial g) k).src _ refl)) in
     ap (λ (t : Bool). record { arc = k; back = t }) e
 
 -- the entering residual arc leaves the end that it leaves
@@ -105,14 +104,14 @@ strong_up b ok v p h =
     up_at b (λ r. CanTake b r (pos 1)) (depth_of b.tree v) v (ok.strong v (omega arith, omega arith)) zero (omega arith)
 
 pub room_of_strong : (b : TreeStructure) → IsBasis b → HasRoomUp (arcs_of b.net) b.tree.parents b.tree.labels (carried b)
-room_of_strong b ok = record { room = λ v p h. leave_of_take b (label_of b.tree v) v (pos 1) (strong_up b ok v p h) }
+room_of_strong b ok = record { room = λ v p h. leave_of_take (strong_up b ok v p h) }
 
 pub strong_of_room : (b : TreeStructure) (g : Network) (amount : ℕ → ℤ) → IsSpanning b.tree → size_of b.tree ≡ node_count b.net + 1
     → ((v : ℕ) → IsNode (node_count b.net) v → HasTreeArc b v) → b.net ≡ g → ((label : ℕ) → 0 < label → carried b label ≡ amount label)
     → HasRoomUp (arcs_of g) b.tree.parents b.tree.labels amount → IsStronglyFeasible b
 strong_of_room b g amount spanning size joined same reads up v h =
     up_all b (λ r. CanTake b r (pos 1)) (depth_of b.tree v) v (λ p l.
-    let w = step_at b.tree.parents (depth_of b.tree) spanning.rooted v (depth_of b.tree v) p (omega (arith, h, size)) (omega arith) l in
+    let w = step_at spanning.rooted v (depth_of b.tree v) p (omega (arith, h, size)) (omega arith) l in
     each (climb b.tree.parents p v) w.above w.within)
   where
     each : (u : ℕ) → 0 < u → u < length b.tree.parents → CanTake b (up_arc b u) (pos 1)
@@ -127,27 +126,14 @@ strong_of_room b g amount spanning size joined same reads up v h =
 module _ (old : TreeStructure) (k apex : ℕ) (moved : ℤ) (ok : IsBasis old) (eligible : IsEligible old k)
     (is_apex : IsApex old.tree.parents (depth_of old.tree) (from_of old k) (to_of old k) apex)
     (is_around : IsAround old k apex) (went : WentRound old k apex moved) where
-  abbrev Old : ℕ → ℕ → Type 0
-  Old label v = CanLeave (arcs_of old.net) (carried old) label v (moved +ℤ pos 1)
-
   -- each arc of the tree has room up afterwards
   abbrev HasRoom : List ℕ → List ℕ → Type 0
   HasRoom ps ls = HasRoomUp (arcs_of old.net) ps ls (round_amount old k apex moved)
 
-  right_room : (p : ℕ) → CanTake old (up_arc old (right_node old k p)) (moved +ℤ pos 1)
-      → Old (slice_index old.tree.labels (right_node old k p)) (right_node old k p)
-  right_room p can =
-      leave_of_take old (label_of old.tree (right_node old k p)) (right_node old k p) (moved +ℤ pos 1) can
-
-  left_room : (p : ℕ) → CanTake old (down_arc old (left_node old k p)) (moved +ℤ pos 1)
-      → Old (slice_index old.tree.labels (left_node old k p)) (slice_index old.tree.parents (left_node old k p))
-  left_room p can =
-      leave_of_take old (label_of old.tree (left_node old k p)) (parent_of old.tree (left_node old k p)) (moved +ℤ pos 1) can
-
-  enter_room : CanTake old (entering old k) (moved +ℤ pos 1) → Old k (from_of old k)
+  enter_room : CanTake old (entering old k) (moved +ℤ pos 1)
+      → CanLeave (arcs_of old.net) (carried old) k (from_of old k) (moved +ℤ pos 1)
   enter_room can =
-      leave_of_take old k (from_of old k) (moved +ℤ pos 1)
-      (subst (λ r. CanTake old r (moved +ℤ pos 1)) (entering_leaves old k is_around.cycle.apart) can)
+      leave_of_take (subst (λ r. CanTake old r (moved +ℤ pos 1)) (entering_leaves old k is_around.cycle.apart) can)
 
   -- what blocks on the right had room for 1, so something moves
   some_moves : (m : ℕ) → m < right_steps old k apex → ¬ CanTake old (up_arc old (right_node old k m)) (moved +ℤ pos 1) → pos 1 ≤ℤ moved
@@ -161,32 +147,34 @@ module _ (old : TreeStructure) (k apex : ℕ) (moved : ℤ) (ok : IsBasis old) (
   pub stays : ((p : ℕ) → p < right_steps old k apex → CanTake old (up_arc old (right_node old k p)) (moved +ℤ pos 1)) → HasRoom old.tree.parents old.tree.labels
   stays free =
       strong_entering is_around.tree is_around.cycle went (fits old ok) (not_below old ok) (room_of_strong old ok)
-      (λ p l. right_room p (free p l))
+      (λ p l. leave_of_take (free p l))
 
   module _ (out inner outer : ℕ) (new : TreeStructure) (x : IsExchanged old (entering old k) out inner outer new) where
     exchanged_room : (q : Rid) → q.arc ≡ label_of old.tree out → IsLeaving old k apex moved q → HasRoom new.tree.parents new.tree.labels
     exchanged_room q named (right m h is full free) =
         let at_out : out ≡ right_node old k m =
-        step_of old k apex ok eligible is_around (to_of old k) m out (right_step old k apex ok eligible is_around m h) x.is_node
+        step_of old k apex ok eligible is_around (right_step old k apex ok eligible is_around m h) x.is_node
         (sym (ap (λ r. r.arc) is) ∙ named) in
         elim x.ends [
           | inl e ↦ absurd (below_apex old.tree.parents (depth_of old.tree) (to_of old k) (from_of old k) apex out m
               ok.spanning.rooted is_around.cycle.right_in_range h at_out
               (subst (λ v. IsOnPath old.tree.parents v out) e.0 x.inside) (λ y p q. is_apex.deepest y q p))
-          | inr e ↦ strong_right is_around.tree is_around.cycle went (fits old ok) (not_below old ok) (room_of_strong old ok) m new.tree.parents new.tree.labels h
+          | inr e ↦ strong_right is_around.tree is_around.cycle went (fits old ok) (not_below old ok) (room_of_strong old ok)
+              m new.tree.parents new.tree.labels h
               (rw (at_out, e.0, e.1) at x.swapped.parents) (rw (at_out, e.0) at x.swapped.labels)
-              (some_moves m h (subst (λ r. ¬ CanTake old r (moved +ℤ pos 1)) is full)) (λ p l u. right_room p (free p l u))
+              (some_moves m h (subst (λ r. ¬ CanTake old r (moved +ℤ pos 1)) is full)) (λ p l u. leave_of_take (free p l u))
         ]
     exchanged_room q named (enter is full free) =
         absurd (eligible.outside (record { node = out; is_node = x.is_node; labelled = sym named ∙ ap (λ r. r.arc) is }))
     exchanged_room q named (left m h is full free first above) =
         let at_out : out ≡ left_node old k m =
-        step_of old k apex ok eligible is_around (from_of old k) m out (left_step old k apex ok eligible is_around m h) x.is_node
+        step_of old k apex ok eligible is_around (left_step old k apex ok eligible is_around m h) x.is_node
         (sym (ap (λ r. r.arc) is) ∙ named) in
         elim x.ends [
-          | inl e ↦ strong_left is_around.tree is_around.cycle went (fits old ok) (not_below old ok) (room_of_strong old ok) m new.tree.parents new.tree.labels h
+          | inl e ↦ strong_left is_around.tree is_around.cycle went (fits old ok) (not_below old ok) (room_of_strong old ok)
+              m new.tree.parents new.tree.labels h
               (rw (at_out, e.0, e.1) at x.swapped.parents) (rw (at_out, e.0) at x.swapped.labels)
-              (λ p l. left_room p (free p l)) (enter_room first) (λ p l. right_room p (above p l))
+              (λ p l. leave_of_take (free p l)) (enter_room first) (λ p l. leave_of_take (above p l))
           | inr e ↦ absurd (below_apex old.tree.parents (depth_of old.tree) (from_of old k) (to_of old k) apex out m
               ok.spanning.rooted is_around.cycle.left_in_range h at_out
               (subst (λ v. IsOnPath old.tree.parents v out) e.0 x.inside) is_apex.deepest)
@@ -229,8 +217,7 @@ can_none b r x ok label none = record {
 }
 
 low_or_below : (x : ℤ) → (pos 0 ≤ℤ x) ⊎ ((x +ℤ pos 1) ≤ℤ pos 0)
-low_or_below (pos n) = inl (omega (arith, ints))
-low_or_below (negsuc n) = inr (omega (arith, ints))
+low_or_below x = grind (arith, ints, inl, inr)
 
 -- what a pivot moves is at least 0, since an arc blocks
 pub moved_low : (old new : TreeStructure) (k : ℕ) (moved : ℤ) → IsBasis old → IsPivot old k moved new → pos 0 ≤ℤ moved

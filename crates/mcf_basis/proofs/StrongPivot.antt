@@ -27,15 +27,15 @@ pub record IsStep (ps : List ℕ) (d : ℕ → ℕ) (v p : ℕ) : Type 0 where
   pub within : climb ps p v < length ps
   pub deep : d (climb ps p v) + p ≡ d v
 
-pub step_at : (ps : List ℕ) (d : ℕ → ℕ) → IsRooted ps d → (v n p : ℕ) → v < length ps → n ≤ d v → p < n → IsStep ps d v p
-step_at ps d t v n p h short lt =
+pub step_at : {ps : List ℕ} {d : ℕ → ℕ} → IsRooted ps d → (v n p : ℕ) → v < length ps → n ≤ d v → p < n → IsStep ps d v p
+step_at {ps} {d} t v n p h short lt =
     let deep : d (climb ps p v) + p ≡ d v = depth-climb ps d t p v h (omega arith) in
     let within : climb ps p v < length ps = climb-within ps d t p v h in
     record { above = above_root ps d t (climb ps p v) (omega arith); within = within; deep = deep }
 
 -- a node isn't its own parent
-pub parent_apart : (ps : List ℕ) (d : ℕ → ℕ) → IsRooted ps d → (v : ℕ) → 0 < v → v < length ps → v ≢ slice_index ps v
-parent_apart ps d t v p h e = (let f : d v ≡ d (slice_index ps v) + 1 = t.falls v p h in let q : d v ≡ d (slice_index ps v) = ap d e in omega arith)
+pub parent_apart : {ps : List ℕ} {d : ℕ → ℕ} → IsRooted ps d → (v : ℕ) → 0 < v → v < length ps → v ≢ slice_index ps v
+parent_apart {ps} {d} t v p h e = (let f : d v ≡ d (slice_index ps v) + 1 = t.falls v p h in let q : d v ≡ d (slice_index ps v) = ap d e in omega arith)
 
 -- an arc of the tree is that of one node alone
 pub labels_apart : {g : Arcs} {ps ls : List ℕ} {d : ℕ → ℕ} → IsTreeOf g ps ls d → (u v : ℕ) → 0 < u → u < length ps → 0 < v → v < length ps → u ≢ v
@@ -87,11 +87,10 @@ each_moved {ps} {ls} {ms} {d} {inner} m old new first next rooted in_range short
     on_stretch : (k : ℕ) → k < m + 1 → v ≡ climb ps k inner → R (slice_index ms v) v (new v)
     on_stretch zero h p = rw (ap (slice_index ms) p ∙ relabelled.joined, ap new p ∙ joined, p) at_inner
     on_stretch (suc k) h p =
-        let e = length_is in
         let next_place : suc k ≡ k + 1 = omega arith in
         let here : v ≡ climb ps (k + 1) inner = p ∙ ap (λ i. climb ps i inner) next_place in
-        let label : slice_index ms v ≡ slice_index ls (climb ps k inner) = ap (slice_index ms) here ∙ relabelled.turned k (omega (arith, e, h)) in
-        let entry : new v ≡ next k = ap new here ∙ moved k (omega (arith, e, h)) in
+        let label : slice_index ms v ≡ slice_index ls (climb ps k inner) = ap (slice_index ms) here ∙ relabelled.turned k (omega (arith, length_is, h)) in
+        let entry : new v ≡ next k = ap new here ∙ moved k (omega (arith, length_is, h)) in
         let up : v ≡ slice_index ps (climb ps k inner) = p ∙ climb-suc ps k inner in
         rw (label, entry, up) (stretch k (omega arith))
 
@@ -101,16 +100,17 @@ pub each_turned : {ps ls qs ms : List ℕ} {d : ℕ → ℕ} {enter inner outer 
     → R enter inner outer → ((k : ℕ) → k < m → R (slice_index ls (climb ps k inner)) (slice_index ps (climb ps k inner)) (climb ps k inner))
     → (((k : ℕ) → k ≤ m → v ≢ climb ps k inner) → R (slice_index ls v) v (slice_index ps v)) → R (slice_index ms v) v (slice_index qs v)
 each_turned {ps} {qs} {inner} {outer} m rooted in_range short turned relabelled =
-    each_moved m (slice_index ps) (slice_index qs) outer (λ k. climb ps k inner) rooted in_range short relabelled turned.joined turned.turned turned.kept
+    each_moved m (slice_index ps) (slice_index qs) outer (λ k. climb ps k inner) rooted in_range short relabelled
+    turned.joined turned.turned turned.kept
 
 module _ {g : Arcs} {ps ls : List ℕ} {d : ℕ → ℕ} {old new : ℕ → ℤ} {enter a b i j : ℕ} {delta : ℤ}
     (tree : IsTreeOf g ps ls d) (cycle : IsCycle g ps ls d enter a b i j) (push : IsPushed g ps ls old new enter a b i j delta)
     (fits : (arc : ℕ) → IsWithin (g.limit arc) (old arc)) (low : (arc : ℕ) → pos 0 ≤ℤ old arc) (strong : HasRoomUp g ps ls old) where
   left_at : (k : ℕ) → k < i → IsStep ps d a k
-  left_at k lt = step_at ps d tree.rooted a i k cycle.left_in_range cycle.left_short lt
+  left_at k lt = step_at tree.rooted a i k cycle.left_in_range cycle.left_short lt
 
   right_at : (k : ℕ) → k < j → IsStep ps d b k
-  right_at k lt = step_at ps d tree.rooted b j k cycle.right_in_range cycle.right_short lt
+  right_at k lt = step_at tree.rooted b j k cycle.right_in_range cycle.right_short lt
 
   -- the arc above a node of the path from a, from its upper end
   left_joins : (k : ℕ) → k < i → JoinsEnds g (slice_index ls (climb ps k a)) (slice_index ps (climb ps k a)) (climb ps k a)
@@ -122,15 +122,16 @@ module _ {g : Arcs} {ps ls : List ℕ} {d : ℕ → ℕ} {old new : ℕ → ℤ}
   kept_left : (k : ℕ) → k < i → CanLeave g new (slice_index ls (climb ps k a)) (climb ps k a) (pos 1)
   kept_left k lt =
       let w = left_at k lt in
-      CanLeave-kept (λ e. parent_apart ps d tree.rooted (climb ps k a) w.above w.within (sym e)) (left_joins k lt) (push.left k lt) push.some
-      (strong.room (climb ps k a) w.above w.within)
+      CanLeave-kept (λ e. parent_apart tree.rooted (climb ps k a) w.above w.within (sym e)) (left_joins k lt) (push.left k lt)
+      push.some (strong.room (climb ps k a) w.above w.within)
 
   -- where an arc up from b doesn't block, its node keeps room
   kept_right : (k : ℕ) → k < j → CanLeave g old (slice_index ls (climb ps k b)) (climb ps k b) (delta +ℤ pos 1)
       → CanLeave g new (slice_index ls (climb ps k b)) (climb ps k b) (pos 1)
   kept_right k lt room =
       let w = right_at k lt in
-      CanLeave-more (parent_apart ps d tree.rooted (climb ps k b) w.above w.within) (tree.joined (climb ps k b) w.above w.within) (push.right k lt) room
+      CanLeave-more (parent_apart tree.rooted (climb ps k b) w.above w.within) (tree.joined (climb ps k b) w.above w.within)
+      (push.right k lt) room
 
   kept_other : (v : ℕ) → 0 < v → v < length ps → ((k : ℕ) → k < i → v ≢ climb ps k a) → ((k : ℕ) → k < j → v ≢ climb ps k b)
       → CanLeave g new (slice_index ls v) v (pos 1)
@@ -165,7 +166,8 @@ module _ {g : Arcs} {ps ls : List ℕ} {d : ℕ → ℕ} {old new : ℕ → ℤ}
         each_turned m tree.rooted cycle.right_in_range (omega arith) turned relabelled (λ arc u w. CanLeave g new arc u (pos 1)) v
         (CanLeave-le positive (CanLeave-back cycle.apart cycle.joined push.entering (fits enter) (low enter)))
         (λ k lt. (let w = right_at k (omega arith) in
-        CanLeave-le positive (CanLeave-back (parent_apart ps d tree.rooted (climb ps k b) w.above w.within) (tree.joined (climb ps k b) w.above w.within) (push.right k (omega arith))
+        CanLeave-le positive (CanLeave-back (parent_apart tree.rooted (climb ps k b) w.above w.within)
+        (tree.joined (climb ps k b) w.above w.within) (push.right k (omega arith))
         (fits (slice_index ls (climb ps k b))) (low (slice_index ls (climb ps k b))))))
         (λ off. kept v p (omega arith) (λ k lt e. elim (cases_lt m k) [
           | inl beyond ↦ room k beyond lt
@@ -184,7 +186,8 @@ module _ {g : Arcs} {ps ls : List ℕ} {d : ℕ → ℕ} {old new : ℕ → ℤ}
         each_turned m tree.rooted cycle.left_in_range (omega arith) turned relabelled (λ arc u w. CanLeave g new arc u (pos 1)) v
         (CanLeave-more cycle.apart cycle.joined push.entering room_entering)
         (λ k lt. (let w = left_at k (omega arith) in
-        CanLeave-more (λ e. parent_apart ps d tree.rooted (climb ps k a) w.above w.within (sym e)) (left_joins k (omega arith)) (push.left k (omega arith)) (room_left k lt)))
+        CanLeave-more (λ e. parent_apart tree.rooted (climb ps k a) w.above w.within (sym e)) (left_joins k (omega arith))
+        (push.left k (omega arith)) (room_left k lt)))
         (λ off. kept v p (omega arith) (λ k lt e. room_right k lt)));
   }
 
@@ -196,7 +199,7 @@ IsTreeOf-turned {g} {ps} {ls} {qs} {d} {inner} m tree rooted in_range short join
   rooted = rooted;
   joined = λ v p h. (let size : length qs ≡ length ps = turned.size in
       each_turned m tree.rooted in_range (omega arith) turned relabelled (JoinsEnds g) v joined
-      (λ k lt. (let w = step_at ps d tree.rooted inner (d inner) k in_range (omega arith) (omega arith) in
+      (λ k lt. (let w = step_at tree.rooted inner (d inner) k in_range (omega arith) (omega arith) in
       JoinsEnds-sym (tree.joined (climb ps k inner) w.above w.within)))
       (λ off. tree.joined v p (omega arith)));
 }

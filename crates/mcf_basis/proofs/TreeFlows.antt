@@ -30,13 +30,11 @@ pub single_term : (t : Arc → ℤ → ℤ) (arcs : List Arc) (flow : List ℤ) 
 single_term t [] flow at e h others = absurd (omega arith)
 single_term t (a ∷ arcs) [] at e h others = absurd (omega arith)
 single_term t (a ∷ arcs) (f ∷ flow) zero e h others =
-    let rest : flow_sum t arcs flow ≡ pos 0 = zero_terms t arcs flow (λ i l m. others (suc i) (omega arith) (λ q. omega arith)) in
-    omega (arith, ints, rest)
+    omega (arith, ints, zero_terms t arcs flow (λ i l m. others (suc i) (omega arith) (λ q. omega arith)))
 single_term t (a ∷ arcs) (f ∷ flow) (suc at) e h others =
-    let first : t a f ≡ pos 0 = others 0 (omega arith) (λ q. omega arith) in
     let rest : flow_sum t arcs flow ≡ t (get_or arcs at no_arc) (get_or flow at (pos 0)) =
     single_term t arcs flow at (omega arith) (omega arith) (λ i l ne. others (suc i) (omega arith) (λ q. ne (omega arith))) in
-    omega (arith, ints, first, rest)
+    omega (arith, ints, others 0 (omega arith) (λ q. omega arith), rest)
 
 nothing_at : (v : ℕ) (a : Arc) (f : ℤ) → f ≡ pos 0 → (when (eqb a.src v) f ≡ pos 0) × (when (eqb a.dst v) f ≡ pos 0)
 nothing_at v a f e = (ap (when (eqb a.src v)) e ∙ when-zero (eqb a.src v), ap (when (eqb a.dst v)) e ∙ when-zero (eqb a.dst v))
@@ -76,15 +74,14 @@ module _ (b : TreeStructure) (ok : IsBasis b) (z : List ℤ) (free : IsFreeCircu
   from_the_leaves zero v h deep own = absurd (let s = depth-lt b.tree.parents (depth_of b.tree) ok.spanning.rooted v (in_tree b ok v h.1) in omega
       (arith, s, deep))
   from_the_leaves (suc j) v h deep own =
-      let apart = parent_apart b.tree.parents (depth_of b.tree) ok.spanning.rooted v h.0 (in_tree b ok v h.1) in
+      let apart = parent_apart ok.spanning.rooted v h.0 (in_tree b ok v h.1) in
       let term = other_term j v h deep (λ u hu du ou. from_the_leaves j u hu du ou) in
       let out : flow_sum (λ a f. when (eqb a.src v) f) b.net.arcs z ≡ when (eqb (arc_at b.net (label_of b.tree v)).src v) (at_arc z (label_of b.tree v)) =
       single_term (λ a f. when (eqb a.src v) f) b.net.arcs z (label_of b.tree v - 1) free.one_per_arc (omega arith) (λ i l ne. (term i l ne).0) in
       let inn : flow_sum (λ a f. when (eqb a.dst v) f) b.net.arcs z ≡ when (eqb (arc_at b.net (label_of b.tree v)).dst v) (at_arc z (label_of b.tree v)) =
       single_term (λ a f. when (eqb a.dst v) f) b.net.arcs z (label_of b.tree v - 1) free.one_per_arc (omega arith) (λ i l ne. (term i l ne).1) in
-      let balanced = free.balanced v h in
       alone v (parent_of b.tree v) (arc_at b.net (label_of b.tree v)) (at_arc z (label_of b.tree v)) apart (tree_ends v h own)
-      (omega (arith, ints, out, inn, balanced))
+      (omega (arith, ints, out, inn, free.balanced v h))
     where
       -- every other arc adds nothing: it is outside the tree, or that of a deeper node, or not at v
       other_term : (j v : ℕ) → IsNode (node_count b.net) v → size_of b.tree ≤ depth_of b.tree v + suc j →
@@ -99,15 +96,13 @@ module _ (b : TreeStructure) (ok : IsBasis b) (z : List ℤ) (free : IsFreeCircu
           elim (cases_in_tree b (i + 1)) [
             | inr out ↦ nothing_at v (get_or b.net.arcs i no_arc) (get_or z i (pos 0)) (sym read ∙ outside_zero (i + 1) k out)
             | inl t ↦ (let own : IsArcNumber b.net (label_of b.tree t.node) = subst (IsArcNumber b.net) (sym t.labelled) k in
-                let up : depth_of b.tree t.node ≡ depth_of b.tree (parent_of b.tree t.node) + 1 =
-                (let n = t.is_node in ok.spanning.rooted.falls t.node (omega (arith, n)) (in_tree b ok t.node n.1)) in
+                let up = (let n = t.is_node in ok.spanning.rooted.falls t.node (omega (arith, n)) (in_tree b ok t.node n.1)) in
                 let other : t.node ≢ v = (λ q. (let e : label_of b.tree v ≡ i + 1 = sym (ap (label_of b.tree) q) ∙ t.labelled in ne (omega (arith, e)))) in
                 elim (cases_eq (parent_of b.tree t.node) v) [
                   | inl child ↦ (let d : depth_of b.tree (parent_of b.tree t.node) ≡ depth_of b.tree v = ap (depth_of b.tree) child in
                       nothing_at v (get_or b.net.arcs i no_arc) (get_or z i (pos 0))
                       (sym read ∙ (ap (at_arc z) (sym t.labelled) ∙ ih t.node t.is_node (omega (arith, d, up, deep)) own)))
-                  | inr away ↦ (let arc : arc_at b.net (label_of b.tree t.node) ≡ get_or b.net.arcs i no_arc =
-                      ap (arc_at b.net) t.labelled ∙ ap (λ q. get_or b.net.arcs q no_arc) back in
+                  | inr away ↦ (let arc = ap (arc_at b.net) t.labelled ∙ ap (λ q. get_or b.net.arcs q no_arc) back in
                       elim (tree_ends t.node t.is_node own) [
                         | inl ends ↦ elsewhere v (get_or b.net.arcs i no_arc) (get_or z i (pos 0)) (λ q. other (sym ends.0 ∙ (ap (λ a. a.src) arc ∙ q)))
                             (λ q. away (sym ends.1 ∙ (ap (λ a. a.dst) arc ∙ q)))

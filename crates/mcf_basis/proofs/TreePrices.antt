@@ -40,9 +40,6 @@ greatest_small (a ∷ arcs) each =
     let rest : greatest_cost arcs ≤ limits.cost = greatest_small arcs (λ i d l. each (suc i) d (omega arith)) in
     omega arith
 
-le_refl_of : (n : ℕ) → n ≤ n
-le_refl_of n = omega arith
-
 -- one step away from a node whose price lies near a number
 pub one_step : (b : TreeStructure) (label u v near far : ℕ) (z : ℤ) → Joins b.net label u v → reduced_at b label ≡ pos 0
     → IsUpTo near (arc_at (with_artificial b.net) label).cost → IsUpTo far (price_at b v -ℤ z) → IsUpTo (near + far) (price_at b u -ℤ z)
@@ -86,12 +83,9 @@ module _ (b : TreeStructure) (ok : IsBasis b) where
   inner_step v far z up h high p =
       let arc : HasTreeArc b v = ok.tree_arcs v (omega arith, h) in
       let own : IsArcNumber b.net (label_of b.tree v) = inner_arc b.net (label_of b.tree v) v (parent_of b.tree v) arc.label up high arc.joins in
-      let same : (arc_at (with_artificial b.net) (label_of b.tree v)).cost ≡ (arc_at b.net (label_of b.tree v)).cost =
-      ap (λ a. a.cost) (own_arc b.net (label_of b.tree v) own) in
-      let small : unsigned_abs (arc_at b.net (label_of b.tree v)).cost ≤ greatest_cost b.net.arcs =
-      cost_within b.net.arcs (label_of b.tree v - 1) no_arc (omega arith) in
-      let near : IsUpTo (unsigned_abs (arc_at b.net (label_of b.tree v)).cost) (arc_at b.net (label_of b.tree v)).cost =
-      up_to_size (arc_at b.net (label_of b.tree v)).cost in
+      let same = ap (λ a. a.cost) (own_arc b.net (label_of b.tree v) own) in
+      let small = cost_within b.net.arcs (label_of b.tree v - 1) no_arc (omega arith) in
+      let near = up_to_size (arc_at b.net (label_of b.tree v)).cost in
       one_step b (label_of b.tree v) v (parent_of b.tree v) (greatest_cost b.net.arcs) far z arc.joins (ok.prices.balanced v (omega arith, h))
       (omega (arith, ints), omega (arith, ints)) p
 
@@ -114,9 +108,8 @@ module _ (b : TreeStructure) (ok : IsBasis b) where
 
   short : (k v : ℕ) → v ≤ node_count b.net → k ≤ depth_of b.tree v → k * greatest_cost b.net.arcs ≤ node_count b.net * greatest_cost b.net.arcs
   short k v h le =
-      let size : size_of b.tree ≡ node_count b.net + 1 = ok.size in
       let deep : depth_of b.tree v < size_of b.tree = depth-lt b.tree.parents (depth_of b.tree) ok.spanning.rooted v (in_tree v h) in
-      mul-le-mul (omega (arith, size, deep, le)) (le_refl_of (greatest_cost b.net.arcs))
+      mul-le-mul (omega (arith, ok.size, deep, le)) (omega arith)
 
   -- below a node other than the root, prices lie near its price
   pub below_price : (out v : ℕ) → 0 < out → v ≤ node_count b.net → IsOnPath b.tree.parents v out
@@ -134,14 +127,11 @@ module _ (b : TreeStructure) (ok : IsBasis b) where
   top_near v up h =
       let inside : v < size_of b.tree = in_tree v h in
       let f : depth_of b.tree v ≡ depth_of b.tree (parent_of b.tree v) + 1 = ok.spanning.rooted.falls v up inside in
-      let w = step_at b.tree.parents (depth_of b.tree) ok.spanning.rooted v (depth_of b.tree v) (depth_of b.tree v - 1) inside (omega arith) (omega arith) in
-      let deep = w.deep in
-      let within = w.within in
+      let w = step_at ok.spanning.rooted v (depth_of b.tree v) (depth_of b.tree v - 1) inside (omega arith) (omega arith) in
       let g = ok.spanning.rooted.falls (top b v) w.above w.within in
       let z : parent_of b.tree (top b v) ≡ 0 = root_from_depth b.tree.parents (depth_of b.tree) ok.spanning.rooted (parent_of b.tree (top b v))
-      (ok.spanning.rooted.within (top b v) w.within) (omega (arith, f, g, deep)) in
-      let size : size_of b.tree ≡ node_count b.net + 1 = ok.size in
-      let node : IsNode (node_count b.net) (top b v) = (w.above, omega (arith, size, within)) in
+      (ok.spanning.rooted.within (top b v) w.within) (omega (arith, f, g, w.deep)) in
+      let node : IsNode (node_count b.net) (top b v) = (w.above, omega (arith, ok.size, w.within)) in
       let arc : HasTreeArc b (top b v) = ok.tree_arcs (top b v) node in
       let joins : Joins b.net (label_of b.tree (top b v)) (top b v) 0 = subst (Joins b.net (label_of b.tree (top b v)) (top b v)) z arc.joins in
       root_step b (label_of b.tree (top b v)) (top b v) joins (ok.prices.balanced (top b v) node) ok.prices.root
@@ -151,8 +141,7 @@ module _ (b : TreeStructure) (ok : IsBasis b) where
   pub near_price : (v : ℕ) → 0 < v → v ≤ node_count b.net → IsNear (artificial_cost b.net) (node_count b.net * greatest_cost b.net.arcs) (price_at b v)
   near_price v up h =
       let f = ok.spanning.rooted.falls v up (in_tree v h) in
-      let w = step_at b.tree.parents (depth_of b.tree) ok.spanning.rooted v (depth_of b.tree v) (depth_of b.tree v - 1) (in_tree v h)
-      (omega arith) (omega (arith, f)) in
+      let w = step_at ok.spanning.rooted v (depth_of b.tree v) (depth_of b.tree v - 1) (in_tree v h) (omega arith) (omega (arith, f)) in
       let c = climb_price (depth_of b.tree v - 1) v h w.above in
       let le = short (depth_of b.tree v - 1) v h (omega arith) in
       elim (top_near v up h) [
@@ -175,9 +164,8 @@ module _ (b : TreeStructure) (ok : IsBasis b) where
 pub reach_small : (g : Network) → IsNet g → price_reach g ≤ price_limit
 reach_small g ok =
     let total : sum (map weight g.arcs) ≤ net_total_limit = ok.total in
-    let nodes : node_count g ≤ node_limit = ok.nodes in
     let cost : greatest_cost g.arcs ≤ limits.cost = greatest_small g.arcs ok.each_arc in
-    let a : node_count g * greatest_cost g.arcs ≤ node_limit * greatest_cost g.arcs = mul-le-mul nodes (le_refl_of (greatest_cost g.arcs)) in
+    let a : node_count g * greatest_cost g.arcs ≤ node_limit * greatest_cost g.arcs = mul-le-mul ok.nodes (omega arith) in
     let b : node_limit * greatest_cost g.arcs ≤ node_limit * limits.cost = mul-le-mul_left node_limit cost in
     omega arith
 

@@ -57,9 +57,8 @@ module _ (l : Layout) (k : ℕ) (ok : IsLaidOut l) (el : IsEligible (basis_in l)
   change_is_shown =
       let o = offer_at l k in
       let read = read_offer l k ok (in_net l k ok el) in
-      let up = own_nodes in
       reduced_is_shown l.net l.table.gap l.table.limit reach o.cost (price_at (basis_in l) o.from) (price_at (basis_in l) o.to) read.cost ok.gap
-      (λ le. le) ok.fits (near o.from up.0 read.from) (near o.to up.1 read.to)
+      (λ le. le) ok.fits (near o.from own_nodes.0 read.from) (near o.to own_nodes.1 read.to)
 
   -- the part cut off, by one of its nodes
   module _ (side : Bool) (out v : ℕ) (low : 0 < out) (inside : IsOnPath l.tree.parents (inner_of side (from_of (basis_in l) k) (to_of (basis_in l) k)) out)
@@ -72,8 +71,7 @@ module _ (l : Layout) (k : ℕ) (ok : IsLaidOut l) (el : IsEligible (basis_in l)
     part_up =
         elim (cases_eq v 0) [
           | inl z ↦ absurd (let top = climb-root l.tree.parents (depth_of l.tree) ok.basis.spanning.rooted on_path.steps in
-              let e : climb l.tree.parents on_path.steps v ≡ climb l.tree.parents on_path.steps 0 = ap (climb l.tree.parents on_path.steps) z in
-              omega (arith, e, top, on_path.leads, low))
+              omega (arith, ap (climb l.tree.parents on_path.steps) z, top, on_path.leads, low))
           | inr nz ↦ omega (arith, nz)
         ]
 
@@ -88,17 +86,13 @@ module _ (l : Layout) (k : ℕ) (ok : IsLaidOut l) (el : IsEligible (basis_in l)
         let o = offer_at l k in
         let p = price_of l.table in
         let read = read_offer l k ok (in_net l k ok el) in
-        let up = own_nodes in
         let ends = offer_ends l k ok el in
         let inner = inner_of side o.from o.to in
         let outer = outer_of side o.from o.to in
-        let same : inner_of side (from_of (basis_in l) k) (to_of (basis_in l) k) ≡ inner =
-        ap (λ a. inner_of side a (to_of (basis_in l) k)) (sym ends.0) ∙ ap (inner_of side o.from) (sym ends.1) in
-        let from = read.from in
-        let to = read.to in
-        let inner_h : inner < node_count l.net + 1 = inner_in side o.from o.to (node_count l.net + 1) (omega (arith, from)) (omega (arith, to)) in
-        let outer_h : outer < node_count l.net + 1 = outer_in side o.from o.to (node_count l.net + 1) (omega (arith, from)) (omega (arith, to)) in
-        let outer_up : 0 < outer = outer_above side o.from o.to up.0 up.1 in
+        let same = ap (λ a. inner_of side a (to_of (basis_in l) k)) (sym ends.0) ∙ ap (inner_of side o.from) (sym ends.1) in
+        let inner_h : inner < node_count l.net + 1 = inner_in side o.from o.to (node_count l.net + 1) (omega (arith, read.from)) (omega (arith, read.to)) in
+        let outer_h : outer < node_count l.net + 1 = outer_in side o.from o.to (node_count l.net + 1) (omega (arith, read.from)) (omega (arith, read.to)) in
+        let outer_up : 0 < outer = outer_above side o.from o.to own_nodes.0 own_nodes.1 in
         let a = below_price (basis_in l) ok.basis out v low h on_path in
         let b = below_price (basis_in l) ok.basis out inner low (omega (arith, inner_h)) (subst (λ w. IsOnPath l.tree.parents w out) same inside) in
         let c = joined_price o p side read.cost in

@@ -8,12 +8,11 @@ use Rattle.mcf_basis.proofs.ending.set_amount.Goals as goal
 pub returns-clause-value : goal.returns-clause-value
 returns-clause-value c =
     let a = amount_of c.args.state.now c.args.k c.amount-old.ensures.valid c.requires.arc in
-    let old = c.amount-old.ensures.value in
     elim c.if-back.branch [
       | then-back w ↦ amount_pushed c.args.state.now c.push.new.self c.args.k true c.if-back.change c.args.amount a.in_range
-          (omega (arith, ints, old, w.change-is)) (search (rules, to_z-of_z, w.if-back.true))
+          (omega (arith, ints, c.amount-old.ensures.value, w.change-is)) (search (rules, to_z-of_z, w.if-back.true))
       | else-back w ↦ amount_pushed c.args.state.now c.push.new.self c.args.k false c.if-back.change c.args.amount a.in_range
-          (omega (arith, ints, old, w.change-is)) (search (rules, to_z-of_z, w.if-back.false))
+          (omega (arith, ints, c.amount-old.ensures.value, w.change-is)) (search (rules, to_z-of_z, w.if-back.false))
     ]
 
 pub push-requires-clause-high : goal.push-requires-clause-high

@@ -27,8 +27,7 @@ returns-in-Narrow-clause-prices c =
     subst (λ x. CanReprice c.args.part.now c.args.change (record { prices = prices_in x; priced = priced_in x; limit = limit_of x; gap = gap_of x }))
     c.in-Narrow.is c.requires.change in
     let d : to_z w128 (of_z w128 c.stored_change.result) ≡ c.stored_change.result = search (rules, to_z-of_z) in
-    let raised : AreRaised c.args.part.now c.stored_change.result stored c.reprice.new.prices.entries =
-    subst (λ z. AreRaised c.args.part.now z stored c.reprice.new.prices.entries) d c.reprice.ensures.prices in
+    let raised = subst (λ z. AreRaised c.args.part.now z stored c.reprice.new.prices.entries) d c.reprice.ensures.prices in
     let given : to_z w128 (of_z w128 c.args.change) ≡ c.args.change = search (rules, to_z-of_z) in
     subst (λ x. AreRaised c.args.part.now c.args.change (prices_in x) (prices_in (Narrow c.reprice.new.prices gap))) (sym c.in-Narrow.is)
     (raised_stored gap c.in-Narrow.prices.written stored c.args.part.now c.args.change can c.stored_change.result c.reprice.new.prices.entries

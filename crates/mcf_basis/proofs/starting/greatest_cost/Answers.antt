@@ -14,5 +14,4 @@ loop-i-preserved c =
     let read : to_z w128 (of_z w128 c.cost.result) ≡ c.cost.result = search (rules, to_z-of_z) in
     let here : c.unsigned_abs.result ≡ unsigned_abs (get_or g.arcs c.loop-i.i no_arc).cost =
     c.unsigned_abs.ensures.value ∙ ap unsigned_abs (read ∙ (c.cost.ensures.value ∙ ap (λ i. (get_or g.arcs i no_arc).cost) place)) in
-    let next = greatest_next g.arcs c.loop-i.i no_arc inside in
-    omega (arith, here, next, c.greater-greatest.ensures, c.loop-i.invariant)
+    omega (arith, here, greatest_next g.arcs c.loop-i.i no_arc inside, c.greater-greatest.ensures, c.loop-i.invariant)

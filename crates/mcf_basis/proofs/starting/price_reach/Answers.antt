@@ -3,7 +3,6 @@ use Rattle.std.specs.Prelude.{unsigned_abs}
 use mir.Syntax.{w128}
 use Rattle.std.proofs.lemmas.Int.{to_z-of_z}
 use Rattle.mcf_flows.specs.Network.{node_count}
-use Rattle.mcf_basis.specs.Artificial.{artificial_cost}
 use Rattle.mcf_basis.specs.Ranks.{greatest_cost}
 use Rattle.mcf_basis.proofs.TreePrices.{reach_small}
 use Rattle.mcf_basis.proofs.starting.price_reach.Goals as goal
@@ -13,8 +12,7 @@ overflow_mul-result c =
     let g = c.args.net.now in
     let path : c.from.result * c.greatest_cost.result ≡ node_count g * greatest_cost g.arcs =
     rw (c.from.ensures, c.node_count.ensures.value, c.greatest_cost.ensures) refl in
-    let small = reach_small g c.node_count.ensures.of_net in
-    omega (arith, path, small)
+    omega (arith, path, reach_small g c.node_count.ensures.of_net)
 
 pub overflow_add-result : goal.overflow_add-result
 overflow_add-result c =
@@ -22,6 +20,5 @@ overflow_add-result c =
     let path : c.from.result * c.greatest_cost.result ≡ node_count g * greatest_cost g.arcs =
     rw (c.from.ensures, c.node_count.ensures.value, c.greatest_cost.ensures) refl in
     let read : to_z w128 (of_z w128 c.args.cost) ≡ c.args.cost = search (rules, to_z-of_z) in
-    let first : c.unsigned_abs.result ≡ artificial_cost g = c.unsigned_abs.ensures.value ∙ ap unsigned_abs (read ∙ c.requires) in
     let small = reach_small g c.node_count.ensures.of_net in
-    omega (arith, path, first, small)
+    omega (arith, path, c.unsigned_abs.ensures.value ∙ ap unsigned_abs (read ∙ c.requires), small)

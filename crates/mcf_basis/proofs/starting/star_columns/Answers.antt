@@ -1,4 +1,4 @@
-use Rattle.std.proofs.Common.{◌≡◌, ◌+◌, ap, arith, rules, ◌∙◌, to_z, of_z}
+use Rattle.std.proofs.Common.{◌≡◌, ap, arith, rules, ◌∙◌, to_z, of_z}
 use Rattle.std.specs.Prelude.{int_le, pos, unsigned_abs}
 use mir.Syntax.{w128}
 use Rattle.std.proofs.lemmas.Int.{to_z-of_z}
@@ -11,8 +11,7 @@ pub loop-i-preserved : goal.loop-i-preserved
 loop-i-preserved c =
     let g = c.args.net.now in
     let read : to_z w128 (of_z w128 c.supply-supply.result) ≡ c.supply-supply.result = search (rules, to_z-of_z) in
-    let supply : to_z w128 (of_z w128 c.supply-supply.result) ≡ at_node g.supplies (c.loop-i.i + 1) =
-    read ∙ (c.supply-supply.ensures.value ∙ ap (at_node g.supplies) c.at.ensures) in
+    let supply = read ∙ (c.supply-supply.ensures.value ∙ ap (at_node g.supplies) c.at.ensures) in
     let amount : to_z w128 (of_z w128 c.star_amount.result) ≡ c.star_amount.result = search (rules, to_z-of_z) in
     record {
       residuals = made_behind no_residuals (star_residuals g) c.loop-i.i _ _ c.artificial_residuals.result c.loop-i.invariant.residuals

@@ -16,8 +16,7 @@ loop-i-preserved g c =
     let made = ap P.values pushed ∙ values_push P.value P.values g.met.P.Price.each c.loop-i.made.items c.of-in-loop-i.result in
     let price : to_z w128 (of_z w128 c.star_price-price.result) ≡ c.star_price-price.result = search (rules, to_z-of_z) in
     let read : to_z w128 (of_z w128 c.supply.result) ≡ c.supply.result = search (rules, to_z-of_z) in
-    let supply : to_z w128 (of_z w128 c.supply.result) ≡ at_node net.supplies (c.loop-i.i + 1) =
-    read ∙ (c.supply.ensures.value ∙ ap (at_node net.supplies) c.at.ensures) in
+    let supply = read ∙ (c.supply.ensures.value ∙ ap (at_node net.supplies) c.at.ensures) in
     record {
       prices = made_behind (pos 0) (λ v. if is_sender net v then to_z w128 (of_z w128 c.args.cost) else neg_ℤ (to_z w128 (of_z w128 c.args.cost))) c.loop-i.i (P.values c.loop-i.made.items) (P.values c.push_reserved-in-loop-i.new.self.items) _
           c.loop-i.invariant.prices (c.of-in-loop-i.ensures ∙ (price ∙ (c.star_price-price.ensures.value

@@ -12,9 +12,8 @@ use Rattle.mcf_basis.proofs.starting.star_table.Goals as goal
 
 pub star_prices-requires-in-None-clause-room : goal.star_prices-requires-in-None-clause-room
 star_prices-requires-in-None-clause-room c =
-    let small = reach_small c.args.net.now c.price_gap.ensures.net in
     let given : to_z w128 (of_z w128 c.args.cost) ≡ c.args.cost = search (rules, to_z-of_z) in
-    omega (arith, ints, given, c.requires, small)
+    omega (arith, ints, given, c.requires, reach_small c.args.net.now c.price_gap.ensures.net)
 
 -- what fits is passed on
 passed : (z : ℤ) → pos 0 ≤ℤ z → z ≤ℤ pos price_limit → to_z w128 (of_z w128 z) ≡ z
@@ -32,8 +31,7 @@ returns-in_ok-prices-in-Some c =
     let is = given ∙ c.requires in
     let cost : to_z w128 (of_z w128 c.args.cost) -ℤ to_z w128 gap ≡ pos (artificial_cost net) -ℤ pos gap = omega (arith, ints, is, lower) in
     let reach = reach_small net c.price_gap.ensures.net in
-    let back : to_z w128 (of_z w128 (pos (artificial_cost net) -ℤ pos gap)) ≡ pos (artificial_cost net) -ℤ pos gap =
-    passed (pos (artificial_cost net) -ℤ pos gap) (omega (arith, ints, fits.less)) (omega (arith, ints, reach)) in
+    let back = passed (pos (artificial_cost net) -ℤ pos gap) (omega (arith, ints, fits.less)) (omega (arith, ints, reach)) in
     rw c.narrow.ensures (record {
       prices = ap (map (price_by gap)) (made ∙ ap (prices_of_star net) (ap (λ z. to_z w128 (of_z w128 z)) cost ∙ back)) ∙ star_stored gap net fits.less;
       priced = refl;

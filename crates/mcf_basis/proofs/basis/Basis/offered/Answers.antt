@@ -1,4 +1,4 @@
-use Rattle.std.proofs.Common.{◌≡◌, neg_ℤ, ◌<◌, length, arith, pos, ◌<ℤ◌, ◌↔◌, ◌∙◌, rules, subst, sym, to_z, of_z}
+use Rattle.std.proofs.Common.{◌≡◌, neg_ℤ, ◌<◌, arith, pos, ◌<ℤ◌, ◌↔◌, ◌∙◌, rules, subst, sym, to_z, of_z}
 use mir.Syntax.{w128}
 use Rattle.std.proofs.lemmas.Int.{to_z-of_z}
 use Rattle.mcf_basis.specs.Pivots.{IsEligible}
@@ -9,8 +9,7 @@ use Rattle.mcf_basis.proofs.basis.Basis.offered.Goals as goal
 pub index-requires : goal.index-requires
 index-requires c =
     let inside = c.self.inside in
-    let h : c.place.result < length inside.offers.items =
-    offer_in_range _ c.args.self.now c.args.k c.place.result c.self.view_is c.self.invariant c.requires c.place.ensures in
+    let h = offer_in_range _ c.args.self.now c.args.k c.place.result c.self.view_is c.self.invariant c.requires c.place.ensures in
     omega (arith, h, inside.offers.ok.0)
 
 pub reduced-requires : goal.reduced-requires

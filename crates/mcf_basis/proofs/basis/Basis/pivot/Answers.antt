@@ -4,8 +4,6 @@ use Rattle.std.specs.Vec.{with_items}
 use mir.Syntax.{w128}
 use Rattle.std.proofs.lemmas.Int.{to_z-of_z}
 use Rattle.std.proofs.lemmas.List.{with_items_is}
-use Rattle.mcf_network.specs.Nets.{IsNetArc}
-use Rattle.mcf_network.specs.Residual.{arc_at}
 use Rattle.mcf_network.proofs.ArcLaws.{net_arc_at}
 use Rattle.mcf_basis.specs.declared.cycle.Cycle.{Cycle}
 use Rattle.mcf_basis.specs.declared.offer.ArcOffer.{ArcOffer}
@@ -17,8 +15,7 @@ use Rattle.mcf_basis.proofs.basis.Basis.pivot.Goals as goal
 
 pub index-offer-requires : goal.index-offer-requires
 index-offer-requires c =
-    let n = number _ _ c.args.k c.self.invariant c.self.view_is c.requires in
-    omega (arith, c.self.invariant.offers_size, n, c.place.ensures)
+    omega (arith, c.self.invariant.offers_size, number _ _ c.args.k c.self.invariant c.self.view_is c.requires, c.place.ensures)
 
 pub reduced-reduced-requires : goal.reduced-reduced-requires
 reduced-reduced-requires c =
@@ -43,8 +40,7 @@ pub overflow_cast-width : goal.overflow_cast-width
 overflow_cast-width c =
     let g = c.self.inside.net.now in
     let width : to_z w128 (of_z w128 c.width.result) ≡ c.width.result = search (rules, to_z-of_z) in
-    let arc : IsNetArc (arc_at g c.args.k) =
-    net_arc_at g c.args.k c.width.ensures.of_net (number _ _ c.args.k c.self.invariant c.self.view_is c.requires) in
+    let arc = net_arc_at g c.args.k c.width.ensures.of_net (number _ _ c.args.k c.self.invariant c.self.view_is c.requires) in
     let low = arc.width_low in
     let high = arc.width_high in
     rw (width, c.width.ensures.value) (search (rules, low, high))

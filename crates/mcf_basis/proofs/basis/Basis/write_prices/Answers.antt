@@ -8,8 +8,7 @@ use Rattle.mcf_basis.specs.Structures.{price_limit}
 pub write_nodes-requires : goal.write_nodes-requires
 write_nodes-requires c =
     let p = read_prices _ c.args.self.now c.self.view_is c.self.invariant in
-    let short = length-drop 1 c.self.inside.table.prices in
-    omega (arith, p.some, p.count, short, c.requires)
+    omega (arith, p.some, p.count, length-drop 1 c.self.inside.table.prices, c.requires)
 
 pub returns-clause-value : goal.returns-clause-value
 returns-clause-value c =
