@@ -116,11 +116,7 @@ leaves_tail g old new k false x apart e = record {
 
 -- nodes at different places of a path are different
 steps_apart : (ps : List ℕ) (d : ℕ → ℕ) (v p q : ℕ) → IsStep ps d v p → IsStep ps d v q → p ≢ q → climb ps p v ≢ climb ps q v
-steps_apart ps d v p q one two n e =
-    let a : d (climb ps p v) + p ≡ d v = one.deep in
-    let c : d (climb ps q v) + q ≡ d v = two.deep in
-    let f : d (climb ps p v) ≡ d (climb ps q v) = ap d e in
-    n (omega arith)
+steps_apart ps d v p q one two n e = n (omega (arith, one.deep, two.deep, ap d e))
 
 module _ (b : TreeStructure) (ok : IsBasis b) where
   -- a node of the tree other than the root is one of the net

@@ -30,7 +30,6 @@ lower_sum c d s t half e lt =
 
 pub rank_falls : (old new : TreeStructure) → IsBasis old → IsBasis new → new.net ≡ old.net → PairFalls old new → rank_of new <ℤ rank_of old
 rank_falls old new ok ok' net falls =
-    let half : ℕ = node_count old.net * price_reach old.net in
     let was : IsUpTo (node_count old.net * price_reach old.net) (price_sum old) = price_sum_reached old ok in
     let is = subst (λ (g : Network). IsUpTo (node_count g * price_reach g) (price_sum new)) net (price_sum_reached new ok') in
     subst (λ (g : Network). (full_cost new *ℤ pos (price_span g + 1) +ℤ price_sum new) <ℤ rank_of old) (sym net)

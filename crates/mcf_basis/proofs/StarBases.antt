@@ -4,6 +4,7 @@ use Rattle.std.proofs.Common.{get_or, refl, sym, ap, ◌∙◌, arith, subst, �
 use Rattle.std.specs.Prelude.{unsigned_abs, int_le}
 use Rattle.std.specs.List.{All, range_with_len}
 use Rattle.std.proofs.lemmas.Int.{ints}
+use Rattle.std.proofs.lemmas.Bool.Decides.{nat_tests}
 use Rattle.std.proofs.lemmas.Bool.{cases_Bool, eq-eqb, true≢false}
 use Rattle.std.proofs.lemmas.List.{get_or-replicate, get_or-take, get_or_append_left, get_or-append-add, length-drop, length-replicate, length-take-le}
 use Rattle.std.proofs.lemmas.List.Elements.{All-nil, All-cons}
@@ -16,7 +17,7 @@ use Rattle.mcf_network.specs.Nets.{IsNet, IsNetArc}
 use Rattle.mcf_network.specs.Residual.{arc_at}
 use Rattle.mcf_network.specs.States.{HasNoSurplus}
 use Rattle.mcf_network.proofs.ArcLaws.{net_arc_at}
-use Rattle.mcf_network.proofs.StateLaws.{when-same, when-other}
+use Rattle.mcf_network.proofs.StateLaws.{when-other}
 use Rattle.mcf_tree.specs.SpanningTree.{IsSpanning, IsStar, depth_of, label_of, parent_of, size_of}
 use Rattle.mcf_basis.specs.Artificial.{IsLabel, artificial_arc, artificial_cost, is_sender, with_artificial}
 use Rattle.mcf_basis.specs.Bases.{CanHold, HasTreeArc, HasTreePrices, IsAtBound, IsBasis}
@@ -36,16 +37,10 @@ size_below : (x : ℤ) → x <ℤ pos 0 → pos (unsigned_abs x) ≡ neg_ℤ x
 size_below x h = grind (arith, ints)
 
 -- an artificial arc has no end at another node
-pub apart_src : (g : Network) (u v : ℕ) → 0 < v → u ≢ v → (artificial_arc g u).src ≢ v
-apart_src g u v up ne q = elim (cases_Bool (is_sender g u)) [
-  | inl e ↦ ne (sym (sender_ends g u e).0 ∙ q)
-  | inr e ↦ (let z : 0 ≡ v = sym (taker_ends g u e).0 ∙ q in omega (arith, z, up))
-]
-
-pub apart_dst : (g : Network) (u v : ℕ) → 0 < v → u ≢ v → (artificial_arc g u).dst ≢ v
-apart_dst g u v up ne q = elim (cases_Bool (is_sender g u)) [
-  | inl e ↦ (let z : 0 ≡ v = sym (sender_ends g u e).1 ∙ q in omega (arith, z, up))
-  | inr e ↦ ne (sym (taker_ends g u e).1 ∙ q)
+apart_ends : (g : Network) (u v : ℕ) → 0 < v → u ≢ v → ((artificial_arc g u).src ≢ v) × ((artificial_arc g u).dst ≢ v)
+apart_ends g u v up ne = elim (cases_Bool (is_sender g u)) [
+  | inl e ↦ (let z = sender_ends g u e in (λ q. ne (sym z.0 ∙ q), λ q. (let w = sym z.1 ∙ q in omega (arith, w, up))))
+  | inr e ↦ (let z = taker_ends g u e in (λ q. (let w = sym z.0 ∙ q in omega (arith, w, up)), λ q. ne (sym z.1 ∙ q)))
 ]
 
 -- what the artificial arcs carry at the start
@@ -71,17 +66,17 @@ module _ (g : Network) (flow : List ℤ) (count : length flow ≡ node_count g) 
   -- a sender sends away along it, a taker takes
   pub sender_net : is_sender g v ≡ true → net (added_arcs g) flow v ≡ get_or flow (v - 1) (pos 0)
   sender_net e =
-      let inn = at_end (λ a. a.dst) (λ u ne. apart_dst g u v h.0 ne) in
-      let s = when-same (artificial_arc g v).src v (get_or flow (v - 1) (pos 0)) (sym (sender_ends g v e).0) in
-      let d = when-other (artificial_arc g v).dst v (get_or flow (v - 1) (pos 0)) (λ q. (let z : v ≡ 0 = q ∙ (sender_ends g v e).1 in omega (arith, z, h))) in
-      omega (arith, ints, at_end (λ a. a.src) (λ u ne. apart_src g u v h.0 ne), inn, s, d)
+      let out = at_end (λ a. a.src) (λ u ne. (apart_ends g u v h.0 ne).0) in
+      let inn = at_end (λ a. a.dst) (λ u ne. (apart_ends g u v h.0 ne).1) in
+      let ends = sender_ends g v e in
+      grind (arith, ints, nat_tests, out, inn, ends, h)
 
   pub taker_net : is_sender g v ≡ false → net (added_arcs g) flow v ≡ neg_ℤ (get_or flow (v - 1) (pos 0))
   taker_net e =
-      let inn = at_end (λ a. a.dst) (λ u ne. apart_dst g u v h.0 ne) in
-      let s = when-other (artificial_arc g v).src v (get_or flow (v - 1) (pos 0)) (λ q. (let z : v ≡ 0 = q ∙ (taker_ends g v e).0 in omega (arith, z, h))) in
-      let d = when-same (artificial_arc g v).dst v (get_or flow (v - 1) (pos 0)) (sym (taker_ends g v e).1) in
-      omega (arith, ints, at_end (λ a. a.src) (λ u ne. apart_src g u v h.0 ne), inn, s, d)
+      let out = at_end (λ a. a.src) (λ u ne. (apart_ends g u v h.0 ne).0) in
+      let inn = at_end (λ a. a.dst) (λ u ne. (apart_ends g u v h.0 ne).1) in
+      let ends = taker_ends g v e in
+      grind (arith, ints, nat_tests, out, inn, ends, h)
 
 -- by their places among the amounts of the start
 pub start_own : (g : Network) (i : ℕ) → i < length g.arcs → get_or (start_amounts g) i (pos 0) ≡ pos 0

@@ -1,8 +1,9 @@
 -- A pivot keeps a basis strongly feasible.
-use Rattle.std.proofs.Common.{◌≡◌, ◌≢◌, ℕ, zero, ◌+◌, ◌-◌, ◌<◌, ◌≤◌, ◌&&◌, ◌⊎◌, inl, inr, Bool, true, false, not, eqb, List, length, Some, None, sym, ap, ◌∙◌, subst}
+use Rattle.std.proofs.Common.{◌≡◌, ◌≢◌, ℕ, zero, ◌+◌, ◌-◌, ◌<◌, ◌≤◌, ◌&&◌, ◌⊎◌, inl, inr, Bool, true, false, not, eqb, cond, List, length, Some, None, sym, ap, ◌∙◌, subst}
 use Rattle.std.proofs.Common.{arith, refl, ℤ, pos, ◌+ℤ◌, ◌≤ℤ◌}
 use Rattle.std.specs.Prelude.{nat_le, slice_index_or, int_lt, if◌then◌else◌}
 use Rattle.std.proofs.lemmas.Bool.{and_from, and_parts, cases_Bool, cases_lt, eq-eqb, eqb-true, le-leb, leb-true, ne_eqb, true≢false}
+use Rattle.std.proofs.lemmas.Bool.Decides.{nat_tests}
 use Rattle.std.proofs.lemmas.Int.{ints}
 use Rattle.std.proofs.lemmas.List.{get_or_past}
 use Rattle.mcf_flows.specs.Network.{Network, IsNode, node_count}
@@ -66,12 +67,11 @@ take_of_leave b label v x low can = record {
 entering_by_ends : (g : Network) (k : ℕ) (back : Bool)
     → tail (with_artificial g) (record { arc = k; back = back }) ≢ head (with_artificial g) (record { arc = k; back = back })
     → (let r : Rid = record { arc = k; back = back } in r ≡ leaving g k (tail (with_artificial g) r))
-entering_by_ends g k true apart =
-    let e : true ≡ not (eqb (arc_at (with_artificial g) k).src (arc_at (with_artificial g) k).dst) = sym (ap not (ne_eqb _ _ (λ q. apart (sym q)))) in
-    ap (λ (t : Bool). record { arc = k; back = t }) e
-entering_by_ends g k false apart =
-    let e = sym (ap not (eq-eqb (arc_at (with_artificial g) k).src _ refl)) in
-    ap (λ (t : Bool). record { arc = k; back = t }) e
+entering_by_ends g k back apart =
+    ap (λ (t : Bool). record { arc = k; back = t }) (turned (arc_at (with_artificial g) k).src (arc_at (with_artificial g) k).dst back apart)
+  where
+    turned : (s d : ℕ) (back : Bool) → cond back d s ≢ cond back s d → back ≡ not (eqb s (cond back d s))
+    turned s d back apart = grind (arith, nat_tests)
 
 -- the entering residual arc leaves the end that it leaves
 pub entering_leaves : (b : TreeStructure) (k : ℕ) → from_of b k ≢ to_of b k → entering b k ≡ leaving b.net k (from_of b k)
@@ -156,8 +156,7 @@ module _ (old : TreeStructure) (k apex : ℕ) (moved : ℤ) (ok : IsBasis old) (
         step_of old k apex ok eligible is_around (right_step old k apex ok eligible is_around m h) x.is_node
         (sym (ap (λ r. r.arc) is) ∙ named) in
         elim x.ends [
-          | inl e ↦ absurd (below_apex old.tree.parents (depth_of old.tree) (to_of old k) (from_of old k) apex out m
-              ok.spanning.rooted is_around.cycle.right_in_range h at_out
+          | inl e ↦ absurd (below_apex ok.spanning.rooted is_around.cycle.right_in_range h at_out
               (subst (λ v. IsOnPath old.tree.parents v out) e.0 x.inside) (λ y p q. is_apex.deepest y q p))
           | inr e ↦ strong_right is_around.tree is_around.cycle went (fits old ok) (not_below old ok) (room_of_strong old ok)
               m new.tree.parents new.tree.labels h
@@ -175,8 +174,7 @@ module _ (old : TreeStructure) (k apex : ℕ) (moved : ℤ) (ok : IsBasis old) (
               m new.tree.parents new.tree.labels h
               (rw (at_out, e.0, e.1) at x.swapped.parents) (rw (at_out, e.0) at x.swapped.labels)
               (λ p l. leave_of_take (free p l)) (enter_room first) (λ p l. leave_of_take (above p l))
-          | inr e ↦ absurd (below_apex old.tree.parents (depth_of old.tree) (from_of old k) (to_of old k) apex out m
-              ok.spanning.rooted is_around.cycle.left_in_range h at_out
+          | inr e ↦ absurd (below_apex ok.spanning.rooted is_around.cycle.left_in_range h at_out
               (subst (λ v. IsOnPath old.tree.parents v out) e.0 x.inside) is_apex.deepest)
         ]
 

@@ -26,16 +26,13 @@ use Rattle.mcf_basis.proofs.TreePrices.{IsNear, below_price, near_price}
 use Rattle.mcf_basis.proofs.TurnedStart.{in_net, offer_ends}
 
 pub inner_in : (side : Bool) (a b n : ℕ) → a < n → b < n → inner_of side a b < n
-inner_in true a b n h k = h
-inner_in false a b n h k = k
+inner_in side a b n h k = grind arith
 
 pub outer_in : (side : Bool) (a b n : ℕ) → a < n → b < n → outer_of side a b < n
-outer_in true a b n h k = k
-outer_in false a b n h k = h
+outer_in side a b n h k = grind arith
 
 outer_above : (side : Bool) (a b : ℕ) → 0 < a → 0 < b → 0 < outer_of side a b
-outer_above true a b h k = k
-outer_above false a b h k = h
+outer_above side a b h k = grind arith
 
 -- the offer of an arc that can enter, and its ends
 module _ (l : Layout) (k : ℕ) (ok : IsLaidOut l) (el : IsEligible (basis_in l) k) where
