@@ -1,5 +1,5 @@
 -- The arcs of a net with its artificial arcs, by their labels.
-use Rattle.std.proofs.Common.{◌≡◌, ℕ, ◌+◌, ◌-◌, ◌<◌, ◌++◌, ◌⊎◌, inl, inr, Bool, true, false, length, map, refl, ap, sym, ◌∙◌, arith, get_or, pos, length-append}
+use Rattle.std.proofs.Common.{◌≡◌, ℕ, ◌+◌, ◌-◌, ◌<◌, ◌++◌, ◌⊎◌, inl, inr, true, false, length, map, refl, ap, sym, ◌∙◌, arith, get_or, pos, length-append}
 use Rattle.std.specs.List.{range_with_len}
 use Rattle.std.proofs.lemmas.Bool.{cases_Bool, cases_lt}
 use Rattle.std.proofs.lemmas.List.{get_or_append_left, get_or-append-add}

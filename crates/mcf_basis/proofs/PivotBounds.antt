@@ -27,17 +27,14 @@ module _ (b : TreeStructure) (label v : ℕ) (x : ℤ) (new : ℕ → ℤ)
   pub pushed_hold : CanHold b.net label (carried b label) → CanHold b.net label (new label)
   pushed_hold old =
       elim (cases_eq (arc_at (with_artificial b.net) label).src v) [
-        | inl e ↦ (let amount : new label ≡ carried b label +ℤ x = went.forward e in let low = old.low in record {
-          low = omega (arith, ints, amount, low, some);
-          high = λ own. (let fits : (carried b label +ℤ x) ≤ℤ (arc_at b.net label).cap =
-              can.forward (ap not (eq-eqb (arc_at (with_artificial b.net) label).src v e)) own in
-              omega (arith, ints, amount, fits));
-        })
-        | inr ne ↦ (let amount : new label +ℤ x ≡ carried b label = went.backward ne in
-            let fits : x ≤ℤ carried b label = can.backward (ap not (ne_eqb (arc_at (with_artificial b.net) label).src v ne)) in record {
-              low = omega (arith, ints, amount, fits);
-              high = λ own. (let high : carried b label ≤ℤ (arc_at b.net label).cap = old.high own in omega (arith, ints, amount, high, some));
-            })
+        | inl e ↦ record {
+          low = omega (arith, ints, went.forward e, old.low, some);
+          high = λ own. omega (arith, ints, went.forward e, can.forward (ap not (eq-eqb _ v e)) own);
+        }
+        | inr ne ↦ record {
+          low = omega (arith, ints, went.backward ne, can.backward (ap not (ne_eqb _ v ne)));
+          high = λ own. omega (arith, ints, went.backward ne, old.high own, some);
+        }
       ]
 
   -- where one more couldn't go, it is at a bound

@@ -4,7 +4,6 @@ use Rattle.std.proofs.Common.{◌+ℤ◌, ◌*ℤ◌, ◌≤ℤ◌}
 use Rattle.std.proofs.lemmas.Int.{ints}
 use Rattle.std.proofs.lemmas.List.FromFn.{length-map-range_with_len}
 use Rattle.mcf_flows.specs.declared.arc.Arc.{Arc}
-use Rattle.mcf_flows.specs.Flow.{cost}
 use Rattle.mcf_flows.specs.Network.{IsNode, flow_sum, node_count}
 use Rattle.mcf_flows.specs.WellFormed.{IsUpTo, weight}
 use Rattle.mcf_flows.proofs.Bounds.{cost_up_to}

@@ -27,8 +27,8 @@ pub near_moved : (cost a b : ℕ) (p q : ℤ) → IsNear cost a q → IsUpTo b (
 near_moved cost a b p q (inl h) k = inl (omega (arith, ints, h, k), omega (arith, ints, h, k))
 near_moved cost a b p q (inr h) k = inr (omega (arith, ints, h, k), omega (arith, ints, h, k))
 
-stored_as : (gap limit : ℕ) (stored z : ℤ) → IsMoved stand_in (2 * gap) stored z → IsUpTo limit stored → IsShown gap limit z
-stored_as gap limit stored z moved small = record { stored = stored; is = moved_is stand_in (2 * gap) stored z moved; small = small }
+stored_as : {gap limit : ℕ} (stored : ℤ) {z : ℤ} → IsMoved stand_in (2 * gap) stored z → IsUpTo limit stored → IsShown gap limit z
+stored_as {gap} stored {z} moved small = record { stored = stored; is = moved_is stand_in (2 * gap) stored z moved; small = small }
 
 -- the reduced cost of an offer between such prices, of which each fits
 pub reduced_is_shown : (g : Network) (gap limit reach : ℕ) (c p q : ℤ) → IsUpTo limits.cost c → IsGapOf g gap →
@@ -47,26 +47,24 @@ reduced_is_shown g gap limit reach c p q cost (none z) short fits from to = reco
     by_sides (inr h) (inr k) = (omega (arith, ints, cost, fits, h, k), omega (arith, ints, cost, fits, h, k))
 reduced_is_shown g gap limit reach c p q cost (far is le) short fits (inl h) (inl k) =
     let s = short le in
-    stored_as gap (change_limit (limit - gap)) (c -ℤ p +ℤ q) (c -ℤ p +ℤ q) (stays (omega (arith, ints, cost, s, h, k)) (omega (arith, ints, cost, s, h, k)) refl)
+    stored_as (c -ℤ p +ℤ q) (stays (omega (arith, ints, cost, s, h, k)) (omega (arith, ints, cost, s, h, k)) refl)
     (omega (arith, ints, cost, is, fits, h, k), omega (arith, ints, cost, is, fits, h, k))
 reduced_is_shown g gap limit reach c p q cost (far is le) short fits (inr h) (inr k) =
     let s = short le in
-    stored_as gap (change_limit (limit - gap)) (c -ℤ p +ℤ q) (c -ℤ p +ℤ q) (stays (omega (arith, ints, cost, s, h, k)) (omega (arith, ints, cost, s, h, k)) refl)
+    stored_as (c -ℤ p +ℤ q) (stays (omega (arith, ints, cost, s, h, k)) (omega (arith, ints, cost, s, h, k)) refl)
     (omega (arith, ints, cost, is, fits, h, k), omega (arith, ints, cost, is, fits, h, k))
 reduced_is_shown g gap limit reach c p q cost (far is le) short fits (inl h) (inr k) =
-    stored_as gap (change_limit (limit - gap)) (c -ℤ p +ℤ q +ℤ pos (2 * gap)) (c -ℤ p +ℤ q)
-    (down (omega (arith, ints, cost, short le, is, h, k)) (omega (arith, ints)))
+    stored_as (c -ℤ p +ℤ q +ℤ pos (2 * gap)) (down (omega (arith, ints, cost, short le, is, h, k)) (omega (arith, ints)))
     (omega (arith, ints, cost, is, fits, h, k), omega (arith, ints, cost, is, fits, h, k))
 reduced_is_shown g gap limit reach c p q cost (far is le) short fits (inr h) (inl k) =
-    stored_as gap (change_limit (limit - gap)) (c -ℤ p +ℤ q -ℤ pos (2 * gap)) (c -ℤ p +ℤ q)
-    (up (omega (arith, ints, cost, short le, is, h, k)) (omega (arith, ints)))
+    stored_as (c -ℤ p +ℤ q -ℤ pos (2 * gap)) (up (omega (arith, ints, cost, short le, is, h, k)) (omega (arith, ints)))
     (omega (arith, ints, cost, is, fits, h, k), omega (arith, ints, cost, is, fits, h, k))
 
 -- the same the other way
 pub turned_shown : (gap limit : ℕ) (left : Bool) (r : ℤ) → IsShown gap limit r → IsShown gap limit (price_change left r)
 turned_shown gap limit true r h = h
 turned_shown gap limit false r h =
-    stored_as gap limit (neg_ℤ h.stored) (neg_ℤ r) (elim (is_moved stand_in (2 * gap) h.stored) [
+    stored_as (neg_ℤ h.stored) (elim (is_moved stand_in (2 * gap) h.stored) [
       | up k f ↦ down (omega (arith, ints, k)) (omega (arith, ints, h.is, f))
       | down k f ↦ up (omega (arith, ints, k)) (omega (arith, ints, h.is, f))
       | stays j k f ↦ stays (omega (arith, ints, k)) (omega (arith, ints, j)) (omega (arith, ints, h.is, f))

@@ -1,5 +1,5 @@
 -- The star of the artificial arcs, as it is stored.
-use Rattle.std.proofs.Common.{◌≡◌, ℕ, zero, suc, ◌+◌, ◌-◌, ◌<◌, ◌≤◌, ◌++◌, inl, inr, Bool, true, false, eqb, cond, List, [], ◌∷◌, length, map, take}
+use Rattle.std.proofs.Common.{◌≡◌, ℕ, zero, suc, ◌+◌, ◌-◌, ◌<◌, ◌≤◌, ◌++◌, inl, inr, Bool, eqb, cond, List, [], ◌∷◌, length, map, take}
 use Rattle.std.proofs.Common.{get_or, refl, sym, ap, ◌∙◌, arith, ℤ, pos}
 use Rattle.std.specs.Prelude.{if◌then◌else◌, int_lt, max, sum, unsigned_abs}
 use Rattle.std.specs.List.{range_with_len}
@@ -125,8 +125,7 @@ module _ (l : Layout) (s : IsStarStored l) where
       ]
     where
       either : (b : Bool) (x : ℤ) → x ≡ pos 0 → cond b (pos 0) x ≡ pos 0
-      either true x e = refl
-      either false x e = e
+      either b x e = grind (arith, ints)
 
   own_part : (k : ℕ) → IsArcNumber l.net k → amount_in l k ≡ pos 0
   own_part k h = amount_none l k h (λ v node e. (let is = label_is v node in omega (arith, is, e, node, h))) ∙ own_amount k h

@@ -1,4 +1,4 @@
-use Rattle.std.proofs.Common.{◌≡◌, neg_ℤ, ◌<◌, arith, pos, ◌<ℤ◌, ◌↔◌, ◌∙◌, rules, subst, sym, to_z, of_z}
+use Rattle.std.proofs.Common.{◌≡◌, neg_ℤ, arith, pos, ◌<ℤ◌, ◌↔◌, ◌∙◌, rules, subst, sym, to_z, of_z}
 use mir.Syntax.{w128}
 use Rattle.std.proofs.lemmas.Int.{to_z-of_z}
 use Rattle.mcf_basis.specs.Pivots.{IsEligible}
