@@ -107,18 +107,24 @@ function plans(expect, module) {
   }
 }
 
-// This test does the same for tables of persons and things.
+// This test does the same for tables of persons and things, with their groups if they have some.
 function rosters(expect, module) {
   const mcfplan = path.join(programs, 'mcfplan'), folder = path.join(examples, 'plans');
   for (const name of fs.readdirSync(folder)) {
-    const file = path.join(folder, name, 'costs.csv');
-    if (!fs.existsSync(file)) continue;
+    const [costs, groups] = ['costs.csv', 'groups.csv'].map((file) => path.join(folder, name, file));
+    if (!fs.existsSync(costs)) continue;
+    const hasGroups = fs.existsSync(groups);
     for (const each of ['', 'both']) {
       const instance = new Instance(module);
-      const costs = instance.lend(fs.readFileSync(file));
-      const found = instance.pair(costs, { each, maximise: each === 'both' });
-      const words = each ? ['--each', each, '--maximise', 'yes'] : [];
-      const wanted = spawnSync(mcfplan, ['pairs', ...words, file]);
+      const lent = [costs, groups].map((file) =>
+        instance.lend(fs.existsSync(file) ? fs.readFileSync(file) : new Uint8Array(0))
+      );
+      const found = instance.pair(lent[0], lent[1], { each, maximise: each === 'both' });
+      const words = [
+        ...(each ? ['--each', each, '--maximise', 'yes'] : []),
+        ...(hasGroups ? ['--groups', groups] : []),
+      ];
+      const wanted = spawnSync(mcfplan, ['pairs', ...words, costs]);
       expect(
         Buffer.from(instance.bytes(found.at, found.size)).equals(wanted.stdout),
         `${name}: mcfplan answers otherwise`
