@@ -8,7 +8,7 @@
 # make bench  runs the measurements of bench/
 # make tools-test   tests python/, tools/ and make install; needs bin/ and Python 3.8
 # make library      proves and builds the library for C: bin/libmcf.so, bin/libmcf.a and bin/mcf.h
-# make library-test tests the library from C, C++, Rust and Python: at most four minutes
+# make library-test tests the library from C, C++, Rust and Python: some four minutes
 # make dist         packs programs, tools and library into bin/dist/: a .deb, a wheel and a tar.gz
 # make dist-test    tests these packages elsewhere; the .deb needs debootstrap and root
 # make page         builds the page bin/mcf.html; needs rt, Binaryen and LLVM's wasm64 builtins

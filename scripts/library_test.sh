@@ -1,7 +1,7 @@
 #!/bin/bash
 # Tests the library of bin/, as make library leaves it, from C, C++, Rust and Python, if their
 # compiler or interpreter is installed; also by the tests of networkx and scipy, if these are
-# installed. It may take four minutes, and reports what it skips.
+# installed. It takes some four minutes, and reports what it skips.
 set -u
 cd "$(dirname "$0")/.." || exit 1
 top=$PWD
@@ -11,12 +11,13 @@ failed=0
 
 has() { command -v "$1" > /dev/null 2>&1 || { echo "library-test: skipped: $2: there is no $1"; return 1; }; }
 
-# Runs a step of at most a minute, and reports its failure.
+# Runs a step of at most three minutes, and reports its failure. On an idle machine each takes less
+# than one.
 step() {
     what=$1
     shift
-    timeout 60 "$@" > "$out/log" 2>&1 && { said=$(tail -n 1 "$out/log"); echo "library-test: $what: ${said:-passed}"; return; }
-    echo "library-test: $what: failed (status $?; 124 is a minute)"
+    timeout 180 "$@" > "$out/log" 2>&1 && { said=$(tail -n 1 "$out/log"); echo "library-test: $what: ${said:-passed}"; return; }
+    echo "library-test: $what: failed (status $?; 124 is three minutes)"
     tail -n 20 "$out/log"
     failed=1
 }
