@@ -283,14 +283,15 @@ def build(names, is_whole):
 
 
 def main():
-    if sys.argv[1:2] == ["--stamp"]:
-        print(stamp(closure(crates(), sys.argv[2:])))
-        return
-    is_whole = sys.argv[1:] == ["--all"]
-    names = [*crates()] if is_whole else sys.argv[1:] or [*WORDS]
+    words = sys.argv[1:]
+    is_whole, is_asked = words == ["--all"], words[:1] == ["--stamp"]
+    names = [*crates()] if is_whole else words[is_asked:] or [*WORDS]
     lacking = [name for name in names if name not in crates()]
     if lacking:
         sys.exit(f"build.py: {lacking[0]} is no crate of crates.txt")
+    if is_asked:
+        print(stamp(closure(crates(), names)))
+        return
     for number in (signal.SIGHUP, signal.SIGINT, signal.SIGTERM):
         if signal.getsignal(number) != signal.SIG_IGN:
             signal.signal(number, lambda number, _: sys.exit(128 + number))

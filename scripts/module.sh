@@ -1,8 +1,9 @@
 #!/bin/bash
 # Proves the crate mcf_c, with all crates below it, and builds from it, in bin/module/, libmcf_c.a for
-# x86-64 and module.ll, its LLVM module, for other machines. What is there stays while no source and
-# no kit changes, so `make library` and `make page` compile the crate once. bin/mcf_c.log has the
-# output for mcf_c; scripts/build.py proves the crates below, if that isn't done.
+# x86-64 and module.ll, its LLVM module, for other machines. What is there stays while no source, no
+# kit and not this script changes, so `make library` and `make page` compile the crate once.
+# bin/mcf_c.log has the output for mcf_c; scripts/build.py proves the crates below, if that isn't
+# done.
 #
 # The kit's compiler turns the crates into one LLVM module, and passes that to clang for x86-64. This
 # script keeps a copy of the module, and refuses it if it has code that only runs on x86-64. Its
@@ -10,7 +11,7 @@
 set -euo pipefail
 cd "$(dirname "$0")/.."
 stop() { echo "module: $1" >&2; exit 3; }
-kit=$(dirname "$(rt doc)") made=$PWD/bin/module sources=$(scripts/build.py --stamp mcf_c)
+kit=$(dirname "$(rt doc)") made=$PWD/bin/module sources="$(scripts/build.py --stamp mcf_c) $(sha256sum < scripts/module.sh)"
 [ "$(cat "$made/sources" 2> /dev/null)" != "$sources" ] || exit 0
 scratch=$(mktemp -d)
 trap 'rm -rf "$scratch"' EXIT
