@@ -2,8 +2,7 @@
 -- Source: own
 use Rattle.std.specs.Prelude.{ℕ, List, [], ◌∷◌, codes, max, slice_index_or}
 use Rattle.mcf_reading.specs.Cells.{cell_at}
-use Rattle.mcf_reading.specs.Columns.{only_place}
-use Rattle.mcf_table.specs.Heads.{cells_of, column_of}
+use Rattle.mcf_table.specs.Heads.{cells_of, column_of, only_place}
 use Rattle.mcf_table.specs.Texts.{Record, no_record}
 
 -- the line on which a row begins; the first, if the table has no such row

@@ -2,13 +2,12 @@
 ghost use Rattle.std.specs.Prelude.{◌≡◌, ◌++◌, IfOk, OnOk, decimal, map, suc};
 ghost use Rattle.mcf_decimal.specs.Written.{decimal_text};
 ghost use Rattle.mcf_reading.specs.Cells.{cell_at};
-ghost use Rattle.mcf_reading.specs.Columns.{only_place};
-ghost use Rattle.mcf_table.specs.Heads.{cells_of, column_of};
+ghost use Rattle.mcf_table.specs.Heads.{cells_of, column_of, only_place};
 ghost use Rattle.mcf_answer_rows.specs.AnswerRows.{cell_under, line_at};
 ghost use Rattle.mcf_answer_rows.specs.Lines.{row_line};
 
 use mcf_decimal::put_decimal;
-use mcf_table::{Column, Records, put_row};
+use mcf_table::{Records, put_row};
 use mcf_text::{NoMemory, put_number};
 use std::alloc::Global;
 
@@ -16,10 +15,7 @@ use std::alloc::Global;
 pub fn place_of(records: &Records, head: &[u8]) -> Option<usize>
     ensures { result ≡ only_place (column_of head.now records.now) }
 {
-    match records.column_of(head) {
-        Column::At(place) => Some(place),
-        _ => None,
-    }
+    records.column_of(head).only_place()
 }
 
 /// The cell of a row in a column; empty if the table has no such row or column. Rows and columns

@@ -2,8 +2,7 @@
 -- Source: own
 use Rattle.std.specs.Prelude.{ℕ, Bool, true, false, not, ◌&&◌, if◌then◌else◌, List, [], ◌∷◌, codes, Option, Some, None}
 use Rattle.std.specs.List.{flat_map}
-use Rattle.mcf_roster_reading.specs.Columns.{is_there, only_place}
-use Rattle.mcf_table.specs.Heads.{column_of}
+use Rattle.mcf_table.specs.Heads.{column_of, is_there, only_place}
 use Rattle.mcf_table.specs.Texts.{Record}
 use Rattle.mcf_table.specs.declared.heads.Column.{Column}
 use Rattle.mcf_table.specs.declared.heads.Column.TheVariants.{Missing, Twice, At}

@@ -1,7 +1,6 @@
 //! The heads of the columns that are read, and their faults.
 ghost use Rattle.std.specs.Prelude.{◌≡◌, ◌++◌, OnOk};
 ghost use Rattle.std.specs.List.{flat_map};
-ghost use Rattle.mcf_roster_reading.specs.Columns.{is_there, only_place};
 ghost use Rattle.mcf_group_reading.specs.GroupHeads.{all_heads, column_faults, column_kind, column_under, columns_of, has_head, head_fault, head_word, is_needed, member_faults, place_under};
 
 use crate::kinds::{Fault, FaultKind, Head, Location, if_kind, push_told};
@@ -48,38 +47,18 @@ fn column_under(records: &Records, head: Head) -> Column
     records.column_of(head_word(head))
 }
 
-// Whether one column or more has a head.
-fn is_there(column: Column) -> bool
-    ensures { result ≡ is_there column }
-{
-    match column {
-        Column::Missing => false,
-        _ => true,
-    }
-}
-
 // Whether one column or more has the head.
 pub(crate) fn has_head(records: &Records, head: Head) -> bool
     ensures { result ≡ has_head records.now head }
 {
-    is_there(column_under(records, head))
-}
-
-// The place of a column, if just one has its head.
-fn only_place(column: Column) -> Option<usize>
-    ensures { result ≡ only_place column }
-{
-    match column {
-        Column::At(place) => Some(place),
-        _ => None,
-    }
+    column_under(records, head).is_there()
 }
 
 // The place of the column with a head, if just one has it.
 fn place_under(records: &Records, head: Head) -> Option<usize>
     ensures { result ≡ place_under records.now head }
 {
-    only_place(column_under(records, head))
+    column_under(records, head).only_place()
 }
 
 // The places of the columns that are read.

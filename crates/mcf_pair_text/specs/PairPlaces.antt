@@ -3,10 +3,9 @@
 use Rattle.std.specs.Prelude.{ℕ, suc, ◌-◌, Bool, ◌&&◌, if◌then◌else◌, List, [], codes, decimal, drop, map, slice_index_or, unwrap_or, Option, Some, None}
 use Rattle.mcf_answer_rows.specs.AnswerRows.{line_at}
 use Rattle.mcf_names.specs.Names.{name_at, number_of}
-use Rattle.mcf_reading.specs.Columns.{only_place}
 use Rattle.mcf_roster_reading.specs.Cells.{at_place, cell_in}
 use Rattle.mcf_roster_reading.specs.Columns.{is_list}
-use Rattle.mcf_table.specs.Heads.{column_of}
+use Rattle.mcf_table.specs.Heads.{column_of, only_place}
 use Rattle.mcf_table.specs.Texts.{Record, is_filled}
 use Rattle.mcf_table.specs.declared.heads.CellPlace.{CellPlace}
 use Rattle.mcf_pair_text.specs.declared.pages.Page.{Page}

@@ -2,11 +2,10 @@
 -- Source: own
 use Rattle.std.specs.Prelude.{ℕ, Bool, not, ◌||◌, List, [], ◌∷◌, ◌++◌, codes, Option, Some, None}
 use Rattle.std.specs.List.{flat_map, list_any}
-use Rattle.mcf_reading.specs.Columns.{only_place}
-use Rattle.mcf_reading.specs.HeadTexts.{has_periods, is_there}
+use Rattle.mcf_reading.specs.HeadTexts.{has_periods}
 use Rattle.mcf_reading.specs.declared.locations.Table.{Table}
 use Rattle.mcf_reading.specs.declared.locations.Table.TheVariants.{Places, Routes}
-use Rattle.mcf_table.specs.Heads.{column_of}
+use Rattle.mcf_table.specs.Heads.{column_of, is_there, only_place}
 use Rattle.mcf_table.specs.Texts.{Record}
 use Rattle.mcf_table.specs.declared.heads.Column.{Column}
 use Rattle.mcf_table.specs.declared.heads.Column.TheVariants.{Missing, Twice, At}

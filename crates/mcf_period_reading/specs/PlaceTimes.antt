@@ -6,10 +6,9 @@ use Rattle.mcf_decimal.specs.declared.mark.Mark.{Mark}
 use Rattle.mcf_names.specs.NameFaults.{name_fault}
 use Rattle.mcf_names.specs.Names.{distinct, number_of}
 use Rattle.mcf_reading.specs.Cells.{amount, cell_at, limit, read_amount, read_limit, rows}
-use Rattle.mcf_reading.specs.Columns.{only_place}
 use Rattle.mcf_reading.specs.RouteRows.{place_or_none}
 use Rattle.mcf_reading.specs.declared.locations.Table.TheVariants.{Places}
-use Rattle.mcf_table.specs.Heads.{cells_of, column_of}
+use Rattle.mcf_table.specs.Heads.{cells_of, column_of, only_place}
 use Rattle.mcf_table.specs.Texts.{Record, is_filled}
 use Rattle.mcf_period_reading.specs.PeriodCells.{cells_under, limit_kind, number_kind, stock_kind}
 use Rattle.mcf_period_reading.specs.PeriodFaults.{if_kind, told}

@@ -1,8 +1,6 @@
 //! The heads of the columns that say something about periods.
 ghost use Rattle.std.specs.Prelude.{◌≡◌, ◌++◌, IfOk, OnOk};
 ghost use Rattle.std.specs.List.{flat_map};
-ghost use Rattle.mcf_reading.specs.Columns.{only_place};
-ghost use Rattle.mcf_reading.specs.HeadTexts.{is_there};
 ghost use Rattle.mcf_period_reading.specs.PeriodHeads.{column_kind, column_under, has_any, head_fault, head_faults, head_text, heads_of, place_under, tells_periods};
 
 use crate::kinds::{PeriodFault, PeriodKind, if_kind, push_told};
@@ -71,31 +69,11 @@ fn column_under(records: &Records, head: PeriodHead) -> Column
     records.column_of(head_text(head))
 }
 
-// The place of a column, if just one has its head.
-pub(crate) fn only_place(column: Column) -> Option<usize>
-    ensures { result ≡ only_place column }
-{
-    match column {
-        Column::At(place) => Some(place),
-        _ => None,
-    }
-}
-
 // The place of the column with this head, if just one has it.
 pub(crate) fn place_under(records: &Records, head: PeriodHead) -> Option<usize>
     ensures { result ≡ place_under records.now head }
 {
-    only_place(column_under(records, head))
-}
-
-// Whether one column or more has the head.
-fn is_there(column: Column) -> bool
-    ensures { result ≡ is_there column }
-{
-    match column {
-        Column::Missing => false,
-        _ => true,
-    }
+    column_under(records, head).only_place()
 }
 
 // Whether a table has a column with one of these heads.
@@ -103,7 +81,7 @@ fn has_any(records: &Records, heads: &[PeriodHead]) -> bool
     ensures { result ≡ has_any records.now heads.now }
 {
     for place in 0..heads.len() {
-        if is_there(column_under(records, heads[place])) {
+        if column_under(records, heads[place]).is_there() {
             return true;
         }
     }

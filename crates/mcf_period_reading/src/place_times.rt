@@ -9,7 +9,7 @@ use crate::cells::{
     amount, cell_at, is_filled, limit, limit_kind, number_kind, read_amount, read_limit, row_count,
     stock_kind,
 };
-use crate::heads::{PeriodHead, only_place, place_under};
+use crate::heads::{PeriodHead, place_under};
 use crate::kinds::{PeriodFault, PeriodKind, if_kind, push_told};
 use crate::spots::{Spot, spot_at};
 use crate::taken::taken_rows;
@@ -68,7 +68,7 @@ pub(crate) fn time_columns(records: &Records) -> TimeColumns
     ensures { result ≡ time_columns records.now }
 {
     TimeColumns {
-        name: only_place(records.column_of(b"name")),
+        name: records.column_of(b"name").only_place(),
         period: place_under(records, PeriodHead::Period),
         keep_most: place_under(records, PeriodHead::KeepMost),
         keep_cost: place_under(records, PeriodHead::KeepCost),

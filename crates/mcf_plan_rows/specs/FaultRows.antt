@@ -13,7 +13,6 @@ use Rattle.mcf_places.specs.declared.faults.PlannerFault.TheVariants as planner
 use Rattle.mcf_places.specs.declared.origins.Origin.{Origin}
 use Rattle.mcf_places.specs.declared.origins.Origin.TheVariants.{OfPlace, OfPenalty, OfRoute, OfAll}
 use Rattle.mcf_reading.specs.Cells.{cell_at}
-use Rattle.mcf_reading.specs.Columns.{only_place}
 use Rattle.mcf_reading.specs.HeadTexts.{head_text}
 use Rattle.mcf_reading.specs.declared.kinds.Fault.{Fault}
 use Rattle.mcf_reading.specs.declared.kinds.FaultKind.{FaultKind}
@@ -23,7 +22,7 @@ use Rattle.mcf_reading.specs.declared.locations.ColumnAt.TheVariants.{Under, Pla
 use Rattle.mcf_reading.specs.declared.locations.Location.{Location}
 use Rattle.mcf_reading.specs.declared.locations.Table.{Table}
 use Rattle.mcf_reading.specs.declared.locations.Table.TheVariants.{Places, Routes}
-use Rattle.mcf_table.specs.Heads.{cells_of, column_of}
+use Rattle.mcf_table.specs.Heads.{cells_of, column_of, only_place}
 use Rattle.mcf_table.specs.Texts.{Record}
 use Rattle.mcf_table.specs.declared.fault.TextFault.{TextFault}
 use Rattle.mcf_units.specs.declared.great.GreatFault.{GreatFault}

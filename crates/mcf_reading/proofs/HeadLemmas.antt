@@ -3,9 +3,9 @@ use Rattle.std.proofs.Common.{◌≡◌, ℕ, true, false, ◌+◌, ◌-◌, ◌
 use Rattle.std.specs.List.{prefix_len, range_with_len}
 use Rattle.std.proofs.lemmas.List.FromFn.{get_or-range_with_len, length-range_with_len}
 use Rattle.std.proofs.lemmas.List.Sums.{prefix_len_is}
-use Rattle.mcf_table.specs.Heads.{heads}
+use Rattle.mcf_table.specs.Heads.{heads, is_there}
 use Rattle.mcf_table.specs.Texts.{Record}
-use Rattle.mcf_reading.specs.HeadTexts.{column_under, further_count, is_there}
+use Rattle.mcf_reading.specs.HeadTexts.{column_under, further_count}
 use Rattle.mcf_reading.specs.declared.locations.Head.TheVariants.{Most}
 
 pub further_is : (records : List Record) (limit n : ℕ) → limit ≡ length (heads records) - 4 → n ≤ limit

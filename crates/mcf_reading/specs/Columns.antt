@@ -1,21 +1,15 @@
 -- The columns that are read.
 -- Source: own
-use Rattle.std.specs.Prelude.{ℕ, List, map, Option, Some, None}
+use Rattle.std.specs.Prelude.{ℕ, List, map, Option}
+use Rattle.mcf_table.specs.Heads.{only_place}
 use Rattle.mcf_table.specs.Texts.{Record}
 use Rattle.mcf_table.specs.declared.heads.Column.{Column}
-use Rattle.mcf_table.specs.declared.heads.Column.TheVariants.{Missing, Twice, At}
 use Rattle.mcf_reading.specs.HeadTexts.{all_steps, column_under, has_periods}
 use Rattle.mcf_reading.specs.declared.columns.PlaceColumns.{PlaceColumns}
 use Rattle.mcf_reading.specs.declared.columns.RouteColumns.{RouteColumns}
 use Rattle.mcf_reading.specs.declared.columns.StepColumns.{StepColumns}
 use Rattle.mcf_reading.specs.declared.locations.Head.{Head}
 use Rattle.mcf_reading.specs.declared.locations.Head.TheVariants.{Name, Supply, Least, Most, Cost, Penalty, From, To, Both}
-
--- the place of a column, if just one has its head
-abbrev pub only_place : Column → Option ℕ
-only_place Missing = None
-only_place Twice = None
-only_place (At place) = Some place
 
 -- the place of the column with a head
 unfoldable pub place_under : List Record → Head → Option ℕ

@@ -1,11 +1,10 @@
 -- The heads of the columns that are read.
 -- Source: own
-use Rattle.std.specs.Prelude.{ℕ, ◌+◌, ◌-◌, nat_lt, Bool, true, false, if◌then◌else◌, List, [], ◌∷◌, ◌++◌, length, codes, decimal}
+use Rattle.std.specs.Prelude.{ℕ, ◌+◌, ◌-◌, nat_lt, Bool, if◌then◌else◌, List, [], ◌∷◌, ◌++◌, length, codes, decimal}
 use Rattle.std.specs.List.{flat_map, prefix_len, range_with_len}
-use Rattle.mcf_table.specs.Heads.{column_of, heads}
+use Rattle.mcf_table.specs.Heads.{column_of, heads, is_there}
 use Rattle.mcf_table.specs.Texts.{Record}
 use Rattle.mcf_table.specs.declared.heads.Column.{Column}
-use Rattle.mcf_table.specs.declared.heads.Column.TheVariants.{Missing, Twice, At}
 use Rattle.mcf_reading.specs.declared.locations.Head.{Head}
 use Rattle.mcf_reading.specs.declared.locations.Head.TheVariants.{Name, Supply, Least, Most, Cost, Penalty, From, To, Both}
 use Rattle.mcf_reading.specs.declared.locations.Table.{Table}
@@ -40,12 +39,6 @@ head_text head = head_word head ++ step_text (head_step head)
 -- the column of a table that has this head
 unfoldable pub column_under : List Record → Head → Column
 column_under records head = column_of (head_text head) records
-
--- one column or more has the head
-abbrev pub is_there : Column → Bool
-is_there Missing = false
-is_there Twice = true
-is_there (At place) = true
 
 -- the table of places has a column of periods, `period`
 unfoldable pub has_periods : List Record → Bool

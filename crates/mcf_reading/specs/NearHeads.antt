@@ -3,11 +3,11 @@
 use Rattle.std.specs.Prelude.{ℕ, ◌+◌, Bool, true, false, not, ◌&&◌, ◌||◌, if◌then◌else◌, List, length, max, find, Option, Some, None, option_map}
 use Rattle.std.specs.List.{flat_map, list_any, range_with_len}
 use Rattle.std.specs.Str.{bytes_eq, str_eq_ignore_ascii_case}
-use Rattle.mcf_table.specs.Heads.{head_at, heads}
+use Rattle.mcf_table.specs.Heads.{head_at, heads, is_there}
 use Rattle.mcf_table.specs.NearHeads.{head_number, is_near, meant_digits, meant_word}
 use Rattle.mcf_table.specs.Texts.{Record, is_filled}
 use Rattle.mcf_reading.specs.Faults.{told}
-use Rattle.mcf_reading.specs.HeadTexts.{column_under, first_heads, further_count, head_text, head_word, is_there, read_heads}
+use Rattle.mcf_reading.specs.HeadTexts.{column_under, first_heads, further_count, head_text, head_word, read_heads}
 use Rattle.mcf_reading.specs.declared.kinds.Fault.{Fault}
 use Rattle.mcf_reading.specs.declared.kinds.FaultKind.{FaultKind}
 use Rattle.mcf_reading.specs.declared.kinds.FaultKind.TheVariants.{NearHead, Without}

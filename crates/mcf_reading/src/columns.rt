@@ -1,6 +1,6 @@
 //! The columns that are read, by their heads.
 ghost use Rattle.std.specs.Prelude.{◌≡◌, ◌+◌, IfOk, map};
-ghost use Rattle.mcf_reading.specs.Columns.{all_step_columns, only_place, place_columns, place_under, route_columns, step_columns};
+ghost use Rattle.mcf_reading.specs.Columns.{all_step_columns, place_columns, place_under, route_columns, step_columns};
 ghost use Rattle.mcf_reading.specs.ShownMarks.{number_column};
 
 use crate::heads::{column_under, further_count, has_periods};
@@ -52,17 +52,7 @@ fn place_under(alloc: Global, records: &Records, head: Head) -> Result<Option<us
     ensures { IfOk result (λ place. place ≡ place_under records.now head) }
 {
     let column = column_under(alloc, records, head)?;
-    Ok(only_place(column))
-}
-
-// The place of a column, if just one has its head.
-fn only_place(column: Column) -> Option<usize>
-    ensures { result ≡ only_place column }
-{
-    match column {
-        Column::At(place) => Some(place),
-        _ => None,
-    }
+    Ok(column.only_place())
 }
 
 // The columns of the table of places.

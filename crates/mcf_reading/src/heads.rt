@@ -1,8 +1,9 @@
 //! The heads of the columns that are read.
 ghost use Rattle.std.specs.Prelude.{◌≡◌, ◌+◌, ◌<◌, ◌^◌, ◌++◌, IfOk, OnOk};
 ghost use Rattle.std.specs.List.{flat_map, range_with_len};
-ghost use Rattle.mcf_reading.specs.HeadTexts.{column_under, first_heads, further_count, has_periods, head_step, head_text, head_word, is_there, route_heads, step_heads, step_text};
+ghost use Rattle.mcf_reading.specs.HeadTexts.{column_under, first_heads, further_count, has_periods, head_step, head_text, head_word, route_heads, step_heads, step_text};
 ghost use Rattle.mcf_reading.specs.ShownMarks.{route_number_heads};
+ghost use Rattle.mcf_table.specs.Heads.{is_there};
 
 use crate::locations::{Head, Table};
 use mcf_table::{Column, Records};
@@ -102,23 +103,13 @@ pub(crate) fn column_under(alloc: Global, records: &Records, head: Head) -> Resu
     Ok(records.column_of(&text))
 }
 
-// Whether one column or more has the head.
-pub(crate) fn is_there(column: Column) -> bool
-    ensures { result ≡ is_there column }
-{
-    match column {
-        Column::Missing => false,
-        _ => true,
-    }
-}
-
 /// Whether the table of places has a column of periods, `period`. Then a place may have several
 /// rows.
 #[tactic(auto, unfolding(crate::specs::HeadTexts::has_periods))]
 pub fn has_periods(places: &Records) -> bool
     ensures { result ≡ has_periods places.now }
 {
-    is_there(places.column_of(b"period"))
+    places.column_of(b"period").is_there()
 }
 
 // Whether a column has the head of a step's most.
@@ -126,7 +117,7 @@ fn has_step(alloc: Global, records: &Records, step: usize) -> Result<bool, NoMem
     ensures { IfOk result (λ has. has ≡ is_there (column_under records.now (Head.Most step))) }
 {
     let column = column_under(alloc, records, Head::Most(step))?;
-    Ok(is_there(column))
+    Ok(column.is_there())
 }
 
 // How many steps follow the first.

@@ -4,7 +4,7 @@ ghost use Rattle.std.specs.List.{list_any};
 ghost use Rattle.mcf_reading.specs.HeadTexts.{read_heads};
 ghost use Rattle.mcf_reading.specs.NearHeads.{head_cell, is_limit, is_missing, is_nearly, is_title_of, is_word_of, may_have, meant_first, meant_head, near_fault, near_faults, near_kind, numbered, title_kind, unread_kind};
 
-use crate::heads::{column_under, first_heads, further_count, head_text, head_word, is_there};
+use crate::heads::{column_under, first_heads, further_count, head_text, head_word};
 use crate::kinds::{Fault, FaultKind};
 use crate::locations::{ColumnAt, Head, Location, Table};
 use crate::told::push_told;
@@ -86,7 +86,7 @@ fn is_missing(
     ensures { IfOk result (λ is. is ≡ is_missing table records.now digits.now head) }
 {
     let column = column_under(alloc, records, numbered(table, digits, head))?;
-    Ok(!is_there(column))
+    Ok(!column.is_there())
 }
 
 // Whether the word is nearly the head's, and no column has the head.

@@ -2,7 +2,7 @@
 -- Source: own
 use Rattle.std.specs.Prelude.{ℕ, Bool, true, false, ◌&&◌, ◌||◌, if◌then◌else◌, List, [], ◌∷◌, codes, Option, Some, None, unwrap_or}
 use Rattle.std.specs.List.{flat_map}
-use Rattle.mcf_table.specs.Heads.{column_of}
+use Rattle.mcf_table.specs.Heads.{column_of, is_there, only_place}
 use Rattle.mcf_table.specs.Texts.{Record}
 use Rattle.mcf_table.specs.declared.heads.Column.{Column}
 use Rattle.mcf_table.specs.declared.heads.Column.TheVariants.{Missing, Twice, At}
@@ -25,18 +25,6 @@ head_word Needs = codes "needs"
 -- the column of a table that has this head
 abbrev pub column_under : List Record → Head → Column
 column_under records head = column_of (head_word head) records
-
--- one column or more has the head
-abbrev pub is_there : Column → Bool
-is_there Missing = false
-is_there Twice = true
-is_there (At place) = true
-
--- the place of a column, if just one has its head
-abbrev pub only_place : Column → Option ℕ
-only_place Missing = None
-only_place Twice = None
-only_place (At place) = Some place
 
 -- the place of the column with a head, if just one has it
 abbrev pub place_under : List Record → Head → Option ℕ

@@ -3,11 +3,11 @@
 use Rattle.std.specs.Prelude.{ℕ, Bool, true, false, not, ◌&&◌, ◌||◌, if◌then◌else◌, List, [], length, find, Option, Some, None}
 use Rattle.std.specs.List.{flat_map, list_any, range_with_len}
 use Rattle.std.specs.Str.{bytes_eq, str_eq_ignore_ascii_case}
-use Rattle.mcf_table.specs.Heads.{head_at, heads}
+use Rattle.mcf_table.specs.Heads.{head_at, heads, is_there}
 use Rattle.mcf_table.specs.NearHeads.{is_near, meant_digits, meant_word}
 use Rattle.mcf_table.specs.Texts.{Record, is_filled}
 use Rattle.mcf_roster_reading.specs.Cells.{at_place}
-use Rattle.mcf_roster_reading.specs.Columns.{column_under, head_word, is_list, is_there, list_heads}
+use Rattle.mcf_roster_reading.specs.Columns.{column_under, head_word, is_list, list_heads}
 use Rattle.mcf_roster_reading.specs.Faults.{told}
 use Rattle.mcf_roster_reading.specs.declared.kinds.Fault.{Fault}
 use Rattle.mcf_roster_reading.specs.declared.kinds.FaultKind.{FaultKind}

@@ -1,7 +1,7 @@
 //! The heads of the columns that are read, and their faults.
 ghost use Rattle.std.specs.Prelude.{◌≡◌, ◌++◌, IfOk, OnOk};
 ghost use Rattle.std.specs.List.{flat_map};
-ghost use Rattle.mcf_roster_reading.specs.Columns.{at_least_two, column_faults, column_kind, column_or_first, column_under, head_fault, head_word, is_list, is_needed, is_there, list_heads, only_place, place_under};
+ghost use Rattle.mcf_roster_reading.specs.Columns.{at_least_two, column_faults, column_kind, column_or_first, column_under, head_fault, head_word, is_list, is_needed, list_heads, place_under};
 ghost use Rattle.mcf_roster_reading.specs.Reading.{head_faults};
 
 use crate::kinds::{Fault, FaultKind, Head, Location, push_told};
@@ -40,31 +40,11 @@ pub(crate) fn column_under(records: &Records, head: Head) -> Column
     records.column_of(head_word(head))
 }
 
-// Whether one column or more has the head.
-pub(crate) fn is_there(column: Column) -> bool
-    ensures { result ≡ is_there column }
-{
-    match column {
-        Column::Missing => false,
-        _ => true,
-    }
-}
-
-// The place of a column, if just one has its head.
-fn only_place(column: Column) -> Option<usize>
-    ensures { result ≡ only_place column }
-{
-    match column {
-        Column::At(place) => Some(place),
-        _ => None,
-    }
-}
-
 // The place of the column with a head, if just one has it.
 pub(crate) fn place_under(records: &Records, head: Head) -> Option<usize>
     ensures { result ≡ place_under records.now head }
 {
-    only_place(column_under(records, head))
+    column_under(records, head).only_place()
 }
 
 // The place of the column with a head, or the first.
@@ -85,9 +65,9 @@ fn at_least_two(first: bool, second: bool, third: bool) -> bool
 pub(crate) fn is_list(records: &Records) -> bool
     ensures { result ≡ is_list records.now }
 {
-    let who = is_there(column_under(records, Head::Who));
-    let what = is_there(column_under(records, Head::What));
-    let cost = is_there(column_under(records, Head::Cost));
+    let who = column_under(records, Head::Who).is_there();
+    let what = column_under(records, Head::What).is_there();
+    let cost = column_under(records, Head::Cost).is_there();
     at_least_two(who, what, cost)
 }
 

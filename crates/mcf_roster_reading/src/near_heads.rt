@@ -6,7 +6,7 @@ ghost use Rattle.mcf_roster_reading.specs.Columns.{list_heads};
 ghost use Rattle.mcf_roster_reading.specs.NearHeads.{is_cost, is_nearly, is_title_of, is_word_of, may_have, meant_head, near_fault, near_faults, title_kind};
 
 use crate::cells::at_place;
-use crate::heads::{column_under, head_word, is_list, is_there, list_heads};
+use crate::heads::{column_under, head_word, is_list, list_heads};
 use crate::kinds::{Fault, FaultKind, Head, Location, push_told};
 use mcf_table::{Records, common_word, head_letters, is_near, word_and_digits};
 use mcf_text::NoMemory;
@@ -56,7 +56,7 @@ fn is_nearly(records: &Records, meant: Meant<'_>, head: Head) -> bool
 {
     let may = may_have(meant.digits, head);
     let near = is_near(meant.word, head_word(head));
-    let there = is_there(column_under(records, head));
+    let there = column_under(records, head).is_there();
     may && near && !there
 }
 

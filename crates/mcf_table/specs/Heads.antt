@@ -1,6 +1,6 @@
 -- The columns of a table: its first row has their heads.
 -- Source: own
-use Rattle.std.specs.Prelude.{ℕ, ◌-◌, List, [], ◌∷◌, length, filter, map, slice_index_or}
+use Rattle.std.specs.Prelude.{ℕ, ◌-◌, Bool, true, false, List, [], ◌∷◌, length, filter, map, slice_index_or, Option, Some, None}
 use Rattle.std.specs.List.{flat_map, range_with_len}
 use Rattle.std.specs.Str.{str_eq_ignore_ascii_case}
 use Rattle.mcf_table.specs.Texts.{Record, is_filled, no_record}
@@ -34,6 +34,18 @@ column_at (place ∷ other ∷ places) = Twice
 -- the column with this head
 abbrev pub column_of : List ℕ → List Record → Column
 column_of head records = column_at (places_of head (heads records))
+
+-- one column or more has the head
+abbrev pub is_there : Column → Bool
+is_there Missing = false
+is_there Twice = true
+is_there (At place) = true
+
+-- the place of a column, if just one has its head
+abbrev pub only_place : Column → Option ℕ
+only_place Missing = None
+only_place Twice = None
+only_place (At place) = Some place
 
 -- the places of the cells that aren't empty, from this place on
 abbrev pub filled_from : ℕ → List (List ℕ) → List ℕ

@@ -21,6 +21,31 @@ pub enum Column {
     At(usize),
 }
 
+impl Column {
+    ghost use Rattle.std.specs.Prelude.{◌≡◌};
+    ghost use Rattle.mcf_table.specs.Heads.{is_there, only_place};
+
+    /// Whether one column or more has the head.
+    pub fn is_there(self) -> bool
+        ensures { result ≡ is_there self }
+    {
+        match self {
+            Column::Missing => false,
+            _ => true,
+        }
+    }
+
+    /// The place of the column, if just one has the head.
+    pub fn only_place(self) -> Option<usize>
+        ensures { result ≡ only_place self }
+    {
+        match self {
+            Column::At(place) => Some(place),
+            _ => None,
+        }
+    }
+}
+
 /// Where a cell stands.
 #[derive(Clone, Copy, Debug, PartialEq, Eq)]
 pub struct CellPlace {
