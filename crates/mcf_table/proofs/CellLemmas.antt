@@ -1,6 +1,6 @@
 -- Cells in one buffer.
 use Rattle.std.proofs.Common.{◌≡◌, ℕ, zero, suc, ◌+◌, ◌<◌, ◌≤◌, Bool, not, List, [], ◌∷◌, ◌++◌, length, take, drop, get_or, map, All, refl, sym, ap, ap₂, ◌∙◌, arith, append_assoc, append-nil, length-drop, length-take, drop-drop, get_or-drop, add-zero, inl, inr}
-use Rattle.std.specs.Prelude.{◌==◌, ◌||◌}
+use Rattle.std.specs.Prelude.{◌==◌, ◌||◌, OnErr, Result, Ok, Err}
 use Rattle.std.specs.List.{list_any}
 use Rattle.std.proofs.lemmas.Bool.{cases_Bool, eqb-true}
 use Rattle.std.proofs.lemmas.List.{map_push, drop_all, take-append-le, drop-append-le}
@@ -16,6 +16,11 @@ pub part_more : {A : Type 0} (xs more : List A) (start len : ℕ) → start + le
 part_more xs more start len inside =
     ap (take len) (drop-append-le start xs more (omega (arith, inside)))
     ∙ take-append-le len (drop start xs) more (omega (arith, inside, length-drop start xs))
+
+-- a fact holds after an error
+pub on_err : {A E P : Type 0} (r : Result A E) → P → OnErr r P
+on_err (Ok a) p = tt
+on_err (Err e) p = p
 
 abbrev pub part : List ℕ → Span → List ℕ
 part bytes s = take s.len (drop s.start bytes)
@@ -41,6 +46,12 @@ pushed bytes bytes2 cell spans spans2 old start len inside view longer more at s
     ap₂ (λ (xs : List ℕ) (ss : List Span). map (part xs) ss) longer more
     ∙ map_push (part (bytes ++ cell)) spans (span start len)
     ∙ ap₂ (λ (xss : List (List ℕ)) (xs : List ℕ). xss ++ xs ∷ []) (parts_more bytes cell spans inside ∙ sym view) new
+
+-- more bytes change no cell
+pub still_parts : (bytes bytes2 more : List ℕ) (spans spans2 : List Span) (old : List (List ℕ)) → All (IsInside bytes) spans
+    → old ≡ map (part bytes) spans → bytes2 ≡ bytes ++ more → spans2 ≡ spans → map (part bytes2) spans2 ≡ old
+still_parts bytes bytes2 more spans spans2 old inside view longer same =
+    ap₂ (λ (xs : List ℕ) (ss : List Span). map (part xs) ss) longer same ∙ parts_more bytes more spans inside ∙ sym view
 
 drop-map : (bytes : List ℕ) (n : ℕ) (spans : List Span) → drop n (map (part bytes) spans) ≡ map (part bytes) (drop n spans)
 drop-map bytes zero spans = refl

@@ -7,6 +7,7 @@ pub mod FieldLemmas
 pub mod HeadLemmas
 pub mod HeadRowLemmas
 pub mod LineEndLemmas
+pub mod RecordLemmas
 pub mod RowLemmas
 pub mod SeparatorLemmas
 pub mod Unambiguous

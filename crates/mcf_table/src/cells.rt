@@ -33,7 +33,7 @@ impl Model for Cells {
 }
 
 impl Cells {
-    ghost use Rattle.std.specs.Prelude.{◌≡◌, ◌<◌, ◌≤◌, ◌∷◌, ◌++◌, [], ℕ, List, OnOk, drop, length, slice_index_or};
+    ghost use Rattle.std.specs.Prelude.{◌≡◌, ◌<◌, ◌≤◌, ◌∷◌, ◌++◌, [], ℕ, List, OnErr, OnOk, drop, length, slice_index_or};
     ghost use Rattle.std.specs.List.{list_any};
     ghost use Rattle.mcf_table.specs.Blanks.{trimmed};
     ghost use Rattle.mcf_table.specs.Texts.{is_filled};
@@ -67,7 +67,8 @@ impl Cells {
 
     // Appends a cell.
     pub(crate) fn push(&mut self, cell: &[u8]) -> Result<(), NoMemory>
-        ensures { OnOk result (self.new ≡ self.old ++ cell.now ∷ []) }
+        ensures pushed { OnOk result (self.new ≡ self.old ++ cell.now ∷ []) }
+        ensures kept { OnErr result (self.new ≡ self.old) }
     {
         let start = self.bytes.len();
         let len = cell.len();

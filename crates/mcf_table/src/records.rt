@@ -1,7 +1,9 @@
 //! The rows of a text.
-ghost use Rattle.std.specs.Prelude.{◌≡◌, ◌+◌, ◌<◌, ◌≤◌};
+ghost use Rattle.std.specs.Prelude.{◌≡◌, ◌+◌, ◌<◌, ◌≤◌, ◌++◌, ℕ, List, OnErr, OnOk, map};
 
 use crate::cells::Cells;
+use mcf_text::NoMemory;
+use std::alloc::Global;
 use std::marker::Model;
 
 // Which cells are those of a row.
@@ -36,7 +38,7 @@ impl Model for Records {
 }
 
 impl Records {
-    ghost use Rattle.std.specs.Prelude.{◌≡◌, ◌<◌, [], All, drop, length, map, slice_index_or};
+    ghost use Rattle.std.specs.Prelude.{◌≡◌, ◌<◌, ◌++◌, ◌∷◌, [], All, OnErr, OnOk, drop, length, map, slice_index_or, take};
     ghost use Rattle.mcf_table.specs.Texts.{no_record};
     ghost use Rattle.mcf_table.specs.Private.Found.{IsWithin, row_in};
 
@@ -48,7 +50,41 @@ impl Records {
         Records { cells, parts }
     }
 
-    /// The rows without so many in front, all if there are fewer.
+    /// No rows, without any allocation.
+    pub fn new(alloc: Global) -> Records
+        ensures { result ≡ [] }
+    {
+        Records {
+            cells: Cells::new(alloc),
+            parts: Vec::new(alloc),
+        }
+    }
+
+    /// Appends a row of these cells, which begins on this line. The cells stay as they are.
+    ///
+    /// # Errors
+    ///
+    /// `NoMemory` if an allocation is refused. Then the rows are as they were.
+    pub fn push_row(&mut self, line: usize, cells: &[&[u8]]) -> Result<(), NoMemory>
+        ensures pushed { OnOk result (self.new ≡ self.old ++ record { line = line; cells = map (λ cell. cell.now) cells.now } ∷ []) }
+        ensures kept { OnErr result (self.new ≡ self.old) }
+    {
+        let first = self.cells.len();
+        push_cells(&mut self.cells, cells)?;
+        let count = cells.len();
+        self.parts.push(RowPart { line, first, count })?;
+        Ok(())
+    }
+
+    /// The first rows, so many; all if there are fewer.
+    pub fn keep_front(mut self, count: usize) -> Records
+        ensures { result ≡ take count self }
+    {
+        self.parts.truncate(count);
+        self
+    }
+
+    /// The rows without so many in front; none if there are fewer.
     pub fn drop_front(mut self, count: usize) -> Records
         ensures { result ≡ drop count self }
     {
@@ -95,6 +131,17 @@ impl Records {
             &[]
         }
     }
+}
+
+// Appends cells.
+fn push_cells(cells: &mut Cells, more: &[&[u8]]) -> Result<(), NoMemory>
+    ensures pushed { OnOk result (cells.new ≡ cells.old ++ map (λ cell. cell.now) more.now) }
+    ensures kept { OnErr result ((left : List (List ℕ)) × (cells.new ≡ cells.old ++ left)) }
+{
+    for place in 0..more.len() {
+        cells.push(more[place])?;
+    }
+    Ok(())
 }
 
 // The place among all cells of a cell of this part.

@@ -61,3 +61,21 @@ fn rows_in_front_are_dropped(rt: HostRuntime) -> Result<(), Fail> {
     assert!(rt; nothing == Some((Column::Missing, 0)));
     Ok(())
 }
+
+#[test]
+fn rows_are_pushed_and_cut(rt: HostRuntime) -> Result<(), Fail> {
+    let mut records = Records::new(rt.alloc());
+    records.push_row(1, &[b"name", b"most"])?;
+    records.push_row(3, &[b"Port"])?;
+    assert!(rt; records.len() == 2);
+    assert!(rt;
+        records.line(1) == 3
+            && records.cell_count(1) == 1
+            && records.cell(1, 0) == b"Port".as_slice()
+    );
+    let front = records.keep_front(1);
+    assert!(rt; front.len() == 1 && front.head(1) == b"most".as_slice());
+    assert!(rt; front.column_of(b"most").only_place() == Some(1));
+    assert!(rt; front.column_of(b"most").is_there() && !front.column_of(b"cost").is_there());
+    Ok(())
+}
