@@ -13,47 +13,23 @@ use Rattle.mcf_flows.specs.WellFormed.{IsUpTo}
 use Rattle.mcf_network.specs.declared.rid.Rid.{Rid}
 use Rattle.mcf_network.specs.States.{Pseudoflow}
 use Rattle.mcf_network.specs.NodeSets.{member_count}
-use Rattle.mcf_network.specs.Nets.{IsNet, IsNetArc}
+use Rattle.mcf_network.specs.Nets.{IsNet, greatest_cost as greatest_of}
 use Rattle.mcf_network.specs.Residual.{arc_at, no_arc}
+use Rattle.mcf_network.proofs.Costs.{cost_within, greatest_small}
 use Rattle.mcf_network.proofs.Marks.{count_small}
 use Rattle.mcf_matching.specs.Private.Labels.{Target}
 use Rattle.mcf_matching.specs.Matchings.{IsPartialMatching, column_of, price_limit, row_of}
 use Rattle.mcf_matching.specs.Private.Keeping.{AreNearZero}
-use Rattle.mcf_matching.specs.Private.Reaches.{HasWidth, greatest_cost, greatest_of, path_cost, row_reach}
+use Rattle.mcf_matching.specs.Private.Reaches.{HasWidth, greatest_cost, path_cost, row_reach}
 use Rattle.mcf_matching.specs.Private.Searches.{IsNear, IsSearch, Search, Settled, dist_at, offer, reach_of}
 use Rattle.mcf_matching.proofs.PairLaws.{row_is}
 
 -- ---- what a path costs
 
--- no arc of a list costs more than the greatest cost
-of_list : (arcs : List Arc) (i : ℕ) (d : Arc) → i < length arcs → unsigned_abs (get_or arcs i d).cost ≤ greatest_of arcs
-of_list [] i d h = absurd (omega (arith, h))
-of_list (a ∷ arcs) zero d h = omega arith
-of_list (a ∷ arcs) (suc i) d h = (let rest = of_list arcs i d (omega (arith, h)) in omega (arith, rest))
-
--- one arc more
-pub greatest_more : (arcs : List Arc) (i : ℕ) (d : Arc) → i < length arcs
-    → greatest_of (take (i + 1) arcs) ≡ max (greatest_of (take i arcs)) (unsigned_abs (get_or arcs i d).cost)
-greatest_more [] i d h = absurd (omega (arith, h))
-greatest_more (a ∷ arcs) zero d h = omega arith
-greatest_more (a ∷ arcs) (suc i) d h =
-    let place : suc i + 1 ≡ suc (i + 1) = omega arith in
-    let rest = greatest_more arcs i d (omega (arith, h)) in
-    ap (λ j. greatest_of (take j (a ∷ arcs))) place ∙ omega (arith, rest)
-
 -- no arc of a net costs more
 pub cost_near : (g : Network) (k : ℕ) → IsArcNumber g k → IsUpTo (greatest_cost g) (arc_at g k).cost
 unfolding greatest_cost
-cost_near g k arc =
-    let least = of_list g.arcs (k - 1) no_arc (omega (arith, arc)) in
-    (omega (arith, ints, least), omega (arith, ints, least))
-
-greatest_small : (arcs : List Arc) → All IsNetArc arcs → greatest_of arcs ≤ limits.cost
-greatest_small [] each = omega arith
-greatest_small (a ∷ arcs) each =
-    let first = size_up_to limits.cost a.cost (each 0 no_arc (omega arith)).cost_small in
-    let rest = greatest_small arcs (λ i d l. each (suc i) d (omega (arith, l))) in
-    omega (arith, first, rest)
+cost_near g k arc = cost_within g.arcs (k - 1) no_arc (omega (arith, arc))
 
 pub cost_small : (g : Network) → IsNet g → greatest_cost g ≤ limits.cost
 unfolding greatest_cost

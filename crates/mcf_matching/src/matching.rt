@@ -10,7 +10,7 @@ ghost use Rattle.mcf_matching.specs.Matchings.{IsMatchedRow, IsRow, price_limit}
 
 use crate::extended::Extended;
 use crate::partial::Partial;
-use crate::prices::{greatest_cost, is_narrow};
+use crate::prices::is_narrow;
 use mcf_counts::Count;
 use mcf_network::{Net, NodeSet, State};
 use mcf_text::{NoMemory, NodeId};
@@ -54,6 +54,7 @@ impl<'n> Matching<'n> {
     /// # Errors
     ///
     /// `NoMemory` if an allocation is refused; a net without nodes needs none.
+    #[tactic(auto, unfolding(crate::specs::Private::Reaches::greatest_cost))]
     pub fn start(alloc: Global, net: &'n Net) -> Result<Matching<'n>, NoMemory>
         requires { net.now.problem ≡ Asn }
         ensures value { IfOk result (λ m. m.flow ≡ record { net = net.now; amounts = replicate (length net.now.arcs) (pos 0) }) }
@@ -63,7 +64,7 @@ impl<'n> Matching<'n> {
         ensures searches { IfOk result (λ m. m.searches ≡ 0) }
         ensures wants { OnErr result (1 ≤ node_count net.now) }
     {
-        let greatest = greatest_cost(net);
+        let greatest = net.greatest_cost();
         let core = if is_narrow(net, greatest) {
             Core::Narrow(Partial::start(alloc, net, greatest)?)
         } else {

@@ -1,5 +1,5 @@
 //! The prices of the nodes, and bounds on their absolute values.
-ghost use Rattle.std.specs.Prelude.{◌≡◌, ◌-◌, ◌^◌, ◌≤◌, IfOk, OnErr, length, max, pos, true};
+ghost use Rattle.std.specs.Prelude.{◌≡◌, ◌-◌, ◌^◌, ◌≤◌, IfOk, OnErr, length, pos, true};
 ghost use Rattle.mcf_flows.specs.Network.{node_count};
 ghost use Rattle.mcf_network.specs.Nets.{IsNet};
 ghost use Rattle.mcf_matching.specs.Private.Keeping.{AreFirstPrices};
@@ -7,27 +7,8 @@ ghost use Rattle.mcf_matching.specs.Private.Reaches.{HasWidth, first_price, grea
 
 use mcf_network::Net;
 use mcf_offers::{Number, Width};
-use mcf_text::{ArcId, NoMemory, NodeId, copies};
+use mcf_text::{NoMemory, NodeId, copies};
 use std::alloc::Global;
-
-/// The greatest absolute value of a cost of a net.
-pub(crate) fn greatest_cost(net: &Net) -> u128
-    ensures value { result ≡ greatest_cost net.now }
-    ensures of_net { IsNet net.now }
-{
-    let mut greatest = 0;
-    'arcs: for i in 0..net.arc_count() {
-        greatest = greater(greatest, net.cost(ArcId::at(i)).unsigned_abs());
-    }
-    greatest
-}
-
-// The greater of two numbers.
-fn greater(left: u128, right: u128) -> u128
-    ensures { result ≡ max left right }
-{
-    if left < right { right } else { left }
-}
 
 /// Whether 64 bits hold every sum of a search.
 pub(crate) fn is_narrow(net: &Net, greatest: u128) -> bool

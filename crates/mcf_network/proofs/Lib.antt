@@ -1,6 +1,7 @@
 pub mod AmountLaws
 pub mod ArcLaws
 pub mod Choices
+pub mod Costs
 pub mod Lists
 pub mod Marks
 pub mod OutsLaws

@@ -1,6 +1,6 @@
 -- What every net keeps: a network whose lows are 0, and whose caps are called widths.
 -- Source: own
-use Rattle.std.specs.Prelude.{◌≡◌, ℕ, ◌*◌, ◌^◌, ◌≤◌, map, length, sum, pos, ◌≤ℤ◌}
+use Rattle.std.specs.Prelude.{◌≡◌, ℕ, ◌*◌, ◌^◌, ◌≤◌, List, [], ◌∷◌, map, max, length, sum, pos, ◌≤ℤ◌, unsigned_abs}
 use Rattle.std.specs.List.{All}
 use Rattle.mcf_flows.specs.declared.arc.Arc.{Arc}
 use Rattle.mcf_flows.specs.Assignment.{OnAssignment, IsAssignment}
@@ -31,6 +31,11 @@ pub record IsNetArc (a : Arc) : Type 0 where
   pub width_high : a.cap ≤ℤ pos width_limit
   pub cost_small : IsUpTo limits.cost a.cost
   pub no_loop_width : a.src ≡ a.dst → a.cap ≡ pos 0
+
+-- the greatest size of the cost of an arc, 0 without arcs
+abbrev pub greatest_cost : List Arc → ℕ
+greatest_cost [] = 0
+greatest_cost (a ∷ arcs) = max (unsigned_abs a.cost) (greatest_cost arcs)
 
 -- what a net keeps: counts, ends, arcs, supplies and the total within limits; an assignment if it
 -- is one

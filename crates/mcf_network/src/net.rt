@@ -1,7 +1,8 @@
 //! Networks without lower bounds.
-ghost use Rattle.std.specs.Prelude.{◌≡◌, length};
+ghost use Rattle.std.specs.Prelude.{◌≡◌, ◌≤◌, length};
 ghost use Rattle.mcf_flows.specs.Network.{IsArcNumber, IsNode, at_node, node_count};
-ghost use Rattle.mcf_network.specs.Nets.{IsNet};
+ghost use Rattle.mcf_flows.specs.Limits.{limits};
+ghost use Rattle.mcf_network.specs.Nets.{IsNet, greatest_cost};
 ghost use Rattle.mcf_network.specs.Residual.{arc_at, head, tail, unit_cost};
 ghost use Rattle.mcf_network.specs.Stars.{ListsLeaving};
 
@@ -99,6 +100,19 @@ impl Net {
         ensures of_net { IsNet self.now }
     {
         i128::from(self.links.get(k.place()).cost)
+    }
+
+    /// The greatest absolute value of the cost of an arc, 0 without arcs.
+    pub fn greatest_cost(&self) -> u128
+        ensures value { result ≡ greatest_cost self.now.arcs }
+        ensures small { result ≤ limits.cost }
+        ensures of_net { IsNet self.now }
+    {
+        let mut greatest = 0;
+        'arcs: for number in 0..self.arc_count() {
+            greatest = self.cost(ArcId::at(number)).unsigned_abs().max(greatest);
+        }
+        greatest
     }
 
     /// The supply of a node, at most 10^26 from 0: what it sends, less what it takes.

@@ -18,8 +18,10 @@ use Rattle.mcf_network.proofs.StateLaws.{rid}
 use Rattle.mcf_scaling.specs.Optimality.{IsAdmissible, IsFilled, IsLeastReduced, IsOptimalWithin}
 use Rattle.mcf_scaling.specs.Phases.{IsBegun, IsRelabel}
 use Rattle.mcf_scaling.specs.Refinements.{Refinement, StepCounts, IsActive, IsRefinement, within}
-use Rattle.mcf_scaling.specs.Scales.{ArePhases, greatest_cost}
-use Rattle.mcf_scaling.proofs.ScaleLaws.{cost_within, power_small}
+use Rattle.mcf_network.specs.Nets.{greatest_cost}
+use Rattle.mcf_scaling.specs.Scales.{ArePhases}
+use Rattle.mcf_network.proofs.Costs.{cost_within}
+use Rattle.mcf_scaling.proofs.ScaleLaws.{power_small}
 use Rattle.mcf_scaling.proofs.Rises.{IsClosedToward, closed_none}
 use Rattle.mcf_scaling.proofs.RunLaws.{begun_keeps, push_keeps, relabel_keeps, rise_high}
 

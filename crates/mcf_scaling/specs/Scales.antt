@@ -1,15 +1,10 @@
 -- The scale of the first phase.
 -- Source: AMO 10.3, constant own
-use Rattle.std.specs.Prelude.{◌≡◌, ℕ, ◌+◌, ◌*◌, ◌^◌, ◌≤◌, List, [], ◌∷◌, max, unsigned_abs, pos, replicate}
-use Rattle.mcf_flows.specs.declared.arc.Arc.{Arc}
+use Rattle.std.specs.Prelude.{◌≡◌, ℕ, ◌+◌, ◌*◌, ◌^◌, ◌≤◌, pos, replicate}
 use Rattle.mcf_flows.specs.Network.{Network, node_count}
+use Rattle.mcf_network.specs.Nets.{greatest_cost}
 use Rattle.mcf_network.specs.States.{Pseudoflow}
 use Rattle.mcf_scaling.specs.Refinements.{Refinement, no_steps}
-
--- the greatest absolute value of the cost of an arc, 0 without arcs
-abbrev pub greatest_cost : List Arc → ℕ
-greatest_cost [] = 0
-greatest_cost (a ∷ arcs) = max (unsigned_abs a.cost) (greatest_cost arcs)
 
 -- the least number whose power of 2 is at least so much
 pub record IsLeastScale (need scale : ℕ) : Type 0 where

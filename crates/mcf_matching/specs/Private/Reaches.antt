@@ -1,16 +1,11 @@
 -- How far from 0 the numbers of a search lie: multiples of what a path of the net costs at most,
 -- each for what is made of those before it.
-use Rattle.std.specs.Prelude.{ℕ, ◌*◌, ◌≤◌, max, List, [], ◌∷◌, ℤ, pos, neg_ℤ, ◌+ℤ◌, unsigned_abs}
-use Rattle.mcf_flows.specs.declared.arc.Arc.{Arc}
+use Rattle.std.specs.Prelude.{ℕ, ◌*◌, ◌≤◌, ℤ, pos, neg_ℤ, ◌+ℤ◌}
 use Rattle.mcf_flows.specs.Network.{Network, node_count}
 use Rattle.mcf_flows.specs.WellFormed.{IsUpTo}
+use Rattle.mcf_network.specs.Nets.{greatest_cost as greatest_of}
 
--- the greatest absolute value of a cost, 0 without arcs
-abbrev pub greatest_of : List Arc → ℕ
-greatest_of [] = 0
-greatest_of (a ∷ arcs) = max (unsigned_abs a.cost) (greatest_of arcs)
-
--- that of the arcs of a net
+-- the greatest size of a cost
 unfoldable pub greatest_cost : Network → ℕ
 greatest_cost g = greatest_of g.arcs
 
