@@ -2,17 +2,15 @@
 
 use crate::search::Search;
 use crate::star::{LIMIT, NOTHING};
+use crate::tuning::{MOST_ARCS, MOST_NODES};
 use mcf_columns::{NOWHERE, at, put};
-
-// How many arcs a path has at most.
-const MOST_ARCS: u32 = 4;
 
 // A path from an active node: its residual arcs, by their places, and the nodes that they leave and
 // enter.
 #[derive(Drop)]
 struct Path {
-    places: [u32; 4],
-    nodes: [u32; 5],
+    places: [u32; MOST_ARCS],
+    nodes: [u32; MOST_NODES],
     len: u32,
 }
 
@@ -90,8 +88,8 @@ impl Search {
                 return true;
             }
             let mut path = Path {
-                places: [NOWHERE; 4],
-                nodes: [node; 5],
+                places: [NOWHERE; MOST_ARCS],
+                nodes: [node; MOST_NODES],
                 len: 0,
             };
             if self.work > self.budget || !self.extend(&mut path) {
@@ -111,7 +109,7 @@ impl Search {
     fn extend(&mut self, path: &mut Path) -> bool {
         'arcs: for _ in 0..u32::MAX {
             let tip = path.tip();
-            let is_over = path.len >= MOST_ARCS || self.relabels > self.most_relabels;
+            let is_over = path.len as usize >= MOST_ARCS || self.relabels > self.most_relabels;
             if is_over || at(&self.surpluses, tip, 0) < 0 {
                 return true;
             }

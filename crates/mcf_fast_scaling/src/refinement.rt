@@ -3,9 +3,7 @@
 use crate::search::Search;
 use crate::sorting::Mark;
 use crate::spreading::{Way, spread};
-
-// No more rounds than this are made.
-const MOST_ROUNDS: u32 = 30;
+use crate::tuning::MOST_ROUNDS;
 
 impl Search {
     /// Lowers prices until no residual arc has a reduced cost further below 0 than the slack, and

@@ -3,21 +3,11 @@
 use crate::sorting::{Mark, NO_VISIT, Visit};
 use crate::star::{LIMIT, Star, narrow};
 use crate::tables::{Buckets, Queue};
+use crate::tuning::{FACTOR, FINE, MOST_PHASES};
 use mcf_columns::{NOWHERE, count_up, put};
 use mcf_network::Net;
-use mcf_text::{ArcId, NoMemory, NodeId, copies};
+use mcf_text::{NoMemory, NodeId, copies};
 use std::alloc::Global;
-
-// The slack falls by 2 to this power from phase to phase.
-const FACTOR: u32 = 4;
-
-// The search looks for exact prices once the slack is this power of 2 below the greatest cost, even
-// if it is more than a unit. With costs up to 10^8 the search then takes 0.7 to 0.8 of the work on
-// 2^15 nodes (family `large`).
-const FINE: u32 = 14;
-
-// No more phases than this are begun.
-const MOST_PHASES: u32 = 100;
 
 /// A search for a least flow and whole prices that show it. Nothing is proved of what it finds: it
 /// is safe, and it ends.
@@ -54,7 +44,7 @@ pub(crate) struct Search {
 impl Search {
     /// The search in a net, which may read all of it this many times. Only this takes memory.
     pub(crate) fn start(alloc: Global, net: &Net, readings: u32) -> Result<Search, NoMemory> {
-        let greatest_cost = greatest_cost(net);
+        let greatest_cost = net.greatest_cost() as i64;
         let count = net.node_count();
         let nodes = count as usize;
         let mut search = Search {
@@ -157,16 +147,6 @@ impl Search {
         let most = LIMIT >> (shift % 64);
         self.greatest_cost <= most && shift < 60 && rescale(&mut self.star.prices, 0, more)
     }
-}
-
-// The greatest absolute value of a cost.
-fn greatest_cost(net: &Net) -> i64 {
-    let mut greatest = 0;
-    'arcs: for number in 0..net.arc_count() {
-        let cost = narrow(net.cost(ArcId::at(number)));
-        greatest = cost.max(cost.wrapping_neg()).max(greatest);
-    }
-    greatest
 }
 
 // Writes the supply of each node.

@@ -9,13 +9,11 @@ ghost use Rattle.mcf_engine.specs.Outcomes.{AreStatePrices, IsLeastState};
 use crate::judging::judge;
 use crate::search::Search;
 use crate::star::LIMIT;
+use crate::tuning::MOST_ARCS_PER_NODE;
 use mcf_engine::Pricer;
 use mcf_network::{Net, State};
 use mcf_text::{ArcId, NoMemory, copies};
 use std::alloc::Global;
-
-// For a net with more arcs per node than this, the network simplex is faster.
-const MOST_ARCS_PER_NODE: u64 = 64;
 
 /// A least state of a net, with its prices, if the search finds one.
 ///

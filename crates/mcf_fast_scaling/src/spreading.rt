@@ -4,10 +4,8 @@
 use crate::search::Search;
 use crate::star::{EMPTY, FULL, LIMIT, Star};
 use crate::tables::Buckets;
+use crate::tuning::LEFT_PART;
 use mcf_columns::{at, put};
-
-// An update stops when all but one in this many active nodes are reached.
-const LEFT_PART: u32 = 5;
 
 /// The nodes that get a rank from that of a node: the heads of the residual arcs that leave it,
 /// whose prices fall, or the tails of those that enter it, whose prices rise. Far tails have at

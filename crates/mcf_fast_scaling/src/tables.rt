@@ -1,5 +1,6 @@
 //! Tables of the nodes that a search passes through: a queue, and buckets.
 
+use crate::tuning::LEAST_BUCKETS;
 use mcf_columns::{NOWHERE, at, narrow, put};
 use mcf_text::{NoMemory, copies};
 use std::alloc::Global;
@@ -65,9 +66,6 @@ pub(crate) struct Buckets {
     nexts: Vec<u32>,
     befores: Vec<u32>,
 }
-
-// The least number of buckets.
-const LEAST_BUCKETS: u32 = 1024;
 
 impl Buckets {
     /// The empty buckets for this many nodes: one per node, but at least the least number.
