@@ -54,7 +54,6 @@ amount_pushed s s' k back x y h e is =
 pub none_left : (l : Layout) (b : TreeStructure) (t : Bool) → basis_in l ≡ b → IsLaidOut l
     → IsTrue t ↔ ((v : ℕ) → 1 ≤ v → v < length l.artificial → get_or l.artificial v (pos 0) ≡ pos 0)
     → IsTrue t ↔ HasNoArtificial b
-unfolding basis_in
 none_left l b t e ok test =
     let size : length l.artificial ≡ node_count l.net + 1 = ok.artificial_size in
     subst (λ b. IsTrue t ↔ HasNoArtificial b) e (
@@ -78,7 +77,6 @@ pub record AreReadPrices (l : Layout) (b : TreeStructure) : Type 0 where
   pub small : All (IsUpTo price_limit) (drop 1 b.prices)
 
 pub read_prices : (l : Layout) (b : TreeStructure) → basis_in l ≡ b → IsLaidOut l → AreReadPrices l b
-unfolding basis_in
 read_prices l b e ok =
     let count : length l.table.prices ≡ node_count l.net + 1 = ok.basis.prices.one_per_node in
     record {
@@ -132,7 +130,6 @@ marked_next n i v test table table' wanted s h q e is =
 pub cut_blocks : (l : Layout) (b : TreeStructure) (table : List Bool) → basis_in l ≡ b → IsLaidOut l → HasNoEligible b
     → supply_in b.net.supplies (λ v. true) ≡ pos 0 → ¬ HasNoArtificial b
     → ((v : ℕ) → IsNode (node_count b.net) v → in_table table v ≡ int_lt (pos 0) (price_at b v)) → Blocks b.net (in_table table) Send
-unfolding basis_in
 cut_blocks l b table e ok none balanced uneven marks =
     let basis : IsBasis b = subst IsBasis e ok.basis in
     let wide : HasWideTree b = subst HasWideTree e ok.wide in
@@ -148,7 +145,6 @@ pub record CanBeWritten (l : Layout) : Type 0 where
   pub apart : (u v : ℕ) → IsNode (node_count l.net) u → IsNode (node_count l.net) v → label_of l.tree u ≡ label_of l.tree v → u ≡ v
 
 pub can_be_written : (l : Layout) → IsLaidOut l → CanBeWritten l
-unfolding basis_in
 can_be_written l ok =
     record {
       size = ok.basis.size;
@@ -196,7 +192,6 @@ pub record IsWritten (l : Layout) (first last : Pseudoflow) : Type 0 where
 
 module _ (l : Layout) (first last : Pseudoflow) (ok : IsLaidOut l) (w : IsWritten l first last) where
   written_at : (k : ℕ) → IsArcNumber l.net k → amount_at last k ≡ amount_in l k
-  unfolding basis_in
   written_at k h =
       elim (amount_case l (depth_of l.tree) (tree_of (basis_in l) ok.basis) ok.basis.size k h) [
         | above_node v node e is ↦ subst (λ j. amount_at last j ≡ amount_in_tree l j v) e (w.inside v node (omega (arith, e, h))) ∙ sym is
@@ -217,7 +212,6 @@ module _ (l : Layout) (first last : Pseudoflow) (ok : IsLaidOut l) (w : IsWritte
 
 pub flow_written : (l : Layout) (b : TreeStructure) (first last : Pseudoflow)
     → basis_in l ≡ b → IsLaidOut l → IsWritten l first last → last ≡ state_of b
-unfolding basis_in
 flow_written l b first last e ok w =
     subst (λ b. last ≡ state_of b) e
     (same_state last l.net (take (length l.net.arcs) (map (amount_in l) (range_with_len 1 (length l.net.arcs + node_count l.net)))) w.net

@@ -19,11 +19,9 @@ pub record IsPlacedOffer (l : Layout) (k i : ℕ) : Type 0 where
 
 module _ (l : Layout) (ok : IsLaidOut l) where
   prices_size : length l.table.prices ≡ node_count l.net + 1
-  unfolding basis_in
   prices_size = ok.basis.prices.one_per_node
 
   placed : (k : ℕ) → IsArcNumber l.net k → IsPlacedOffer l k (k - 1)
-  unfolding basis_in
   placed k h =
       let r : IsReadOffer (basis_in l) k (offer_at l k) = read_offer l k ok h in
       record {
@@ -41,7 +39,6 @@ module _ (l : Layout) (ok : IsLaidOut l) where
 
   module _ (first end : ℕ) (low : 1 ≤ first) (order : first ≤ end) (high : end ≤ length l.net.arcs + 1) where
     can_compare : CanCompare l.table.prices l.table.limit l.offers (first - 1) (end - 1)
-    unfolding basis_in
     can_compare =
         record {
           order = omega arith;
@@ -52,7 +49,6 @@ module _ (l : Layout) (ok : IsLaidOut l) where
 
     -- the same as a table stores the prices
     pub can_compare_in : CanCompareIn l.table l.offers (first - 1) (end - 1)
-    unfolding basis_in
     can_compare_in =
         record {
           compared = can_compare;

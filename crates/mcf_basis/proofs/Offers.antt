@@ -53,15 +53,12 @@ above_size z y h e = grind (arith, ints)
 
 module _ (l : Layout) (k : ℕ) (ok : IsLaidOut l) (h : IsArcNumber l.net k) where
   arc_ok : IsNetArc (arc_at l.net k)
-  unfolding basis_in
   arc_ok = net_arc_at l.net k ok.basis.of_net h
 
   ends_ok : HasEnds (node_count l.net) (arc_at l.net k)
-  unfolding basis_in
   ends_ok = ends_at l.net k ok.basis.of_net h
 
   reduced_is : reduced_at (basis_in l) k ≡ (arc_at l.net k).cost -ℤ price_at (basis_in l) (arc_at l.net k).src +ℤ price_at (basis_in l) (arc_at l.net k).dst
-  unfolding basis_in
   reduced_is = own_reduced (basis_in l) k h
 
   -- an arc outside the tree carries nothing if its offer goes forward
@@ -74,7 +71,6 @@ module _ (l : Layout) (k : ℕ) (ok : IsLaidOut l) (h : IsArcNumber l.net k) whe
       carried_outside l k h out ∙ cond-false _ _ _ (ne_eqb _ _ (λ q. (let z = arc_ok.no_loop_width (sym q ∙ ap (λ o. o.from) e) in omega (arith, ints, z, wide))))
 
   read_closed : (arc_at l.net k).cap ≡ pos 0 → offer_at l k ≡ no_offer → IsReadOffer (basis_in l) k (offer_at l k)
-  unfolding basis_in
   read_closed cap e = rw e (record {
     from = omega arith;
     to = omega arith;
@@ -85,7 +81,6 @@ module _ (l : Layout) (k : ℕ) (ok : IsLaidOut l) (h : IsArcNumber l.net k) whe
   })
 
   read_forward : pos 0 <ℤ (arc_at l.net k).cap → offer_at l k ≡ forward_offer l.net k → IsReadOffer (basis_in l) k (offer_at l k)
-  unfolding basis_in
   read_forward wide e =
       rw e (record {
         from = ends_ok.src_is_node.1;
@@ -102,7 +97,6 @@ module _ (l : Layout) (k : ℕ) (ok : IsLaidOut l) (h : IsArcNumber l.net k) whe
       })
 
   read_turned : pos 0 <ℤ (arc_at l.net k).cap → offer_at l k ≡ turned_offer l.net k → IsReadOffer (basis_in l) k (offer_at l k)
-  unfolding basis_in
   read_turned wide e =
       let r = reduced_is in
       rw e (record {
@@ -137,7 +131,6 @@ module _ (l : Layout) (k : ℕ) (ok : IsLaidOut l) (h : IsArcNumber l.net k) whe
 
   -- and its reduced cost can be computed
   pub can_reduce : CanReduce l.table.prices (offer_at l k)
-  unfolding basis_in
   can_reduce =
       let count : length l.table.prices ≡ node_count l.net + 1 = ok.basis.prices.one_per_node in
       let r = read_offer in
@@ -155,7 +148,6 @@ pub record IsOfferRead (l : Layout) (b : TreeStructure) (k : ℕ) (o : ArcOffer)
 
 pub offer_read : (l : Layout) (b : TreeStructure) (k i : ℕ) (o : ArcOffer) → basis_in l ≡ b → IsLaidOut l → IsArcNumber b.net k → i ≡ k - 1
     → o ≡ get_or l.offers i o → IsOfferRead l b k o
-unfolding basis_in
 offer_read l b k i o e ok h same read =
     let count : length l.offers ≡ length l.net.arcs = ok.offers_size in
     let here : IsArcNumber l.net k = subst (λ x. IsArcNumber x.net k) (sym e) h in
@@ -164,7 +156,6 @@ offer_read l b k i o e ok h same read =
     rw is (subst (λ x. IsOfferRead l x k (offer_at l k)) e (record { can = can_reduce l k ok here; eligible = (r.eligible, r.only); size = r.size }))
 
 pub offer_in_range : (l : Layout) (b : TreeStructure) (k i : ℕ) → basis_in l ≡ b → IsLaidOut l → IsArcNumber b.net k → i ≡ k - 1 → i < length l.offers
-unfolding basis_in
 offer_in_range l b k i e ok h same =
     let here : IsArcNumber l.net k = subst (λ x. IsArcNumber x.net k) (sym e) h in
     let count : length l.offers ≡ length l.net.arcs = ok.offers_size in
@@ -177,7 +168,6 @@ pub record IsReadReduced (b : TreeStructure) (k src dst : ℕ) (c : ℤ) : Type 
 
 pub reduced_read : (l : Layout) (b : TreeStructure) (k src dst : ℕ) (c : ℤ) → basis_in l ≡ b → IsLaidOut l → IsArcNumber b.net k
     → src ≡ (arc_at l.net k).src → dst ≡ (arc_at l.net k).dst → c ≡ (arc_at l.net k).cost → IsReadReduced b k src dst c
-unfolding basis_in
 reduced_read l b k src dst c view ok h is_src is_dst is_cost =
     let here : IsArcNumber l.net k = subst (λ x. IsArcNumber x.net k) (sym view) h in
     let a : IsNetArc (arc_at l.net k) = net_arc_at l.net k ok.basis.of_net here in

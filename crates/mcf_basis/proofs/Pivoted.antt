@@ -65,11 +65,9 @@ module _ (l : Layout) (b : TreeStructure) (k : ℕ) (ok : IsLaidOut l) (view : b
   is_basis = ok.basis
 
   pub number : IsArcNumber l.net k
-  unfolding basis_in
   number = el.arc
 
   pub nodes : size_of l.tree ≡ node_count l.net + 1
-  unfolding basis_in
   nodes = ok.basis.size
 
   pub read : IsReadOffer (basis_in l) k (offer_at l k)
@@ -79,7 +77,6 @@ module _ (l : Layout) (b : TreeStructure) (k : ℕ) (ok : IsLaidOut l) (view : b
   keep_premises = (let n = number in let size = ok.offers_size in (n.0, omega (arith, n, size), read.cost))
 
   pub residuals_sized : length l.residuals ≡ size_of l.tree
-  unfolding basis_in
   residuals_sized = (let n = nodes in ok.residuals_size ∙ sym n)
 
   -- the offer, as it is read
@@ -91,25 +88,21 @@ module _ (l : Layout) (b : TreeStructure) (k : ℕ) (ok : IsLaidOut l) (view : b
         read_there ∙ (get_or_default l.offers i o no_offer (omega (arith, at, n, size)) ∙ ap (λ j. get_or l.offers j no_offer) at)
 
     pub from_in_tree : o.from < size_of l.tree
-    unfolding basis_in
     from_in_tree = (let h : (offer_at l k).from ≤ node_count l.net = read.from in rw is (omega (arith, nodes, h)))
 
     pub to_in_tree : o.to < size_of l.tree
-    unfolding basis_in
     to_in_tree = (let h : (offer_at l k).to ≤ node_count l.net = read.to in rw is (omega (arith, nodes, h)))
 
     pub reduced_ready : CanReduce l.table.prices o
     reduced_ready = rw is (can_reduce l k ok number)
 
     pub reduced_is : reduced_by l.table.prices o ≡ offered (basis_in l) (offer_at l k)
-    unfolding basis_in
     reduced_is = rw is refl
 
     -- the cycle of a climb from the ends of the offer
     pub cycle_found : (f : Cycle) (c : Climb) (residuals : List Residuals) (width : ℕ) → residuals ≡ l.residuals →
         width ≡ unsigned_abs (arc_at l.net k).cap → IsClimb l.tree residuals o.from o.to c → f.arc ≡ k → f.from ≡ o.from → f.to ≡ o.to → f.apex ≡ c.apex →
         IsChosen c width f.amount f.leaving f.out → IsRoundOf l k f
-    unfolding basis_in
     cycle_found f c residuals width same_residuals same_width climb arc from to apex chosen =
         let ends = offer_ends l k ok el in
         let climbed : IsClimb l.tree l.residuals (from_of (basis_in l) k) (to_of (basis_in l) k) c = rw (same_residuals, is, ends.0, ends.1) at climb in

@@ -147,7 +147,6 @@ module _ (l : Layout) (s : IsStarStored l) where
       ])
 
   star_basis : IsBasis (basis_in l)
-  unfolding basis_in
   star_basis = star_is_basis (basis_in l) s.of_net s.spanning s.star amounts_are s.table.prices
 
   not_own : (v : ℕ) → IsNode (node_count l.net) v → label_of l.tree v ≤ length l.net.arcs → ⊥
@@ -170,5 +169,4 @@ module _ (l : Layout) (s : IsStarStored l) where
   }
 
   pub star_starts : IsStart l.net (basis_in l)
-  unfolding basis_in
   star_starts = record { of_net = refl; star = s.star; amounts = amounts_are; prices = s.table.prices; priced = s.table.priced; pivots = s.no_pivots; basis = star_basis }

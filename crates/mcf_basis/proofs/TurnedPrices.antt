@@ -46,11 +46,9 @@ module _ (l : Layout) (k : ℕ) (ok : IsLaidOut l) (el : IsEligible (basis_in l)
   reach = node_count l.net * greatest_cost l.net.arcs
 
   near : (v : ℕ) → 0 < v → v ≤ node_count l.net → IsNear (artificial_cost l.net) reach (price_at (basis_in l) v)
-  unfolding basis_in
   near v up h = near_price (basis_in l) ok.basis v up h
 
   pub change_is_shown : IsShown l.table.gap (change_limit (l.table.limit - l.table.gap)) (offered (basis_in l) (offer_at l k))
-  unfolding basis_in
   change_is_shown =
       let o = offer_at l k in
       let read = read_offer l k ok (in_net l k ok el) in
@@ -64,7 +62,6 @@ module _ (l : Layout) (k : ℕ) (ok : IsLaidOut l) (el : IsEligible (basis_in l)
     on_path = path-from_over l.tree.parents (depth_of l.tree) out v over
 
     pub part_up : 0 < v
-    unfolding basis_in
     part_up =
         elim (cases_eq v 0) [
           | inl z ↦ absurd (let top = climb-root l.tree.parents (depth_of l.tree) ok.basis.spanning.rooted on_path.steps in
@@ -78,7 +75,6 @@ module _ (l : Layout) (k : ℕ) (ok : IsLaidOut l) (el : IsEligible (basis_in l)
     joined_price o p false c = (omega (arith, ints, c), omega (arith, ints, c))
 
     pub still_spread_at : IsSpread l.table.gap (price_at (basis_in l) v +ℤ price_change side (offered (basis_in l) (offer_at l k)))
-    unfolding basis_in
     still_spread_at =
         let o = offer_at l k in
         let p = price_of l.table in

@@ -18,18 +18,6 @@ use Rattle.mcf_basis.proofs.Spreads.{near_spread}
 use Rattle.mcf_basis.proofs.StrongPivot.{same_node}
 use Rattle.mcf_basis.proofs.TreePrices.{near_price, price_reached, price_small}
 
-pub view_net : (l : Layout) (b : TreeStructure) → basis_in l ≡ b → l.net ≡ b.net
-unfolding basis_in
-view_net l b e = ap (λ x. x.net) e
-
-pub view_tree : (l : Layout) (b : TreeStructure) → basis_in l ≡ b → l.tree ≡ b.tree
-unfolding basis_in
-view_tree l b e = ap (λ x. x.tree) e
-
-pub view_pivots : (l : Layout) (b : TreeStructure) → basis_in l ≡ b → l.pivots ≡ b.pivots
-unfolding basis_in
-view_pivots l b e = ap (λ x. x.pivots) e
-
 pub view_basis : (l : Layout) (b : TreeStructure) → basis_in l ≡ b → IsLaidOut l → IsBasis b
 view_basis l b e ok = subst IsBasis e ok.basis
 
@@ -39,7 +27,6 @@ pub record IsReadPrice (l : Layout) (b : TreeStructure) (v : ℕ) : Type 0 where
   pub small : IsUpTo price_limit (get_or l.table.prices v (pos 0))
 
 pub read_price : (l : Layout) (b : TreeStructure) (v : ℕ) → basis_in l ≡ b → IsLaidOut l → v ≤ node_count b.net → IsReadPrice l b v
-unfolding basis_in
 read_price l b v e ok h =
     let nodes : node_count l.net ≡ node_count b.net = ap (λ x. node_count x.net) e in
     let count : length l.table.prices ≡ node_count l.net + 1 = ok.basis.prices.one_per_node in
@@ -51,14 +38,12 @@ read_price l b v e ok h =
 
 -- each price has room
 pub price_fits : (l : Layout) → IsLaidOut l → (v : ℕ) → v ≤ node_count l.net → IsUpTo l.table.limit (price_at (basis_in l) v)
-unfolding basis_in
 price_fits l ok v h =
     let p : IsUpTo (price_reach l.net) (price_at (basis_in l) v) = price_reached (basis_in l) ok.basis v h in
     (omega (arith, ints, p, ok.fits), omega (arith, ints, p, ok.fits))
 
 -- each price but that of the root can be stored
 pub price_spread : (l : Layout) → IsLaidOut l → (v : ℕ) → 0 < v → v ≤ node_count l.net → IsSpread l.table.gap (price_at (basis_in l) v)
-unfolding basis_in
 price_spread l ok v up h = near_spread l.net l.table.gap (node_count l.net * greatest_cost l.net.arcs) (price_at (basis_in l) v) ok.gap
     (λ short. omega (arith, short)) (near_price (basis_in l) ok.basis v up h)
 
@@ -109,12 +94,10 @@ module _ (l : Layout) (d : ℕ → ℕ) (tree : IsTreeOf (arcs_of l.net) l.tree.
 
 -- the arc of a label
 pub carried_in : (l : Layout) (label : ℕ) → 1 ≤ label → label ≤ length l.net.arcs + node_count l.net → carried (basis_in l) label ≡ amount_in l label
-unfolding basis_in
 carried_in l label low high =
     get_or-map-range_with_len (amount_in l) 1 (length l.net.arcs + node_count l.net) (label - 1) label (pos 0) (omega arith) (omega arith)
 
 pub carried_outside : (l : Layout) (k : ℕ) → IsArcNumber l.net k → ¬ IsInTree (basis_in l) k → carried (basis_in l) k ≡ amount_outside l k
-unfolding basis_in
 carried_outside l k h out =
     carried_in l k h.0 (omega (arith, h)) ∙ amount_none l k h (λ v node e. out (record { node = v; is_node = node; labelled = e }))
 

@@ -1,6 +1,6 @@
-use Rattle.mcf_basis.proofs.Views.{view_pivots}
+use Rattle.std.proofs.Common.{ap}
+use Rattle.mcf_basis.specs.Structures.{TreeStructure}
 use Rattle.mcf_basis.proofs.basis.Basis.into_pivots.Goals as goal
 
 pub returns : goal.returns
-returns c =
-    view_pivots _ c.args.self c.self.view_is
+returns c = ap (λ (b : TreeStructure). b.pivots) c.self.view_is

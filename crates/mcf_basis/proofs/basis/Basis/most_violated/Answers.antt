@@ -1,19 +1,18 @@
 use Rattle.std.proofs.Common.{◌+◌, ◌≤◌, None, ap, arith, length, subst}
-use Rattle.mcf_flows.specs.Network.{Network}
+use Rattle.mcf_basis.specs.Structures.{TreeStructure}
 use Rattle.mcf_basis.specs.Violations.{IsMostViolated, IsMostViolatedPick}
 use Rattle.mcf_basis.proofs.MostViolated.{can_compare_in, most_violated_none, most_violated_some}
-use Rattle.mcf_basis.proofs.Views.{view_net}
 use Rattle.mcf_basis.proofs.basis.Basis.most_violated.Goals as goal
 
 pub least_offer-requires : goal.least_offer-requires
 least_offer-requires c =
-    let arcs = ap (λ (g : Network). length g.arcs) (view_net _ c.args.self.now c.self.view_is) in
+    let arcs = ap (λ (b : TreeStructure). length b.net.arcs) c.self.view_is in
     let high : c.args.end ≤ length c.self.inside.net.now.arcs + 1 = omega (arith, arcs, c.requires.high) in
     rw c.deref.ensures.value (can_compare_in _ c.self.invariant c.args.first c.args.end c.requires.low c.requires.order high)
 
 pub returns-in_err-place-clause-value : goal.returns-in_err-place-clause-value
 returns-in_err-place-clause-value c =
-    let arcs = ap (λ (g : Network). length g.arcs) (view_net _ c.args.self.now c.self.view_is) in
+    let arcs = ap (λ (b : TreeStructure). length b.net.arcs) c.self.view_is in
     let high : c.args.end ≤ length c.self.inside.net.now.arcs + 1 = omega (arith, arcs, c.requires.high) in
     let none = rw c.deref.ensures.value at c.in_err-place.ensures in
     rw c.from_residual.ensures (subst (λ b. IsMostViolatedPick b c.args.first c.args.end None) c.self.view_is
@@ -21,7 +20,7 @@ returns-in_err-place-clause-value c =
 
 pub returns-clause-value : goal.returns-clause-value
 returns-clause-value c =
-    let arcs = ap (λ (g : Network). length g.arcs) (view_net _ c.args.self.now c.self.view_is) in
+    let arcs = ap (λ (b : TreeStructure). length b.net.arcs) c.self.view_is in
     let high : c.args.end ≤ length c.self.inside.net.now.arcs + 1 = omega (arith, arcs, c.requires.high) in
     let k = c.in_ok-place.place in
     let found = rw c.deref.ensures.value at c.in_ok-place.ensures in

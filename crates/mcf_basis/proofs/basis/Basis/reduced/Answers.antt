@@ -1,24 +1,20 @@
 use Rattle.std.proofs.Common.{sym, arith, subst}
 use Rattle.std.proofs.lemmas.Int.{ints}
-use Rattle.mcf_flows.specs.Network.{Network, IsArcNumber, IsNode, node_count}
+use Rattle.mcf_flows.specs.Network.{IsArcNumber, IsNode, node_count}
+use Rattle.mcf_basis.specs.Structures.{TreeStructure}
 use Rattle.mcf_basis.proofs.Offers.{reduced_read}
-use Rattle.mcf_basis.proofs.Views.{view_net}
 use Rattle.mcf_basis.proofs.basis.Basis.reduced.Goals as goal
 
 pub ends-src-requires : goal.ends-src-requires
-ends-src-requires c =
-    let net = view_net _ c.args.self.now c.self.view_is in
-    subst (λ (g : Network). IsArcNumber g c.args.k) (sym net) c.requires
+ends-src-requires c = subst (λ (b : TreeStructure). IsArcNumber b.net c.args.k) (sym c.self.view_is) c.requires
 
 pub price-requires : goal.price-requires
 price-requires c =
-    let net = view_net _ c.args.self.now c.self.view_is in
-    subst (λ (g : Network). IsNode (node_count g) c.ends-src.result.0) net c.ends-src.ensures.src_is_node
+    subst (λ (b : TreeStructure). IsNode (node_count b.net) c.ends-src.result.0) c.self.view_is c.ends-src.ensures.src_is_node
 
 pub price-requires-2 : goal.price-requires-2
 price-requires-2 c =
-    let net = view_net _ c.args.self.now c.self.view_is in
-    subst (λ (g : Network). IsNode (node_count g) c.ends-src.result.1) net c.ends-src.ensures.dst_is_node
+    subst (λ (b : TreeStructure). IsNode (node_count b.net) c.ends-src.result.1) c.self.view_is c.ends-src.ensures.dst_is_node
 
 pub overflow_sub-result : goal.overflow_sub-result
 overflow_sub-result c =

@@ -1,11 +1,11 @@
-use Rattle.std.proofs.Common.{sym, ◌∙◌}
+use Rattle.std.proofs.Common.{ap, sym, ◌∙◌}
+use Rattle.mcf_basis.specs.Structures.{TreeStructure}
 use Rattle.mcf_basis.proofs.Endings.{can_be_written, flow_written}
-use Rattle.mcf_basis.proofs.Views.{view_net}
 use Rattle.mcf_basis.proofs.basis.Basis.write_flow.Goals as goal
 
 pub write_outside-requires-clause-net : goal.write_outside-requires-clause-net
 write_outside-requires-clause-net c =
-    c.requires ∙ sym (view_net _ _ c.self.view_is)
+    c.requires ∙ ap (λ (b : TreeStructure). b.net) (sym c.self.view_is)
 
 pub write_tree-requires-clause-size : goal.write_tree-requires-clause-size
 write_tree-requires-clause-size c =
