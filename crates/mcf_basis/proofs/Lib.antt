@@ -1,45 +1,45 @@
-pub mod Labels
-pub mod TreePrices
-pub mod Gaps
-pub mod GapTables
-pub mod Spreads
-pub mod LeastFound
-pub mod Offers
-pub mod Views
-pub mod LeastOffers
-pub mod PriceLists
-pub mod MostViolated
+mod Labels
+mod TreePrices
+mod Gaps
+mod GapTables
+mod Spreads
+mod LeastFound
+mod Offers
+mod Views
+mod LeastOffers
+mod PriceLists
+mod MostViolated
 pub mod RankLaws
-pub mod Flows
+mod Flows
 pub mod LastBases
 pub mod TreeFlows
 pub mod RankDepths
-pub mod StarBases
-pub mod Pushes
-pub mod StrongPivot
-pub mod Around
-pub mod Climbing
-pub mod TreeResiduals
-pub mod Climbed
-pub mod PushedResiduals
-pub mod TurnedResiduals
-pub mod Repricing
-pub mod StartLayouts
-pub mod Endings
-pub mod CyclePlaces
-pub mod Cycles
-pub mod StrongKept
-pub mod Pushed
-pub mod PushedSums
-pub mod PairLaws
-pub mod PricesTurned
-pub mod PivotBounds
-pub mod PivotKeeps
-pub mod Pivoted
-pub mod TurnedAmounts
-pub mod TurnedOffers
-pub mod TurnedStart
-pub mod TurnedPrices
-pub mod TurnedLayout
-pub mod Cuts
-pub mod LastFlows
+mod StarBases
+mod Pushes
+mod StrongPivot
+mod Around
+mod Climbing
+mod TreeResiduals
+mod Climbed
+mod PushedResiduals
+mod TurnedResiduals
+mod Repricing
+mod StartLayouts
+mod Endings
+mod CyclePlaces
+mod Cycles
+mod StrongKept
+mod Pushed
+mod PushedSums
+mod PairLaws
+mod PricesTurned
+mod PivotBounds
+mod PivotKeeps
+mod Pivoted
+mod TurnedAmounts
+mod TurnedOffers
+mod TurnedStart
+mod TurnedPrices
+mod TurnedLayout
+mod Cuts
+mod LastFlows
