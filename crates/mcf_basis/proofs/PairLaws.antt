@@ -1,6 +1,5 @@
 -- Each pivot lowers the pair of the cost and the sum of the prices.
-use Rattle.std.proofs.Common.{◌≡◌, ℕ, ◌<◌, ◌⊎◌, Bool, true, false, sym, ap, ◌∙◌, subst, arith, inl, inr, ℤ, pos}
-use Rattle.std.proofs.Common.{◌+ℤ◌, ◌-ℤ◌, ◌≤ℤ◌, ◌<ℤ◌}
+use Rattle.std.proofs.Common.{◌≡◌, ℕ, ◌<◌, ◌⊎◌, Bool, true, false, sym, ap, ◌∙◌, subst, arith, inl, inr, ℤ, pos, ◌+ℤ◌, ◌-ℤ◌, ◌≤ℤ◌, ◌<ℤ◌}
 use Rattle.std.specs.Prelude.{int_lt}
 use Rattle.std.proofs.Math.IntN.{◌*ℤ◌, *ℤ_comm}
 use Rattle.std.proofs.lemmas.Bool.{false_from_ne_true}
@@ -21,12 +20,12 @@ use Rattle.mcf_basis.specs.Laws.{PivotsLowerThePair}
 use Rattle.mcf_basis.specs.Pivots.{IsEligible, IsExchanged, IsMended, IsPivot, PairFalls, entering, full_cost, price_sum}
 use Rattle.mcf_basis.specs.Pivots.IsMended.{exchanged, kept}
 use Rattle.mcf_basis.specs.Structures.{TreeStructure, CanTake, carried, price_at, reduced_at}
-use Rattle.mcf_basis.proofs.Around.{IsAround, IsLeaving, from_of, left_node, left_steps, right_node, to_of}
+use Rattle.mcf_basis.proofs.Around.{IsAround, IsLeaving, from_of, to_of, side_steps, side_node}
 use Rattle.mcf_basis.proofs.Around.IsLeaving.{enter, left, right}
 use Rattle.mcf_basis.proofs.CyclePlaces.{leaving_of_last}
 use Rattle.mcf_basis.proofs.Cycles.{HasTwoEnds, around, two_ends}
 use Rattle.mcf_basis.proofs.LastBases.{zero_or_more}
-use Rattle.mcf_basis.proofs.Pushed.{left_outside, left_step, right_step, step_of}
+use Rattle.mcf_basis.proofs.Pushed.{step_of, side_step, side_outside}
 use Rattle.mcf_basis.proofs.PushedSums.{entering_cost, entering_low, none_turned, round_cost, turned_reduced}
 use Rattle.mcf_basis.proofs.StrongKept.{moved_low, strong_up}
 use Rattle.mcf_basis.proofs.TreePrices.{in_tree}
@@ -127,11 +126,11 @@ module _ (old new : TreeStructure) (k : ℕ) (moved : ℤ) (ok : IsBasis old) (p
         omega (arith, ints, sum, node_sum-sub (price_at old) (price_at new) (node_count old.net), same)
 
   -- an arc on the side of this end leaves
-  left_falls : (m out inner outer : ℕ) → m < left_steps old k pivot.apex → label_of old.tree (left_node old k m) ≡ label_of old.tree out →
+  left_falls : (m out inner outer : ℕ) → m < side_steps old k pivot.apex true → label_of old.tree (side_node old k true m) ≡ label_of old.tree out →
       IsExchanged old (entering old k) out inner outer new → price_sum new <ℤ price_sum old
   left_falls m out inner outer h named x =
-      let is : out ≡ left_node old k m =
-      step_of old k pivot.apex ok pivot.eligible is_around (left_step old k pivot.apex ok pivot.eligible is_around m h) x.is_node named in
+      let is : out ≡ side_node old k true m =
+      step_of old k pivot.apex ok pivot.eligible is_around (side_step old k pivot.apex ok pivot.eligible is_around true m h) x.is_node named in
       elim x.ends [
         | inl e ↦ prices_fall out inner outer x e.0 e.1
         | inr e ↦ absurd (x.outside (record { steps = m; leads = ap (climb old.tree.parents m) e.1 ∙ sym is }))
@@ -144,12 +143,12 @@ module _ (old new : TreeStructure) (k : ℕ) (moved : ℤ) (ok : IsBasis old) (p
 
     still_falls : (q : Rid) → IsLeaving old k pivot.apex moved q → IsMended old (entering old k) q new → price_sum new <ℤ price_sum old
     still_falls q (right m h is full free) mended =
-        absurd (let step = right_step old k pivot.apex ok pivot.eligible is_around m h in
-        one_more q full (subst (λ r. CanTake old r (pos 1)) (sym is) (strong_up old ok (right_node old k m) step.above step.within)))
+        absurd (let step = side_step old k pivot.apex ok pivot.eligible is_around false m h in
+        one_more q full (subst (λ r. CanTake old r (pos 1)) (sym is) (strong_up old ok (side_node old k false m) step.above step.within)))
     still_falls q (enter is full free) mended =
         absurd (one_more q full (subst (λ r. CanTake old r (pos 1)) (sym is) (entering_takes old k pivot.eligible)))
     still_falls q (left m h is full free first above) (kept same stay) =
-        absurd (left_outside old k pivot.apex ok pivot.eligible is_around m h (sym (ap (λ (r : Rid). r.arc) is) ∙ ap (λ (r : Rid). r.arc) same))
+        absurd (side_outside old k pivot.apex ok pivot.eligible is_around true m h (sym (ap (λ (r : Rid). r.arc) is) ∙ ap (λ (r : Rid). r.arc) same))
     still_falls q (left m h is full free first above) (exchanged out inner outer named x) =
         left_falls m out inner outer h (sym (ap (λ (r : Rid). r.arc) is) ∙ named) x
 

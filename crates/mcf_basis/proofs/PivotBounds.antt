@@ -1,24 +1,20 @@
 -- The amounts after a pivot: within their bounds, and at a bound outside the new tree.
-use Rattle.std.proofs.Common.{◌≡◌, ◌≢◌, ℕ, ◌<◌, ◌≤◌, ◌⊎◌, inl, inr, true, false, not, length, sym, ap, ◌∙◌, subst, arith, ℤ, pos}
-use Rattle.std.proofs.Common.{◌+ℤ◌, ◌≤ℤ◌}
+use Rattle.std.proofs.Common.{◌≡◌, ◌≢◌, ℕ, ◌<◌, ◌≤◌, ◌⊎◌, inl, inr, true, false, not, length, sym, ap, ◌∙◌, subst, arith, ℤ, pos, ◌+ℤ◌, ◌≤ℤ◌}
 use Rattle.std.proofs.lemmas.Int.{ints}
 use Rattle.std.proofs.lemmas.Bool.{both_ways, cases_eq, eq-eqb, ne_eqb}
 use Rattle.mcf_flows.specs.Network.{IsNode, node_count}
-use Rattle.mcf_links.specs.Rooted.{climb}
 use Rattle.mcf_network.specs.Residual.{arc_at}
-use Rattle.mcf_tree.specs.SpanningTree.{depth_of, label_of}
+use Rattle.mcf_tree.specs.SpanningTree.{label_of}
 use Rattle.mcf_basis.specs.Artificial.{IsLabel, with_artificial}
 use Rattle.mcf_basis.specs.Bases.{CanHold, IsAtBound, IsBasis}
 use Rattle.mcf_basis.specs.Pivots.{IsPivot, entering}
 use Rattle.mcf_basis.specs.Structures.{TreeStructure, CanTake, IsInTree, carried, leaving}
-use Rattle.mcf_basis.proofs.Around.{CanGoRound, IsAround, IsLeaving, WentRound, arcs_of, from_of, left_node, left_steps, right_node, right_steps, round_amount}
-use Rattle.mcf_basis.proofs.Around.{to_of}
+use Rattle.mcf_basis.proofs.Around.{CanGoRound, IsAround, IsLeaving, WentRound, arcs_of, from_of, round_amount, side_steps, side_node}
 use Rattle.mcf_basis.proofs.Around.IsLeaving.{right, enter, left}
 use Rattle.mcf_basis.proofs.PricesTurned.{new_tree}
-use Rattle.mcf_basis.proofs.Pushed.{node_of}
-use Rattle.mcf_basis.proofs.Pushes.{Leaves, cases_found}
+use Rattle.mcf_basis.proofs.Pushed.{side_is_node}
+use Rattle.mcf_basis.proofs.Pushes.{Leaves, cases_sides}
 use Rattle.mcf_basis.proofs.StrongKept.{entering_leaves, pivoted_amount}
-use Rattle.mcf_basis.proofs.StrongPivot.{step_at}
 
 -- one residual arc along which x went
 module _ (b : TreeStructure) (label v : ℕ) (x : ℤ) (new : ℕ → ℤ)
@@ -58,13 +54,6 @@ module _ (b : TreeStructure) (label v : ℕ) (x : ℤ) (new : ℕ → ℤ)
       backward_bound : (old new x : ℤ) → new +ℤ x ≡ old → x ≤ℤ old → ((x +ℤ pos 1) ≤ℤ old → ⊥) → new ≡ pos 0
       backward_bound old new x moves fits full = grind (arith, ints)
 
--- the nodes of either side are nodes of the net
-pub side_node : (b : TreeStructure) → IsBasis b → (u n p : ℕ) → u < length b.tree.parents → n ≤ depth_of b.tree u → p < n
-    → IsNode (node_count b.net) (climb b.tree.parents p u)
-side_node b ok u n p h short lt =
-    let w = step_at ok.spanning.rooted u n p h short lt in
-    node_of b ok (climb b.tree.parents p u) w.above w.within
-
 module _ (old new : TreeStructure) (k : ℕ) (moved : ℤ) (ok : IsBasis old) (pivot : IsPivot old k moved new) (around : IsAround old k pivot.apex)
     (went : WentRound old k pivot.apex moved) (can : CanGoRound old k pivot.apex moved) where
   abbrev now : ℕ → ℤ
@@ -87,13 +76,9 @@ module _ (old new : TreeStructure) (k : ℕ) (moved : ℤ) (ok : IsBasis old) (p
   round_hold label h =
       elim (cases_eq k label) [
         | inl e ↦ on_cycle went.entering can_enter e
-        | inr ne ↦ elim (cases_found (λ p. label_of old.tree (left_node old k p)) (left_steps old k pivot.apex) label) [
-          | inl t ↦ on_cycle (went.left t.at t.short) (can.left t.at t.short) t.is
-          | inr off_left ↦ elim (cases_found (λ p. label_of old.tree (right_node old k p)) (right_steps old k pivot.apex) label) [
-            | inl t ↦ on_cycle (went.right t.at t.short) (can.right t.at t.short) t.is
-            | inr off_right ↦ subst (CanHold old.net label)
-                (sym (went.others label (λ e. ne (sym e)) (λ i l e. off_left i l (sym e)) (λ i l e. off_right i l (sym e)))) (old_hold label h)
-          ]
+        | inr ne ↦ elim (cases_sides (λ side p. label_of old.tree (side_node old k side p)) (side_steps old k pivot.apex) label) [
+          | inl t ↦ on_cycle (went.side t.side t.at t.short) (can.side t.side t.at t.short) t.is
+          | inr off ↦ subst (CanHold old.net label) (sym (went.others label (λ e. ne (sym e)) (λ side i l e. off side i l (sym e)))) (old_hold label h)
         ]
       ]
     where
@@ -105,12 +90,8 @@ module _ (old new : TreeStructure) (k : ℕ) (moved : ℤ) (ok : IsBasis old) (p
   -- an arc outside the old tree that doesn't enter keeps its amount
   round_kept : (label : ℕ) → label ≢ k → ¬ IsInTree old label → now label ≡ carried old label
   round_kept label ne out =
-      went.others label ne
-      (λ p h. apart (left_node old k p) (side_node old ok (from_of old k) _ p around.cycle.left_in_range around.cycle.left_short h))
-      (λ p h. apart (right_node old k p) (side_node old ok (to_of old k) _ p around.cycle.right_in_range around.cycle.right_short h))
-    where
-      apart : (v : ℕ) → IsNode (node_count old.net) v → label ≢ label_of old.tree v
-      apart = λ v node e. out (record { node = v; is_node = node; labelled = sym e })
+      went.others label ne (λ side p h e.
+      out (record { node = side_node old k side p; is_node = side_is_node old k pivot.apex ok pivot.eligible around side p h; labelled = sym e }))
 
   abbrev IsBound : ℕ → Type 0
   IsBound label = (now label ≡ pos 0) ⊎ ((label ≤ length old.net.arcs) × (now label ≡ (arc_at old.net label).cap))
@@ -118,9 +99,9 @@ module _ (old new : TreeStructure) (k : ℕ) (moved : ℤ) (ok : IsBasis old) (p
   -- the arc that leaves is at a bound
   leaving_bound : IsLeaving old k pivot.apex moved pivot.leaves → IsBound pivot.leaves.arc
   leaving_bound leaves = elim leaves [
-    | right m h is full rest ↦ on_cycle (went.right m h) (can.right m h) is full
+    | right m h is full rest ↦ on_cycle (went.side false m h) (can.side false m h) is full
     | enter is full rest ↦ on_cycle went.entering can_enter (is ∙ enters_from) full
-    | left m h is full rest more side ↦ on_cycle (went.left m h) (can.left m h) is full
+    | left m h is full rest more side ↦ on_cycle (went.side true m h) (can.side true m h) is full
   ]
     where
       on_cycle : {l v : ℕ} → Leaves (arcs_of old.net) (carried old) now l v moved → CanTake old (leaving old.net l v) moved → pivot.leaves ≡ leaving old.net l v

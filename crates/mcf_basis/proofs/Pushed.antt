@@ -1,7 +1,8 @@
 -- What an amount that went round the cycle of a pivot leaves each arc.
-use Rattle.std.proofs.Common.{◌≡◌, ◌≢◌, ℕ, zero, suc, ◌+◌, ◌-◌, ◌<◌, ◌≤◌, Bool, true, false, not, eqb, cond, List, [], ◌∷◌, length, get_or, set, refl, sym, ap, ◌∙◌}
-use Rattle.std.proofs.Common.{arith, inl, inr, ℤ, pos, ◌+ℤ◌, ◌-ℤ◌, ◌≤ℤ◌, neg_ℤ}
+use Rattle.std.proofs.Common.{◌≡◌, ◌≢◌, ℕ, zero, suc, ◌+◌, ◌-◌, ◌<◌, ◌≤◌, Bool, true, false, not, eqb, cond, List, [], ◌∷◌, length, get_or, set, refl, sym, ap}
+use Rattle.std.proofs.Common.{◌∙◌, arith, inl, inr, ℤ, pos, ◌+ℤ◌, ◌-ℤ◌, ◌≤ℤ◌, neg_ℤ}
 use Rattle.std.specs.List.{All}
+use Rattle.std.specs.Prelude.{if◌then◌else◌}
 use Rattle.std.proofs.lemmas.Bool.{cases_eq, cond-true, cond-false, eq-eqb, ne_eqb}
 use Rattle.std.proofs.lemmas.Int.{ints}
 use Rattle.std.proofs.lemmas.List.{length-set}
@@ -13,15 +14,15 @@ use Rattle.mcf_network.specs.Residual.{arc_at, head, tail}
 use Rattle.mcf_network.specs.States.{Pseudoflow, amount_at, pushed}
 use Rattle.mcf_network.specs.Walks.{pushed_along}
 use Rattle.mcf_network.proofs.StateLaws.{read_written, rid, when-other, when-same}
-use Rattle.mcf_tree.specs.SpanningTree.{depth_of, label_of}
+use Rattle.mcf_tree.specs.SpanningTree.{depth_of, label_of, parent_of}
 use Rattle.mcf_basis.specs.Artificial.{IsLabel, with_artificial}
 use Rattle.mcf_basis.specs.Bases.{IsBasis}
 use Rattle.mcf_basis.specs.Pivots.{IsEligible, entering}
 use Rattle.mcf_basis.specs.Structures.{TreeStructure, carried, cycle_of, full_state}
-use Rattle.mcf_basis.proofs.Around.{IsAround, WentRound, arcs_of, from_of, left_node, left_steps, right_node, right_steps, round_amount, to_of}
+use Rattle.mcf_basis.proofs.Around.{IsAround, WentRound, arcs_of, round_amount, side_end, side_steps, side_node}
 use Rattle.mcf_basis.proofs.CyclePlaces.{OnCycle, each_place, on_cycle}
 use Rattle.mcf_basis.proofs.Labels.{own_label}
-use Rattle.mcf_basis.proofs.Pushes.{Leaves}
+use Rattle.mcf_basis.proofs.Pushes.{Leaves, each_side}
 use Rattle.mcf_basis.proofs.StrongPivot.{IsStep, labels_apart, same_node, step_at}
 
 -- ---- pushes along a list of residual arcs, by labels
@@ -123,45 +124,45 @@ module _ (b : TreeStructure) (ok : IsBasis b) where
   pub node_of : (v : ℕ) → 0 < v → v < length b.tree.parents → IsNode (node_count b.net) v
   node_of v p h = let size : length b.tree.parents ≡ node_count b.net + 1 = ok.size in (omega arith, omega arith)
 
-  pub label_at : (v : ℕ) → 0 < v → v < length b.tree.parents → IsLabel b.net (label_of b.tree v)
-  label_at v p h = (ok.tree_arcs v (node_of v p h)).label
-
 -- what an arc carries afterwards, by its label
 pub round_at : (b : TreeStructure) (k apex : ℕ) (x : ℤ) (label : ℕ) → 0 < label →
     round_amount b k apex x label ≡ amount_at (pushed_along (full_state b) (cycle_of b (entering b k) apex) x) label
 round_at b k apex x label h = cond-false _ _ _ (ne_eqb label 0 (λ e. omega arith))
 
 module _ (b : TreeStructure) (k apex : ℕ) (ok : IsBasis b) (el : IsEligible b k) (around : IsAround b k apex) where
-  pub left_step : (p : ℕ) → p < left_steps b k apex → IsStep b.tree.parents (depth_of b.tree) (from_of b k) p
-  left_step p lt =
-      step_at ok.spanning.rooted (from_of b k) (left_steps b k apex) p around.cycle.left_in_range around.cycle.left_short lt
+  pub side_step : (side : Bool) (p : ℕ) → p < side_steps b k apex side → IsStep b.tree.parents (depth_of b.tree) (side_end b k side) p
+  side_step side p lt =
+      step_at ok.spanning.rooted (side_end b k side) (side_steps b k apex side) p (around.cycle.in_range side) (around.cycle.short side) lt
 
-  pub right_step : (p : ℕ) → p < right_steps b k apex → IsStep b.tree.parents (depth_of b.tree) (to_of b k) p
-  right_step p lt =
-      step_at ok.spanning.rooted (to_of b k) (right_steps b k apex) p around.cycle.right_in_range around.cycle.right_short lt
+  pub side_is_node : (side : Bool) (p : ℕ) → p < side_steps b k apex side → IsNode (node_count b.net) (side_node b k side p)
+  side_is_node side p lt = let one = side_step side p lt in node_of b ok (side_node b k side p) one.above one.within
 
   pub cycle_labels : All (λ r. IsLabel b.net r.arc) (cycle_of b (entering b k) apex)
   cycle_labels = each_place b k apex (λ i r. IsLabel b.net r.arc) (record {
-    left = λ i p e. (let one = left_step p (omega arith) in label_at b ok (left_node b k p) one.above one.within);
+    left = λ i p e. (ok.tree_arcs (side_node b k true p) (side_is_node true p (omega arith))).label;
     entering = own_label b.net k el.arc;
-    right = λ i p h e. (let one = right_step p h in label_at b ok (right_node b k p) one.above one.within);
+    right = λ i p h e. (ok.tree_arcs (side_node b k false p) (side_is_node false p h)).label;
   })
 
   cycle_entries : All (HasEntry b.amounts) (cycle_of b (entering b k) apex)
   cycle_entries =
       All-weaker (λ r. IsLabel b.net r.arc) (HasEntry b.amounts) (λ r h. (h.0, rw ok.flow.one_per_label h.1)) (cycle_of b (entering b k) apex) cycle_labels
 
-  labels_differ : (u v p q : ℕ) → IsStep b.tree.parents (depth_of b.tree) u p → IsStep b.tree.parents (depth_of b.tree) v q
-      → climb b.tree.parents p u ≢ climb b.tree.parents q v → label_of b.tree (climb b.tree.parents p u) ≢ label_of b.tree (climb b.tree.parents q v)
-  labels_differ u v p q one two =
-      labels_apart around.tree (climb b.tree.parents p u) (climb b.tree.parents q v) one.above one.within two.above two.within
+  labels_differ : (s t : Bool) (p q : ℕ) → p < side_steps b k apex s → q < side_steps b k apex t → side_node b k s p ≢ side_node b k t q
+      → label_of b.tree (side_node b k s p) ≢ label_of b.tree (side_node b k t q)
+  labels_differ s t p q hp hq =
+      let one = side_step s p hp in
+      let two = side_step t q hq in
+      labels_apart around.tree (side_node b k s p) (side_node b k t q) one.above one.within two.above two.within
 
-  path_differs : (u p q : ℕ) → IsStep b.tree.parents (depth_of b.tree) u p → IsStep b.tree.parents (depth_of b.tree) u q → p ≢ q
-      → label_of b.tree (climb b.tree.parents p u) ≢ label_of b.tree (climb b.tree.parents q u)
-  path_differs u p q one two n = labels_differ u u p q one two (steps_apart b.tree.parents (depth_of b.tree) u p q one two n)
+  side_differs : (side : Bool) (p q : ℕ) → p < side_steps b k apex side → q < side_steps b k apex side → p ≢ q
+      → label_of b.tree (side_node b k side p) ≢ label_of b.tree (side_node b k side q)
+  side_differs side p q hp hq n = labels_differ side side p q hp hq
+      (steps_apart b.tree.parents (depth_of b.tree) (side_end b k side) p q (side_step side p hp) (side_step side q hq) n)
 
-  sides_differ : (p q : ℕ) → p < left_steps b k apex → q < right_steps b k apex → label_of b.tree (left_node b k p) ≢ label_of b.tree (right_node b k q)
-  sides_differ p q hp hq = labels_differ (from_of b k) (to_of b k) p q (left_step p hp) (right_step q hq) (around.sides_apart p q hp hq)
+  sides_differ : (p q : ℕ) → p < side_steps b k apex true → q < side_steps b k apex false
+      → label_of b.tree (side_node b k true p) ≢ label_of b.tree (side_node b k false q)
+  sides_differ p q hp hq = labels_differ true false p q hp hq (around.sides_apart p q hp hq)
 
   -- the node of a path that has the label of u is u
   pub step_of : {v p u : ℕ} → IsStep b.tree.parents (depth_of b.tree) v p → IsNode (node_count b.net) u
@@ -170,31 +171,28 @@ module _ (b : TreeStructure) (k apex : ℕ) (ok : IsBasis b) (el : IsEligible b 
       same_node around.tree u (climb b.tree.parents p v)
       (omega (arith, node)) (omega (arith, node, ok.size)) w.above w.within (sym e)
 
-  pub left_outside : (p : ℕ) → p < left_steps b k apex → label_of b.tree (left_node b k p) ≢ k
-  left_outside p lt = let one = left_step p lt in around.cycle.outside (left_node b k p) one.above one.within
-
-  pub right_outside : (p : ℕ) → p < right_steps b k apex → label_of b.tree (right_node b k p) ≢ k
-  right_outside p lt = let one = right_step p lt in around.cycle.outside (right_node b k p) one.above one.within
+  pub side_outside : (side : Bool) (p : ℕ) → p < side_steps b k apex side → label_of b.tree (side_node b k side p) ≢ k
+  side_outside side p lt = let one = side_step side p lt in around.cycle.outside (side_node b k side p) one.above one.within
 
   -- no two arcs of the cycle are the same
   arcs_differ : (i : ℕ) (d : Rid) → i < length (cycle_of b (entering b k) apex) → (j : ℕ) (e : Rid) → j < length (cycle_of b (entering b k) apex) → j ≢ i
       → (get_or (cycle_of b (entering b k) apex) i d).arc ≢ (get_or (cycle_of b (entering b k) apex) j e).arc
   arcs_differ = each_place b k apex
       (λ i r. (j : ℕ) (e : Rid) → j < length (cycle_of b (entering b k) apex) → j ≢ i → r.arc ≢ (get_or (cycle_of b (entering b k) apex) j e).arc) (record {
-        left = λ i p h. each_place b k apex (λ j q. j ≢ i → label_of b.tree (left_node b k p) ≢ q.arc) (record {
-          left = λ j q l n. path_differs (from_of b k) p q (left_step p (omega arith)) (left_step q (omega arith)) (λ e. n (omega arith));
-          entering = λ n. left_outside p (omega arith);
+        left = λ i p h. each_place b k apex (λ j q. j ≢ i → label_of b.tree (side_node b k true p) ≢ q.arc) (record {
+          left = λ j q l n. side_differs true p q (omega arith) (omega arith) (λ e. n (omega arith));
+          entering = λ n. side_outside true p (omega arith);
           right = λ j q l e n. sides_differ p q (omega arith) l;
         });
-        entering = each_place b k apex (λ j q. j ≢ left_steps b k apex → k ≢ q.arc) (record {
-          left = λ j q l n e. left_outside q (omega arith) (sym e);
+        entering = each_place b k apex (λ j q. j ≢ side_steps b k apex true → k ≢ q.arc) (record {
+          left = λ j q l n e. side_outside true q (omega arith) (sym e);
           entering = λ n. absurd (n refl);
-          right = λ j q l e n s. right_outside q l (sym s);
+          right = λ j q l e n s. side_outside false q l (sym s);
         });
-        right = λ i p h at. each_place b k apex (λ j q. j ≢ i → label_of b.tree (right_node b k p) ≢ q.arc) (record {
+        right = λ i p h at. each_place b k apex (λ j q. j ≢ i → label_of b.tree (side_node b k false p) ≢ q.arc) (record {
           left = λ j q l n e. sides_differ q p (omega arith) h (sym e);
-          entering = λ n. right_outside p h;
-          right = λ j q l e n. path_differs (to_of b k) p q (right_step p h) (right_step q l) (λ s. n (omega arith));
+          entering = λ n. side_outside false p h;
+          right = λ j q l e n. side_differs false p q h l (λ s. n (omega arith));
         });
       })
 
@@ -211,23 +209,25 @@ module _ (b : TreeStructure) (k apex : ℕ) (ok : IsBasis b) (el : IsEligible b 
         (gained_one r.arc x (cycle_of b (entering b k) apex) i d h (arcs_differ i d h) ∙ when-same r.arc r.arc (along x r) refl))
 
     -- and no other arc gains anything
-    round_other : (label : ℕ) → label ≢ k → ((p : ℕ) → p < left_steps b k apex → label ≢ label_of b.tree (left_node b k p)) →
-        ((p : ℕ) → p < right_steps b k apex → label ≢ label_of b.tree (right_node b k p)) → round_amount b k apex x label ≡ carried b label
-    round_other label enters off_left off_right =
+    round_other : (label : ℕ) → label ≢ k → ((side : Bool) (p : ℕ) → p < side_steps b k apex side → label ≢ label_of b.tree (side_node b k side p))
+        → round_amount b k apex x label ≡ carried b label
+    round_other label enters off =
         elim (cases_eq label 0) [
           | inl e ↦ cond-true _ _ _ (eq-eqb label 0 e)
           | inr n ↦ (let is = round_is label (omega arith) in
               let none = gained_none label x (cycle_of b (entering b k) apex) (each_place b k apex (λ i r. label ≢ r.arc)
-              (record { left = λ i p e. off_left p (omega arith); entering = enters; right = λ i p h e. off_right p h })) in
+              (record { left = λ i p e. off true p (omega arith); entering = enters; right = λ i p h e. off false p h })) in
               omega (arith, ints, is, none))
         ]
 
     pub went_round_by : pos 0 ≤ℤ x → WentRound b k apex x
     went_round_by low = record {
       some = low;
-      left = λ p lt. leaves_from b.net (round_each.left (left_steps b k apex - suc p) p (omega arith));
+      side = each_side (λ side. (p : ℕ) → p < side_steps b k apex side → Leaves (arcs_of b.net) (carried b) (round_amount b k apex x)
+          (label_of b.tree (side_node b k side p)) (if side then parent_of b.tree (side_node b k side p) else side_node b k side p) x)
+          (λ p lt. leaves_from b.net (round_each.left (side_steps b k apex true - suc p) p (omega arith)))
+          (λ p lt. leaves_from b.net (round_each.right (side_steps b k apex true + (p + 1)) p lt refl));
       entering = leaves_tail b.net (carried b) (round_amount b k apex x) k (entering b k).back x around.cycle.apart round_each.entering;
-      right = λ p lt. leaves_from b.net (round_each.right (left_steps b k apex + (p + 1)) p lt refl);
       others = round_other;
     }
 

@@ -1,7 +1,7 @@
 -- What an amount that goes round the cycle of a pivot changes of the sums: no surplus, and the cost
 -- by the reduced cost of the arc that enters.
-use Rattle.std.proofs.Common.{◌≡◌, ℕ, zero, suc, ◌+◌, ◌-◌, ◌<◌, ◌≤◌, ◌++◌, ◌⊎◌, Bool, true, false, not, eqb, cond, List, [], ◌∷◌, length, set, refl, sym, ap, ◌∙◌}
-use Rattle.std.proofs.Common.{subst, arith, inl, inr, ℤ, pos, ◌+ℤ◌, ◌-ℤ◌, ◌<ℤ◌, neg_ℤ}
+use Rattle.std.proofs.Common.{◌≡◌, ℕ, zero, suc, ◌+◌, ◌-◌, ◌<◌, ◌≤◌, ◌++◌, ◌⊎◌, Bool, true, false, not, eqb, cond, List, [], ◌∷◌, length, set, refl, sym, ap}
+use Rattle.std.proofs.Common.{◌∙◌, subst, arith, inl, inr, ℤ, pos, ◌+ℤ◌, ◌-ℤ◌, ◌<ℤ◌, neg_ℤ}
 use Rattle.std.specs.Prelude.{int_lt}
 use Rattle.std.specs.List.{All}
 use Rattle.std.proofs.Math.IntN.{◌*ℤ◌, *ℤ_comm}
@@ -27,7 +27,7 @@ use Rattle.mcf_basis.specs.Bases.{IsBasis}
 use Rattle.mcf_basis.specs.Pivots.{IsEligible, entering, full_cost}
 use Rattle.mcf_basis.specs.Structures.{TreeStructure, Joins, cycle_of, down_path, full_state, leaving, price_at, reduced_at, up_path}
 use Rattle.mcf_basis.specs.Structures.Joins.{out_of, into}
-use Rattle.mcf_basis.proofs.Around.{IsAround, from_of, left_node, left_steps, right_node, right_steps, to_of}
+use Rattle.mcf_basis.proofs.Around.{IsAround, from_of, to_of, side_steps, side_node}
 use Rattle.mcf_basis.proofs.Labels.{joins_back}
 use Rattle.mcf_basis.proofs.Pushed.{along_count, cycle_labels, node_of, pushed_count}
 
@@ -167,22 +167,22 @@ entering_low b k el =
     ]
 
 module _ (b : TreeStructure) (k apex : ℕ) (ok : IsBasis b) (el : IsEligible b k) (around : IsAround b k apex) where
-  down_side : IsPricedWalk b (left_node b k (left_steps b k apex)) (down_path b (left_steps b k apex) (from_of b k)) (from_of b k)
-  down_side = (tree_walks b ok (left_steps b k apex) (from_of b k) around.cycle.left_in_range around.cycle.left_short).1
+  down_side : IsPricedWalk b (side_node b k true (side_steps b k apex true)) (down_path b (side_steps b k apex true) (from_of b k)) (from_of b k)
+  down_side = (tree_walks b ok (side_steps b k apex true) (from_of b k) (around.cycle.in_range true) (around.cycle.short true)).1
 
-  up_side : IsPricedWalk b (to_of b k) (up_path b (right_steps b k apex) (to_of b k)) (right_node b k (right_steps b k apex))
-  up_side = (tree_walks b ok (right_steps b k apex) (to_of b k) around.cycle.right_in_range around.cycle.right_short).0
+  up_side : IsPricedWalk b (to_of b k) (up_path b (side_steps b k apex false) (to_of b k)) (side_node b k false (side_steps b k apex false))
+  up_side = (tree_walks b ok (side_steps b k apex false) (to_of b k) (around.cycle.in_range false) (around.cycle.short false)).0
 
-  closed_walk : IsWalk (with_artificial b.net) (left_node b k (left_steps b k apex)) (cycle_of b (entering b k) apex) (right_node b k (right_steps b k apex))
+  closed_walk : IsWalk (with_artificial b.net) (side_node b k true (side_steps b k apex true)) (cycle_of b (entering b k) apex) (side_node b k false (side_steps b k apex false))
   closed_walk =
-      IsWalk-append (with_artificial b.net) (down_path b (left_steps b k apex) (from_of b k)) (entering b k ∷ up_path b (right_steps b k apex) (to_of b k))
-      (left_node b k (left_steps b k apex)) (from_of b k) (right_node b k (right_steps b k apex)) down_side.joined (refl, up_side.joined)
+      IsWalk-append (with_artificial b.net) (down_path b (side_steps b k apex true) (from_of b k)) (entering b k ∷ up_path b (side_steps b k apex false) (to_of b k))
+      (side_node b k true (side_steps b k apex true)) (from_of b k) (side_node b k false (side_steps b k apex false)) down_side.joined (refl, up_side.joined)
 
   cycle_cost : walk_cost (with_artificial b.net) (cycle_of b (entering b k) apex) ≡ entering_cost b k
   cycle_cost =
       let split =
-      walk_cost-append (with_artificial b.net) (down_path b (left_steps b k apex) (from_of b k))
-      (entering b k ∷ up_path b (right_steps b k apex) (to_of b k)) in
+      walk_cost-append (with_artificial b.net) (down_path b (side_steps b k apex true) (from_of b k))
+      (entering b k ∷ up_path b (side_steps b k apex false) (to_of b k)) in
       let same = ap (price_at b) around.cycle.closed in
       omega (arith, ints, split, down_side.paid, up_side.paid, turned_reduced b k (entering b k).back, same)
 
@@ -191,7 +191,7 @@ module _ (b : TreeStructure) (k apex : ℕ) (ok : IsBasis b) (el : IsEligible b 
   round_surplus x v h =
       let node = subst (λ g. IsNode (node_count g) v) (along_net (full_state b) (cycle_of b (entering b k) apex) x) h in
       let moves =
-      moved_along (full_state b) (cycle_of b (entering b k) apex) x (left_node b k (left_steps b k apex)) (right_node b k (right_steps b k apex))
+      moved_along (full_state b) (cycle_of b (entering b k) apex) x (side_node b k true (side_steps b k apex true)) (side_node b k false (side_steps b k apex false))
       ok.flow.one_per_label (cycle_labels b k apex ok el around) closed_walk v in
       omega (arith, ints, moves, ok.flow.no_surplus v node, ap (λ u. when (eqb u v) x) around.cycle.closed)
 

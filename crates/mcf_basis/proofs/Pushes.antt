@@ -1,6 +1,7 @@
 -- Arcs by their labels, what they can still carry, and what a push along an arc leaves of its room.
-use Rattle.std.proofs.Common.{◌≡◌, ◌≢◌, ℕ, zero, suc, ◌<◌, ◌≤◌, ◌⊎◌, inl, inr, List, length, Option, Some, None, sym, ap, ◌∙◌, arith, ℤ, pos, ◌+ℤ◌, ◌≤ℤ◌}
-use Rattle.std.specs.Prelude.{slice_index}
+use Rattle.std.proofs.Common.{◌≡◌, ◌≢◌, ℕ, zero, suc, ◌<◌, ◌≤◌, ◌⊎◌, inl, inr, List, length, Option, Some, None, sym, ap, ◌∙◌, arith, ℤ, pos, ◌+ℤ◌, ◌≤ℤ◌, Bool}
+use Rattle.std.proofs.Common.{true, false}
+use Rattle.std.specs.Prelude.{slice_index, if◌then◌else◌}
 use Rattle.std.proofs.lemmas.Bool.{cases_eq}
 use Rattle.std.proofs.lemmas.Int.{ints}
 use Rattle.mcf_links.specs.Rooted.{climb, IsRooted}
@@ -35,27 +36,24 @@ pub record IsTreeOf (g : Arcs) (ps ls : List ℕ) (d : ℕ → ℕ) : Type 0 whe
   pub rooted : IsRooted ps d
   pub joined : (v : ℕ) → 0 < v → v < length ps → JoinsEnds g (slice_index ls v) v (slice_index ps v)
 
--- The arc enter leads from a to b. From a the path goes up i nodes to the apex, from b it goes up j
--- nodes.
-pub record IsCycle (g : Arcs) (ps ls : List ℕ) (d : ℕ → ℕ) (enter a b i j : ℕ) : Type 0 where
-  pub left_in_range : a < length ps
-  pub right_in_range : b < length ps
-  pub left_short : i ≤ d a
-  pub right_short : j ≤ d b
-  pub closed : climb ps i a ≡ climb ps j b
-  pub apart : a ≢ b
-  pub joined : JoinsEnds g enter a b
+-- The arc enter leads from the end of the left side (true) to that of the right one (false). From
+-- either end the path goes up to the apex, by this many steps.
+pub record IsCycle (g : Arcs) (ps ls : List ℕ) (d : ℕ → ℕ) (enter : ℕ) (end steps : Bool → ℕ) : Type 0 where
+  pub in_range : (side : Bool) → end side < length ps
+  pub short : (side : Bool) → steps side ≤ d (end side)
+  pub closed : climb ps (steps true) (end true) ≡ climb ps (steps false) (end false)
+  pub apart : end true ≢ end false
+  pub joined : JoinsEnds g enter (end true) (end false)
   pub outside : (v : ℕ) → 0 < v → v < length ps → slice_index ls v ≢ enter
 
--- delta goes down from the apex to a, over the entering arc and up from b to the apex, and no other
--- amount changes
-pub record IsPushed (g : Arcs) (ps ls : List ℕ) (old new : ℕ → ℤ) (enter a b i j : ℕ) (delta : ℤ) : Type 0 where
+-- delta goes down the left side, over the entering arc and up the right side, and no other amount
+-- changes
+pub record IsPushed (g : Arcs) (ps ls : List ℕ) (old new : ℕ → ℤ) (enter : ℕ) (end steps : Bool → ℕ) (delta : ℤ) : Type 0 where
   pub some : pos 0 ≤ℤ delta
-  pub left : (k : ℕ) → k < i → Leaves g old new (slice_index ls (climb ps k a)) (slice_index ps (climb ps k a)) delta
-  pub entering : Leaves g old new enter a delta
-  pub right : (k : ℕ) → k < j → Leaves g old new (slice_index ls (climb ps k b)) (climb ps k b) delta
-  pub others : (arc : ℕ) → arc ≢ enter → ((k : ℕ) → k < i → arc ≢ slice_index ls (climb ps k a))
-      → ((k : ℕ) → k < j → arc ≢ slice_index ls (climb ps k b)) → new arc ≡ old arc
+  pub side : (side : Bool) (k : ℕ) → k < steps side → Leaves g old new (slice_index ls (climb ps k (end side)))
+      (if side then slice_index ps (climb ps k (end side)) else climb ps k (end side)) delta
+  pub entering : Leaves g old new enter (end true) delta
+  pub others : (arc : ℕ) → arc ≢ enter → ((side : Bool) (k : ℕ) → k < steps side → arc ≢ slice_index ls (climb ps k (end side))) → new arc ≡ old arc
 
 -- each arc of the tree has room toward the root
 pub record HasRoomUp (g : Arcs) (ps ls : List ℕ) (amount : ℕ → ℤ) : Type 0 where
@@ -112,7 +110,11 @@ CanLeave-same e c = record {
   backward = λ t. rw e (c.backward t);
 }
 
--- ---- a number among those of a table
+-- ---- both sides, and a number among those of a table
+
+pub each_side : (P : Bool → Type 0) → P true → P false → (side : Bool) → P side
+each_side P left right true = left
+each_side P left right false = right
 
 pub record IsFound (f : ℕ → ℕ) (n x : ℕ) : Type 0 where
   pub at : ℕ
@@ -130,5 +132,22 @@ cases_found f (suc n) x =
           | inl e ↦ (λ q. ne (ap f (sym e) ∙ q))
           | inr other ↦ none i (omega arith)
         ])
+      ]
+    ]
+
+-- the same of a table for each side
+pub record IsOnSide (f : Bool → ℕ → ℕ) (n : Bool → ℕ) (x : ℕ) : Type 0 where
+  pub side : Bool
+  pub at : ℕ
+  pub short : at < n side
+  pub is : f side at ≡ x
+
+pub cases_sides : (f : Bool → ℕ → ℕ) (n : Bool → ℕ) (x : ℕ) → IsOnSide f n x ⊎ ((side : Bool) (i : ℕ) → i < n side → f side i ≢ x)
+cases_sides f n x =
+    elim (cases_found (f true) (n true) x) [
+      | inl t ↦ inl (record { side = true; at = t.at; short = t.short; is = t.is })
+      | inr left ↦ elim (cases_found (f false) (n false) x) [
+        | inl t ↦ inl (record { side = false; at = t.at; short = t.short; is = t.is })
+        | inr right ↦ inr (each_side (λ side. (i : ℕ) → i < n side → f side i ≢ x) left right)
       ]
     ]

@@ -1,6 +1,6 @@
 -- A pivot keeps a basis strongly feasible.
-use Rattle.std.proofs.Common.{◌≡◌, ◌≢◌, ℕ, zero, ◌+◌, ◌-◌, ◌<◌, ◌≤◌, ◌&&◌, ◌⊎◌, inl, inr, Bool, true, false, not, eqb, cond, List, length, Some, None, sym, ap, ◌∙◌, subst}
-use Rattle.std.proofs.Common.{arith, refl, ℤ, pos, ◌+ℤ◌, ◌≤ℤ◌}
+use Rattle.std.proofs.Common.{◌≡◌, ◌≢◌, ℕ, zero, ◌+◌, ◌-◌, ◌<◌, ◌≤◌, ◌&&◌, ◌⊎◌, inl, inr, Bool, true, false, not, eqb, cond, List, length, Some, None, sym, ap}
+use Rattle.std.proofs.Common.{◌∙◌, subst, arith, refl, ℤ, pos, ◌+ℤ◌, ◌≤ℤ◌}
 use Rattle.std.specs.Prelude.{nat_le, slice_index_or, int_lt, if◌then◌else◌}
 use Rattle.std.proofs.lemmas.Bool.{and_from, and_parts, cases_Bool, cases_lt, eq-eqb, eqb-true, le-leb, leb-true, ne_eqb, true≢false}
 use Rattle.std.proofs.lemmas.Bool.Decides.{nat_tests}
@@ -17,14 +17,13 @@ use Rattle.mcf_basis.specs.Bases.{CanHold, HasTreeArc, IsBasis, IsStronglyFeasib
 use Rattle.mcf_basis.specs.Pivots.{IsEligible, IsExchanged, IsMended, IsPivot, entering}
 use Rattle.mcf_basis.specs.Pivots.IsMended.{kept, exchanged}
 use Rattle.mcf_basis.specs.Structures.{TreeStructure, CanTake, carried, leaving, reduced_at}
-use Rattle.mcf_basis.proofs.Around.{IsAround, IsLeaving, WentRound, arcs_of, from_of, left_node, right_node, right_steps}
-use Rattle.mcf_basis.proofs.Around.{round_amount, to_of, up_arc}
+use Rattle.mcf_basis.proofs.Around.{IsAround, IsLeaving, WentRound, arcs_of, from_of, round_amount, to_of, up_arc, side_steps, side_node}
 use Rattle.mcf_basis.proofs.Around.IsLeaving.{right, enter, left}
 use Rattle.mcf_basis.proofs.CyclePlaces.{last_at, up_all, up_at}
 use Rattle.mcf_basis.proofs.Cycles.{around, below_apex}
 use Rattle.mcf_basis.proofs.Labels.{own_label}
 use Rattle.mcf_basis.proofs.LastBases.{zero_or_more}
-use Rattle.mcf_basis.proofs.Pushed.{cycle_labels, left_step, right_outside, right_step, round_at, step_of}
+use Rattle.mcf_basis.proofs.Pushed.{cycle_labels, round_at, step_of, side_step, side_outside}
 use Rattle.mcf_basis.proofs.Pushes.{CanLeave, CanLeave-same, HasRoomUp, IsWithin}
 use Rattle.mcf_basis.proofs.StrongPivot.{step_at, strong_entering, strong_left, strong_right}
 
@@ -136,15 +135,15 @@ module _ (old : TreeStructure) (k apex : ℕ) (moved : ℤ) (ok : IsBasis old) (
       leave_of_take (subst (λ r. CanTake old r (moved +ℤ pos 1)) (entering_leaves old k is_around.cycle.apart) can)
 
   -- what blocks on the right had room for 1, so something moves
-  some_moves : (m : ℕ) → m < right_steps old k apex → ¬ CanTake old (up_arc old (right_node old k m)) (moved +ℤ pos 1) → pos 1 ≤ℤ moved
+  some_moves : (m : ℕ) → m < side_steps old k apex false → ¬ CanTake old (up_arc old (side_node old k false m)) (moved +ℤ pos 1) → pos 1 ≤ℤ moved
   some_moves m h full = elim (zero_or_more moved went.some) [
-    | inl none ↦ absurd (let w = right_step old k apex ok eligible is_around m h in
-        full (subst (λ z. CanTake old (up_arc old (right_node old k m)) (z +ℤ pos 1)) (sym none) (strong_up old ok (right_node old k m) w.above w.within)))
+    | inl none ↦ absurd (let w = side_step old k apex ok eligible is_around false m h in
+        full (subst (λ z. CanTake old (up_arc old (side_node old k false m)) (z +ℤ pos 1)) (sym none) (strong_up old ok (side_node old k false m) w.above w.within)))
     | inr some ↦ omega (arith, ints, some)
   ]
 
   -- the tree stays
-  pub stays : ((p : ℕ) → p < right_steps old k apex → CanTake old (up_arc old (right_node old k p)) (moved +ℤ pos 1)) → HasRoom old.tree.parents old.tree.labels
+  pub stays : ((p : ℕ) → p < side_steps old k apex false → CanTake old (up_arc old (side_node old k false p)) (moved +ℤ pos 1)) → HasRoom old.tree.parents old.tree.labels
   stays free =
       strong_entering is_around.tree is_around.cycle went (fits old ok) (not_below old ok) (room_of_strong old ok)
       (λ p l. leave_of_take (free p l))
@@ -152,11 +151,11 @@ module _ (old : TreeStructure) (k apex : ℕ) (moved : ℤ) (ok : IsBasis old) (
   module _ (out inner outer : ℕ) (new : TreeStructure) (x : IsExchanged old (entering old k) out inner outer new) where
     exchanged_room : (q : Rid) → q.arc ≡ label_of old.tree out → IsLeaving old k apex moved q → HasRoom new.tree.parents new.tree.labels
     exchanged_room q named (right m h is full free) =
-        let at_out : out ≡ right_node old k m =
-        step_of old k apex ok eligible is_around (right_step old k apex ok eligible is_around m h) x.is_node
+        let at_out : out ≡ side_node old k false m =
+        step_of old k apex ok eligible is_around (side_step old k apex ok eligible is_around false m h) x.is_node
         (sym (ap (λ r. r.arc) is) ∙ named) in
         elim x.ends [
-          | inl e ↦ absurd (below_apex ok.spanning.rooted is_around.cycle.right_in_range h at_out
+          | inl e ↦ absurd (below_apex ok.spanning.rooted (is_around.cycle.in_range false) h at_out
               (subst (λ v. IsOnPath old.tree.parents v out) e.0 x.inside) (λ y p q. is_apex.deepest y q p))
           | inr e ↦ strong_right is_around.tree is_around.cycle went (fits old ok) (not_below old ok) (room_of_strong old ok)
               m new.tree.parents new.tree.labels h
@@ -166,23 +165,23 @@ module _ (old : TreeStructure) (k apex : ℕ) (moved : ℤ) (ok : IsBasis old) (
     exchanged_room q named (enter is full free) =
         absurd (eligible.outside (record { node = out; is_node = x.is_node; labelled = sym named ∙ ap (λ r. r.arc) is }))
     exchanged_room q named (left m h is full free first above) =
-        let at_out : out ≡ left_node old k m =
-        step_of old k apex ok eligible is_around (left_step old k apex ok eligible is_around m h) x.is_node
+        let at_out : out ≡ side_node old k true m =
+        step_of old k apex ok eligible is_around (side_step old k apex ok eligible is_around true m h) x.is_node
         (sym (ap (λ r. r.arc) is) ∙ named) in
         elim x.ends [
           | inl e ↦ strong_left is_around.tree is_around.cycle went (fits old ok) (not_below old ok) (room_of_strong old ok)
               m new.tree.parents new.tree.labels h
               (rw (at_out, e.0, e.1) at x.swapped.parents) (rw (at_out, e.0) at x.swapped.labels)
               (λ p l. leave_of_take (free p l)) (enter_room first) (λ p l. leave_of_take (above p l))
-          | inr e ↦ absurd (below_apex ok.spanning.rooted is_around.cycle.left_in_range h at_out
+          | inr e ↦ absurd (below_apex ok.spanning.rooted (is_around.cycle.in_range true) h at_out
               (subst (λ v. IsOnPath old.tree.parents v out) e.0 x.inside) is_apex.deepest)
         ]
 
   -- where the entering arc leaves at once, no arc on the right blocks
   kept_room : (q : Rid) → q ≡ entering old k → IsLeaving old k apex moved q
-      → (p : ℕ) → p < right_steps old k apex → CanTake old (up_arc old (right_node old k p)) (moved +ℤ pos 1)
+      → (p : ℕ) → p < side_steps old k apex false → CanTake old (up_arc old (side_node old k false p)) (moved +ℤ pos 1)
   kept_room q same (right m h is full free) p l =
-      absurd (right_outside old k apex ok eligible is_around m h (sym (ap (λ (r : Rid). r.arc) is) ∙ ap (λ (r : Rid). r.arc) same))
+      absurd (side_outside old k apex ok eligible is_around false m h (sym (ap (λ (r : Rid). r.arc) is) ∙ ap (λ (r : Rid). r.arc) same))
   kept_room q same (enter is full free) p l = free p l
   kept_room q same (left m h is full free first above) p l = above p l
 

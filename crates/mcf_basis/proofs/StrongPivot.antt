@@ -1,11 +1,12 @@
 -- A pivot keeps the tree strongly feasible, over arcs and amounts by their labels.
-use Rattle.std.proofs.Common.{◌≡◌, ◌≢◌, ℕ, zero, suc, ◌+◌, ◌-◌, ◌<◌, ◌≤◌, List, length, sym, ap, ◌∙◌, arith, inl, inr, ◌⊎◌, ℤ, pos, ◌+ℤ◌, ◌≤ℤ◌}
+use Rattle.std.proofs.Common.{◌≡◌, ◌≢◌, ℕ, zero, suc, ◌+◌, ◌-◌, ◌<◌, ◌≤◌, List, length, sym, ap, ◌∙◌, arith, inl, inr, ◌⊎◌, ℤ, pos, ◌+ℤ◌, ◌≤ℤ◌, Bool, true}
+use Rattle.std.proofs.Common.{false, refl}
 use Rattle.std.specs.Prelude.{slice_index}
-use Rattle.std.proofs.lemmas.Bool.{cases_eq, cases_lt}
+use Rattle.std.proofs.lemmas.Bool.{cases_eq, cases_lt, true≢false}
 use Rattle.mcf_links.specs.Rooted.{climb, IsRooted, IsTurned, IsRelabelled}
 use Rattle.mcf_links.proofs.Paths.{climb-within, climb-suc, depth-climb, above_root}
 use Rattle.mcf_basis.proofs.Pushes.{Arcs, IsWithin, JoinsEnds, CanLeave, IsTreeOf, IsCycle, IsPushed, HasRoomUp, CanLeave-back, CanLeave-more, CanLeave-kept}
-use Rattle.mcf_basis.proofs.Pushes.{CanLeave-same, CanLeave-le, JoinsEnds-sym, cases_found}
+use Rattle.mcf_basis.proofs.Pushes.{CanLeave-same, CanLeave-le, JoinsEnds-sym, cases_found, cases_sides}
 use Rattle.mcf_basis.proofs.Pushes.JoinsEnds.{out_of, into}
 
 -- v is one of the first n nodes of the path from a
@@ -103,91 +104,82 @@ each_turned {ps} {qs} {inner} {outer} m rooted in_range short turned relabelled 
     each_moved m (slice_index ps) (slice_index qs) outer (λ k. climb ps k inner) rooted in_range short relabelled
     turned.joined turned.turned turned.kept
 
-module _ {g : Arcs} {ps ls : List ℕ} {d : ℕ → ℕ} {old new : ℕ → ℤ} {enter a b i j : ℕ} {delta : ℤ}
-    (tree : IsTreeOf g ps ls d) (cycle : IsCycle g ps ls d enter a b i j) (push : IsPushed g ps ls old new enter a b i j delta)
+module _ {g : Arcs} {ps ls : List ℕ} {d : ℕ → ℕ} {old new : ℕ → ℤ} {enter : ℕ} {end steps : Bool → ℕ} {delta : ℤ}
+    (tree : IsTreeOf g ps ls d) (cycle : IsCycle g ps ls d enter end steps) (push : IsPushed g ps ls old new enter end steps delta)
     (fits : (arc : ℕ) → IsWithin (g.limit arc) (old arc)) (low : (arc : ℕ) → pos 0 ≤ℤ old arc) (strong : HasRoomUp g ps ls old) where
-  left_at : (k : ℕ) → k < i → IsStep ps d a k
-  left_at k lt = step_at tree.rooted a i k cycle.left_in_range cycle.left_short lt
+  abbrev node : Bool → ℕ → ℕ
+  node side k = climb ps k (end side)
 
-  right_at : (k : ℕ) → k < j → IsStep ps d b k
-  right_at k lt = step_at tree.rooted b j k cycle.right_in_range cycle.right_short lt
+  -- an amount can leave a node of a side along the arc above it
+  abbrev CanGoUp : (ℕ → ℤ) → Bool → ℕ → ℤ → Type 0
+  CanGoUp amount side k x = CanLeave g amount (slice_index ls (node side k)) (node side k) x
 
-  -- the arc above a node of the path from a, from its upper end
-  left_joins : (k : ℕ) → k < i → JoinsEnds g (slice_index ls (climb ps k a)) (slice_index ps (climb ps k a)) (climb ps k a)
-  left_joins k lt =
-      let w = left_at k lt in
-      JoinsEnds-sym (tree.joined (climb ps k a) w.above w.within)
+  side_at : (side : Bool) (k : ℕ) → k < steps side → IsStep ps d (end side) k
+  side_at side k lt = step_at tree.rooted (end side) (steps side) k (cycle.in_range side) (cycle.short side) lt
 
-  -- a node whose path from a goes down keeps its room toward the root
-  kept_left : (k : ℕ) → k < i → CanLeave g new (slice_index ls (climb ps k a)) (climb ps k a) (pos 1)
-  kept_left k lt =
-      let w = left_at k lt in
-      CanLeave-kept (λ e. parent_apart tree.rooted (climb ps k a) w.above w.within (sym e)) (left_joins k lt) (push.left k lt)
-      push.some (strong.room (climb ps k a) w.above w.within)
+  side_apart : (side : Bool) (k : ℕ) → k < steps side → node side k ≢ slice_index ps (node side k)
+  side_apart side k lt = let w = side_at side k lt in parent_apart tree.rooted (node side k) w.above w.within
 
-  -- where an arc up from b doesn't block, its node keeps room
-  kept_right : (k : ℕ) → k < j → CanLeave g old (slice_index ls (climb ps k b)) (climb ps k b) (delta +ℤ pos 1)
-      → CanLeave g new (slice_index ls (climb ps k b)) (climb ps k b) (pos 1)
-  kept_right k lt room =
-      let w = right_at k lt in
-      CanLeave-more (parent_apart tree.rooted (climb ps k b) w.above w.within) (tree.joined (climb ps k b) w.above w.within)
-      (push.right k lt) room
+  side_joins : (side : Bool) (k : ℕ) → k < steps side → JoinsEnds g (slice_index ls (node side k)) (node side k) (slice_index ps (node side k))
+  side_joins side k lt = let w = side_at side k lt in tree.joined (node side k) w.above w.within
 
-  kept_other : (v : ℕ) → 0 < v → v < length ps → ((k : ℕ) → k < i → v ≢ climb ps k a) → ((k : ℕ) → k < j → v ≢ climb ps k b)
-      → CanLeave g new (slice_index ls v) v (pos 1)
-  kept_other v p h off_left off_right =
-      CanLeave-same (push.others (slice_index ls v) (cycle.outside v p h)
-      (λ k lt. (let w = left_at k lt in labels_apart tree v (climb ps k a) p h w.above w.within (off_left k lt)))
-      (λ k lt. (let w = right_at k lt in labels_apart tree v (climb ps k b) p h w.above w.within (off_right k lt))))
-      (strong.room v p h)
+  -- a node of the left side keeps its room toward the root, and so does one of the right side whose
+  -- arc doesn't block
+  kept_side : (side : Bool) (k : ℕ) → k < steps side → (side ≡ false → CanGoUp old side k (delta +ℤ pos 1)) → CanGoUp new side k (pos 1)
+  kept_side true k lt room =
+      let w = side_at true k lt in
+      CanLeave-kept (λ e. side_apart true k lt (sym e)) (JoinsEnds-sym (side_joins true k lt)) (push.side true k lt)
+      push.some (strong.room (node true k) w.above w.within)
+  kept_side false k lt room = CanLeave-more (side_apart false k lt) (side_joins false k lt) (push.side false k lt) (room refl)
 
   -- what the arcs that stay with their node leave it
-  pub kept : (v : ℕ) → 0 < v → v < length ps → ((k : ℕ) → k < j → v ≡ climb ps k b → CanLeave g old (slice_index ls (climb ps k b)) (climb ps k b) (delta +ℤ pos 1))
+  pub kept : (v : ℕ) → 0 < v → v < length ps → ((k : ℕ) → k < steps false → v ≡ node false k → CanGoUp old false k (delta +ℤ pos 1))
       → CanLeave g new (slice_index ls v) v (pos 1)
   kept v p h room =
-      elim (cases_walk ps a i v) [
-        | inl w ↦ (rw w.leads (kept_left w.at w.short))
-        | inr off_left ↦ elim (cases_walk ps b j v) [
-          | inl w ↦ (rw w.leads (kept_right w.at w.short (room w.at w.short w.leads)))
-          | inr off_right ↦ kept_other v p h off_left off_right
-        ]
+      elim (cases_sides node steps v) [
+        | inl w ↦ rw (sym w.is) (kept_side w.side w.at w.short (on_right w.side w.at w.short w.is))
+        | inr off ↦ CanLeave-same (push.others (slice_index ls v) (cycle.outside v p h) (λ side k lt.
+            let w = side_at side k lt in labels_apart tree v (node side k) p h w.above w.within (λ e. off side k lt (sym e)))) (strong.room v p h)
       ]
+    where
+      on_right : (side : Bool) (k : ℕ) → k < steps side → node side k ≡ v → side ≡ false → CanGoUp old side k (delta +ℤ pos 1)
+      on_right true k lt e right = absurd (true≢false right)
+      on_right false k lt e right = room k lt (sym e)
 
   -- the entering arc leaves at once: the tree stays
-  pub strong_entering : ((k : ℕ) → k < j → CanLeave g old (slice_index ls (climb ps k b)) (climb ps k b) (delta +ℤ pos 1)) → HasRoomUp g ps ls new
+  pub strong_entering : ((k : ℕ) → k < steps false → CanGoUp old false k (delta +ℤ pos 1)) → HasRoomUp g ps ls new
   strong_entering room = record { room = λ v p h. kept v p h (λ k lt e. room k lt) }
 
-  -- an arc on b's side leaves, and something moves
-  pub strong_right : (m : ℕ) (qs ms : List ℕ) → m < j → IsTurned ps qs d (climb ps m b) b a → IsRelabelled ps ls ms d (climb ps m b) enter b → pos 1 ≤ℤ delta
-      → ((k : ℕ) → m < k → k < j → CanLeave g old (slice_index ls (climb ps k b)) (climb ps k b) (delta +ℤ pos 1)) → HasRoomUp g qs ms new
+  -- an arc of the right side leaves, and something moves
+  pub strong_right : (m : ℕ) (qs ms : List ℕ) → m < steps false → IsTurned ps qs d (node false m) (end false) (end true)
+      → IsRelabelled ps ls ms d (node false m) enter (end false) → pos 1 ≤ℤ delta
+      → ((k : ℕ) → m < k → k < steps false → CanGoUp old false k (delta +ℤ pos 1)) → HasRoomUp g qs ms new
   strong_right m qs ms in_walk turned relabelled positive room = record {
     room = λ v p h. (let size : length qs ≡ length ps = turned.size in
-        let short : j ≤ d b = cycle.right_short in
-        each_turned m tree.rooted cycle.right_in_range (omega arith) turned relabelled (λ arc u w. CanLeave g new arc u (pos 1)) v
+        let short : steps false ≤ d (end false) = cycle.short false in
+        each_turned m tree.rooted (cycle.in_range false) (omega arith) turned relabelled (λ arc u w. CanLeave g new arc u (pos 1)) v
         (CanLeave-le positive (CanLeave-back cycle.apart cycle.joined push.entering (fits enter) (low enter)))
-        (λ k lt. (let w = right_at k (omega arith) in
-        CanLeave-le positive (CanLeave-back (parent_apart tree.rooted (climb ps k b) w.above w.within)
-        (tree.joined (climb ps k b) w.above w.within) (push.right k (omega arith))
-        (fits (slice_index ls (climb ps k b))) (low (slice_index ls (climb ps k b))))))
+        (λ k lt. (let h : k < steps false = omega arith in
+        CanLeave-le positive (CanLeave-back (side_apart false k h) (side_joins false k h) (push.side false k h)
+        (fits (slice_index ls (node false k))) (low (slice_index ls (node false k))))))
         (λ off. kept v p (omega arith) (λ k lt e. elim (cases_lt m k) [
           | inl beyond ↦ room k beyond lt
           | inr within ↦ absurd (off k (omega arith) e)
         ])));
   }
 
-  -- an arc on a's side leaves
-  pub strong_left : (m : ℕ) (qs ms : List ℕ) → m < i → IsTurned ps qs d (climb ps m a) a b → IsRelabelled ps ls ms d (climb ps m a) enter a
-      → ((k : ℕ) → k < m → CanLeave g old (slice_index ls (climb ps k a)) (slice_index ps (climb ps k a)) (delta +ℤ pos 1))
-      → CanLeave g old enter a (delta +ℤ pos 1)
-      → ((k : ℕ) → k < j → CanLeave g old (slice_index ls (climb ps k b)) (climb ps k b) (delta +ℤ pos 1)) → HasRoomUp g qs ms new
+  -- an arc of the left side leaves
+  pub strong_left : (m : ℕ) (qs ms : List ℕ) → m < steps true → IsTurned ps qs d (node true m) (end true) (end false)
+      → IsRelabelled ps ls ms d (node true m) enter (end true)
+      → ((k : ℕ) → k < m → CanLeave g old (slice_index ls (node true k)) (slice_index ps (node true k)) (delta +ℤ pos 1))
+      → CanLeave g old enter (end true) (delta +ℤ pos 1) → ((k : ℕ) → k < steps false → CanGoUp old false k (delta +ℤ pos 1)) → HasRoomUp g qs ms new
   strong_left m qs ms in_walk turned relabelled room_left room_entering room_right = record {
     room = λ v p h. (let size : length qs ≡ length ps = turned.size in
-        let short : i ≤ d a = cycle.left_short in
-        each_turned m tree.rooted cycle.left_in_range (omega arith) turned relabelled (λ arc u w. CanLeave g new arc u (pos 1)) v
+        let short : steps true ≤ d (end true) = cycle.short true in
+        each_turned m tree.rooted (cycle.in_range true) (omega arith) turned relabelled (λ arc u w. CanLeave g new arc u (pos 1)) v
         (CanLeave-more cycle.apart cycle.joined push.entering room_entering)
-        (λ k lt. (let w = left_at k (omega arith) in
-        CanLeave-more (λ e. parent_apart tree.rooted (climb ps k a) w.above w.within (sym e)) (left_joins k (omega arith))
-        (push.left k (omega arith)) (room_left k lt)))
+        (λ k lt. (let h : k < steps true = omega arith in
+        CanLeave-more (λ e. side_apart true k h (sym e)) (JoinsEnds-sym (side_joins true k h)) (push.side true k h) (room_left k lt)))
         (λ off. kept v p (omega arith) (λ k lt e. room_right k lt)));
   }
 

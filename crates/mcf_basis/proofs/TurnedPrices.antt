@@ -23,9 +23,9 @@ use Rattle.mcf_basis.proofs.Around.{from_of, to_of}
 use Rattle.mcf_basis.proofs.Offers.{offered, own_nodes_of, read_offer}
 use Rattle.mcf_basis.proofs.Spreads.{near_moved, near_spread, reduced_is_shown}
 use Rattle.mcf_basis.proofs.TreePrices.{IsNear, below_price, near_price}
-use Rattle.mcf_basis.proofs.TurnedStart.{in_net, offer_ends}
+use Rattle.mcf_basis.proofs.TurnedStart.{offer_ends}
 
-pub inner_in : (side : Bool) (a b n : ℕ) → a < n → b < n → inner_of side a b < n
+inner_in : (side : Bool) (a b n : ℕ) → a < n → b < n → inner_of side a b < n
 inner_in side a b n h k = grind arith
 
 pub outer_in : (side : Bool) (a b n : ℕ) → a < n → b < n → outer_of side a b < n
@@ -37,9 +37,9 @@ outer_above side a b h k = grind arith
 -- the offer of an arc that can enter, and its ends
 module _ (l : Layout) (k : ℕ) (ok : IsLaidOut l) (el : IsEligible (basis_in l) k) where
   own_nodes : (0 < (offer_at l k).from) × (0 < (offer_at l k).to)
-  own_nodes = elim (own_nodes_of l k ok (in_net l k ok el)) [
+  own_nodes = elim (own_nodes_of l k ok el.arc) [
     | nodes from to ↦ (from, to)
-    | nothing e ↦ absurd (let lt = rw e at (read_offer l k ok (in_net l k ok el)).only el in omega (arith, ints, lt))
+    | nothing e ↦ absurd (let lt = rw e at (read_offer l k ok el.arc).only el in omega (arith, ints, lt))
   ]
 
   abbrev reach : ℕ
@@ -51,7 +51,7 @@ module _ (l : Layout) (k : ℕ) (ok : IsLaidOut l) (el : IsEligible (basis_in l)
   pub change_is_shown : IsShown l.table.gap (change_limit (l.table.limit - l.table.gap)) (offered (basis_in l) (offer_at l k))
   change_is_shown =
       let o = offer_at l k in
-      let read = read_offer l k ok (in_net l k ok el) in
+      let read = read_offer l k ok el.arc in
       reduced_is_shown l.net l.table.gap l.table.limit reach o.cost (price_at (basis_in l) o.from) (price_at (basis_in l) o.to) read.cost ok.gap
       (λ le. le) ok.fits (near o.from own_nodes.0 read.from) (near o.to own_nodes.1 read.to)
 
@@ -78,7 +78,7 @@ module _ (l : Layout) (k : ℕ) (ok : IsLaidOut l) (el : IsEligible (basis_in l)
     still_spread_at =
         let o = offer_at l k in
         let p = price_of l.table in
-        let read = read_offer l k ok (in_net l k ok el) in
+        let read = read_offer l k ok el.arc in
         let ends = offer_ends l k ok el in
         let inner = inner_of side o.from o.to in
         let outer = outer_of side o.from o.to in
