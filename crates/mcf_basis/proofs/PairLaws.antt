@@ -56,7 +56,7 @@ module _ (old new : TreeStructure) (k : ℕ) (moved : ℤ) (ok : IsBasis old) (p
   cost_after : full_cost new ≡ full_cost old +ℤ moved *ℤ entering_cost old k
   cost_after =
       ap (λ g. cost (with_artificial g).arcs new.amounts) pivot.net
-      ∙ (ap (λ amounts. cost (with_artificial old.net).arcs amounts) pivot.amounts ∙ round_cost old k pivot.apex ok pivot.eligible is_around moved)
+      ∙ (ap (λ amounts. cost (with_artificial old.net).arcs amounts) pivot.amounts ∙ round_cost is_around moved)
 
   -- where something moves, the cost falls
   cost_falls : pos 0 <ℤ moved → full_cost new <ℤ full_cost old
@@ -130,7 +130,7 @@ module _ (old new : TreeStructure) (k : ℕ) (moved : ℤ) (ok : IsBasis old) (p
       IsExchanged old (entering old k) out inner outer new → price_sum new <ℤ price_sum old
   left_falls m out inner outer h named x =
       let is : out ≡ side_node old k true m =
-      step_of old k pivot.apex ok pivot.eligible is_around (side_step old k pivot.apex ok pivot.eligible is_around true m h) x.is_node named in
+      step_of is_around (side_step is_around true m h) x.is_node named in
       elim x.ends [
         | inl e ↦ prices_fall out inner outer x e.0 e.1
         | inr e ↦ absurd (x.outside (record { steps = m; leads = ap (climb old.tree.parents m) e.1 ∙ sym is }))
@@ -143,17 +143,17 @@ module _ (old new : TreeStructure) (k : ℕ) (moved : ℤ) (ok : IsBasis old) (p
 
     still_falls : (q : Rid) → IsLeaving old k pivot.apex moved q → IsMended old (entering old k) q new → price_sum new <ℤ price_sum old
     still_falls q (right m h is full free) mended =
-        absurd (let step = side_step old k pivot.apex ok pivot.eligible is_around false m h in
+        absurd (let step = side_step is_around false m h in
         one_more q full (subst (λ r. CanTake old r (pos 1)) (sym is) (strong_up old ok (side_node old k false m) step.above step.within)))
     still_falls q (enter is full free) mended =
         absurd (one_more q full (subst (λ r. CanTake old r (pos 1)) (sym is) (entering_takes old k pivot.eligible)))
     still_falls q (left m h is full free first above) (kept same stay) =
-        absurd (side_outside old k pivot.apex ok pivot.eligible is_around true m h (sym (ap (λ (r : Rid). r.arc) is) ∙ ap (λ (r : Rid). r.arc) same))
+        absurd (side_outside is_around true m h (sym (ap (λ (r : Rid). r.arc) is) ∙ ap (λ (r : Rid). r.arc) same))
     still_falls q (left m h is full free first above) (exchanged out inner outer named x) =
         left_falls m out inner outer h (sym (ap (λ (r : Rid). r.arc) is) ∙ named) x
 
   leaves : IsLeaving old k pivot.apex moved pivot.leaves
-  leaves = (leaving_of_last old k pivot.apex moved pivot.leaves ok is_around pivot.last_blocking).0
+  leaves = (leaving_of_last old k pivot.apex moved pivot.leaves pivot.last_blocking).0
 
   pub pair_falls : PairFalls old new
   pair_falls =

@@ -91,7 +91,7 @@ module _ (old new : TreeStructure) (k : ℕ) (moved : ℤ) (ok : IsBasis old) (p
   round_kept : (label : ℕ) → label ≢ k → ¬ IsInTree old label → now label ≡ carried old label
   round_kept label ne out =
       went.others label ne (λ side p h e.
-      out (record { node = side_node old k side p; is_node = side_is_node old k pivot.apex ok pivot.eligible around side p h; labelled = sym e }))
+      out (record { node = side_node old k side p; is_node = side_is_node around side p h; labelled = sym e }))
 
   abbrev IsBound : ℕ → Type 0
   IsBound label = (now label ≡ pos 0) ⊎ ((label ≤ length old.net.arcs) × (now label ≡ (arc_at old.net label).cap))

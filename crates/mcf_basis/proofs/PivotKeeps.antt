@@ -29,10 +29,10 @@ module _ (old new : TreeStructure) (k : ℕ) (moved : ℤ) (ok : IsBasis old) (p
   is_around = around old k pivot.apex ok pivot.eligible pivot.is_apex
 
   leaves : IsLeaving old k pivot.apex moved pivot.leaves × CanGoRound old k pivot.apex moved
-  leaves = leaving_of_last old k pivot.apex moved pivot.leaves ok is_around pivot.last_blocking
+  leaves = leaving_of_last old k pivot.apex moved pivot.leaves pivot.last_blocking
 
   went : WentRound old k pivot.apex moved
-  went = went_round old k pivot.apex moved ok pivot.eligible is_around (moved_low old new k moved ok pivot)
+  went = went_round is_around moved (moved_low old new k moved ok pivot)
 
   -- the amounts went round
   round_state : pushed_along (full_state old) (cycle_of old (entering old k) pivot.apex) moved ≡ full_state new
@@ -46,7 +46,7 @@ module _ (old new : TreeStructure) (k : ℕ) (moved : ℤ) (ok : IsBasis old) (p
     one_per_label = ap (λ (xs : List ℤ). length xs) pivot.amounts
         ∙ (round_count old k pivot.apex moved ok ∙ ap (λ g. length (with_artificial g).arcs) (sym pivot.net));
     within_bounds = new_within old new k moved ok pivot is_around went leaves.1;
-    no_surplus = subst HasNoSurplus round_state (round_surplus old k pivot.apex ok pivot.eligible is_around moved);
+    no_surplus = subst HasNoSurplus round_state (round_surplus is_around moved);
   }
 
   spans : IsSpanning new.tree
@@ -70,7 +70,7 @@ module _ (old new : TreeStructure) (k : ℕ) (moved : ℤ) (ok : IsBasis old) (p
     flow = new_flow;
     at_bounds = new_at_bounds old new k moved ok pivot is_around went leaves.1 leaves.0;
     prices = new_prices old new k moved ok pivot count;
-    strong = strong_kept old new k moved ok pivot spans (new_size old new k moved ok pivot) (new_tree_arcs old new k moved ok pivot) is_around leaves.0 went;
+    strong = strong_kept old new k moved pivot spans (new_size old new k moved ok pivot) (new_tree_arcs old new k moved ok pivot) is_around leaves.0 went;
   }
 
 pub pivots_keep_bases_lem : PivotsKeepBases

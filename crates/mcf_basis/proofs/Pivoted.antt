@@ -40,7 +40,6 @@ pub record IsRoundOf (l : Layout) (k : ℕ) (f : Cycle) : Type 0 where
   pub same_arc : f.arc ≡ k
   pub same_from : f.from ≡ from_of (basis_in l) k
   pub same_to : f.to ≡ to_of (basis_in l) k
-  pub is_apex : IsApex (basis_in l).tree.parents (depth_of (basis_in l).tree) (from_of (basis_in l) k) (to_of (basis_in l) k) f.apex
   pub is_around : IsAround (basis_in l) k f.apex
   pub can : CanGoRound (basis_in l) k f.apex (pos f.amount)
   pub leaves : IsLeaving (basis_in l) k f.apex (pos f.amount) (leaves_by (basis_in l) k f.leaving f.out)
@@ -117,7 +116,6 @@ module _ (l : Layout) (b : TreeStructure) (k : ℕ) (ok : IsLaidOut l) (view : b
           same_arc = arc;
           same_from = from ∙ (ap (λ x. x.from) is ∙ ends.0);
           same_to = to ∙ (ap (λ x. x.to) is ∙ ends.1);
-          is_apex = is_apex;
           is_around = around (basis_in l) k f.apex ok.basis el is_apex;
           can = subst (λ a. CanGoRound (basis_in l) k a (pos f.amount)) turned (chosen_round l k w c ok el wide climbed f.amount f.leaving f.out h);
           leaves = taken.leaves;
@@ -127,7 +125,7 @@ module _ (l : Layout) (b : TreeStructure) (k : ℕ) (ok : IsLaidOut l) (view : b
   module _ (f : Cycle) (round : IsRoundOf l k f) where
     -- what push asks for
     pub push_ready : CanPush l.net l.tree l.residuals l.artificial f.from f.to f.apex f.amount
-    push_ready = rw (round.same_from, round.same_to) (can_push l k f.apex f.amount ok el round.is_apex round.is_around round.can)
+    push_ready = rw (round.same_from, round.same_to) (can_push l k f.apex f.amount ok el round.is_around round.can)
 
     -- what the exchange asks for
     pub replace_ready : (residuals : List Residuals) → length residuals ≡ length l.residuals → f.reduced ≡ offered (basis_in l) (offer_at l k) →
@@ -135,12 +133,12 @@ module _ (l : Layout) (b : TreeStructure) (k : ℕ) (ok : IsLaidOut l) (view : b
     replace_ready residuals size is = record {
       at_once = λ e. rw round.same_arc keep_premises;
       exchanged = λ other. rw (round.same_arc, round.same_from, round.same_to, is)
-          (can_exchange l k f.apex f.amount f.out (is_left f.leaving) (leaves_by (basis_in l) k f.leaving f.out) residuals ok el round.is_apex round.is_around round.can
+          (can_exchange l k f.apex f.amount f.out (is_left f.leaving) (leaves_by (basis_in l) k f.leaving f.out) residuals ok el round.is_around round.can
           (round.is_out other) size);
     }
 
     went : WentRound (basis_in l) k f.apex (pos f.amount)
-    went = went_round (basis_in l) k f.apex (pos f.amount) is_basis el round.is_around (omega (arith, ints))
+    went = went_round round.is_around (pos f.amount) (omega (arith, ints))
 
     -- what the parts leave
     replaced : (t' : SpanningTree) (offers : List ArcOffer) (residuals residuals' : List Residuals) (artificial : List ℤ) (table' : Prices) →
@@ -153,11 +151,11 @@ module _ (l : Layout) (b : TreeStructure) (k : ℕ) (ok : IsLaidOut l) (view : b
         leaving_blocks (basis_in l) k f.apex (pos f.amount) (entering (basis_in l) k)
         (subst (λ w. IsLeaving (basis_in l) k f.apex (pos f.amount) (leaves_by (basis_in l) k w f.out)) e round.leaves) in
         rw (e, tree, same, prices)
-        (kept_pivot l k f.apex f.amount ok el round.is_apex round.is_around round.can went residuals artificial
+        (kept_pivot l k f.apex f.amount ok el round.is_around round.can went residuals artificial
         (rw (round.same_from, round.same_to) at pushed) offers
         (entering_blocks l k ok el f.amount round.can.entering full) (turned ∙ ap (λ a. offers_kept a l.offers) round.same_arc))
     replaced t' offers residuals residuals' artificial table' is pushed (exchanged other h) =
-        exchanged_pivot l k f.apex f.amount ok el round.is_apex round.is_around round.can went residuals artificial
+        exchanged_pivot l k f.apex f.amount ok el round.is_around round.can went residuals artificial
         (rw (round.same_from, round.same_to) at pushed) f.out (is_left f.leaving)
         (leaves_by (basis_in l) k f.leaving f.out) (round.is_out other) t' offers residuals' table'
         (rw (round.same_arc, round.same_from, round.same_to, is) at h)
@@ -167,10 +165,9 @@ module _ (l : Layout) (b : TreeStructure) (k : ℕ) (ok : IsLaidOut l) (view : b
         let pivot : IsPivot (basis_in l) k (pos f.amount) (basis_in l') = record {
           eligible = el;
           apex = f.apex;
-          is_apex = round.is_apex;
+          is_apex = round.is_around.is_apex;
           leaves = leaves_by (basis_in l) k f.leaving f.out;
-          last_blocking = last_of_leaving (basis_in l) k f.apex (pos f.amount) (leaves_by (basis_in l) k f.leaving f.out) is_basis round.is_around
-              round.can round.leaves;
+          last_blocking = last_of_leaving (basis_in l) k f.apex (pos f.amount) (leaves_by (basis_in l) k f.leaving f.out) round.can round.leaves;
           net = h.net;
           amounts = h.amounts;
           mended = h.mended;

@@ -17,7 +17,7 @@ use Rattle.mcf_network.proofs.StateLaws.{read_written, rid, when-other, when-sam
 use Rattle.mcf_tree.specs.SpanningTree.{depth_of, label_of, parent_of}
 use Rattle.mcf_basis.specs.Artificial.{IsLabel, with_artificial}
 use Rattle.mcf_basis.specs.Bases.{IsBasis}
-use Rattle.mcf_basis.specs.Pivots.{IsEligible, entering}
+use Rattle.mcf_basis.specs.Pivots.{entering}
 use Rattle.mcf_basis.specs.Structures.{TreeStructure, carried, cycle_of, full_state}
 use Rattle.mcf_basis.proofs.Around.{IsAround, WentRound, arcs_of, round_amount, side_end, side_steps, side_node}
 use Rattle.mcf_basis.proofs.CyclePlaces.{OnCycle, each_place, on_cycle}
@@ -129,24 +129,24 @@ pub round_at : (b : TreeStructure) (k apex : ℕ) (x : ℤ) (label : ℕ) → 0 
     round_amount b k apex x label ≡ amount_at (pushed_along (full_state b) (cycle_of b (entering b k) apex) x) label
 round_at b k apex x label h = cond-false _ _ _ (ne_eqb label 0 (λ e. omega arith))
 
-module _ (b : TreeStructure) (k apex : ℕ) (ok : IsBasis b) (el : IsEligible b k) (around : IsAround b k apex) where
+module _ {b : TreeStructure} {k apex : ℕ} (around : IsAround b k apex) where
   pub side_step : (side : Bool) (p : ℕ) → p < side_steps b k apex side → IsStep b.tree.parents (depth_of b.tree) (side_end b k side) p
   side_step side p lt =
-      step_at ok.spanning.rooted (side_end b k side) (side_steps b k apex side) p (around.cycle.in_range side) (around.cycle.short side) lt
+      step_at around.basis.spanning.rooted (side_end b k side) (side_steps b k apex side) p (around.cycle.in_range side) (around.cycle.short side) lt
 
   pub side_is_node : (side : Bool) (p : ℕ) → p < side_steps b k apex side → IsNode (node_count b.net) (side_node b k side p)
-  side_is_node side p lt = let one = side_step side p lt in node_of b ok (side_node b k side p) one.above one.within
+  side_is_node side p lt = let one = side_step side p lt in node_of b around.basis (side_node b k side p) one.above one.within
 
   pub cycle_labels : All (λ r. IsLabel b.net r.arc) (cycle_of b (entering b k) apex)
   cycle_labels = each_place b k apex (λ i r. IsLabel b.net r.arc) (record {
-    left = λ i p e. (ok.tree_arcs (side_node b k true p) (side_is_node true p (omega arith))).label;
-    entering = own_label b.net k el.arc;
-    right = λ i p h e. (ok.tree_arcs (side_node b k false p) (side_is_node false p h)).label;
+    left = λ i p e. (around.basis.tree_arcs (side_node b k true p) (side_is_node true p (omega arith))).label;
+    entering = own_label b.net k around.eligible.arc;
+    right = λ i p h e. (around.basis.tree_arcs (side_node b k false p) (side_is_node false p h)).label;
   })
 
   cycle_entries : All (HasEntry b.amounts) (cycle_of b (entering b k) apex)
   cycle_entries =
-      All-weaker (λ r. IsLabel b.net r.arc) (HasEntry b.amounts) (λ r h. (h.0, rw ok.flow.one_per_label h.1)) (cycle_of b (entering b k) apex) cycle_labels
+      All-weaker (λ r. IsLabel b.net r.arc) (HasEntry b.amounts) (λ r h. (h.0, rw around.basis.flow.one_per_label h.1)) (cycle_of b (entering b k) apex) cycle_labels
 
   labels_differ : (s t : Bool) (p q : ℕ) → p < side_steps b k apex s → q < side_steps b k apex t → side_node b k s p ≢ side_node b k t q
       → label_of b.tree (side_node b k s p) ≢ label_of b.tree (side_node b k t q)
@@ -169,7 +169,7 @@ module _ (b : TreeStructure) (k apex : ℕ) (ok : IsBasis b) (el : IsEligible b 
       → label_of b.tree (climb b.tree.parents p v) ≡ label_of b.tree u → u ≡ climb b.tree.parents p v
   step_of {v} {p} {u} w node e =
       same_node around.tree u (climb b.tree.parents p v)
-      (omega (arith, node)) (omega (arith, node, ok.size)) w.above w.within (sym e)
+      (omega (arith, node)) (omega (arith, node, around.basis.size)) w.above w.within (sym e)
 
   pub side_outside : (side : Bool) (p : ℕ) → p < side_steps b k apex side → label_of b.tree (side_node b k side p) ≢ k
   side_outside side p lt = let one = side_step side p lt in around.cycle.outside (side_node b k side p) one.above one.within
@@ -220,8 +220,8 @@ module _ (b : TreeStructure) (k apex : ℕ) (ok : IsBasis b) (el : IsEligible b 
               omega (arith, ints, is, none))
         ]
 
-    pub went_round_by : pos 0 ≤ℤ x → WentRound b k apex x
-    went_round_by low = record {
+    pub went_round : pos 0 ≤ℤ x → WentRound b k apex x
+    went_round low = record {
       some = low;
       side = each_side (λ side. (p : ℕ) → p < side_steps b k apex side → Leaves (arcs_of b.net) (carried b) (round_amount b k apex x)
           (label_of b.tree (side_node b k side p)) (if side then parent_of b.tree (side_node b k side p) else side_node b k side p) x)
@@ -230,6 +230,3 @@ module _ (b : TreeStructure) (k apex : ℕ) (ok : IsBasis b) (el : IsEligible b 
       entering = leaves_tail b.net (carried b) (round_amount b k apex x) k (entering b k).back x around.cycle.apart round_each.entering;
       others = round_other;
     }
-
-pub went_round : (b : TreeStructure) (k apex : ℕ) (x : ℤ) → IsBasis b → IsEligible b k → IsAround b k apex → pos 0 ≤ℤ x → WentRound b k apex x
-went_round b k apex x ok el around low = went_round_by b k apex ok el around x low

@@ -166,12 +166,12 @@ entering_low b k el =
       | inr g ↦ rw (is_turned (reduced_at b k) g.1) (let rise = g.1 in omega (arith, ints, rise))
     ]
 
-module _ (b : TreeStructure) (k apex : ℕ) (ok : IsBasis b) (el : IsEligible b k) (around : IsAround b k apex) where
+module _ {b : TreeStructure} {k apex : ℕ} (around : IsAround b k apex) where
   down_side : IsPricedWalk b (side_node b k true (side_steps b k apex true)) (down_path b (side_steps b k apex true) (from_of b k)) (from_of b k)
-  down_side = (tree_walks b ok (side_steps b k apex true) (from_of b k) (around.cycle.in_range true) (around.cycle.short true)).1
+  down_side = (tree_walks b around.basis (side_steps b k apex true) (from_of b k) (around.cycle.in_range true) (around.cycle.short true)).1
 
   up_side : IsPricedWalk b (to_of b k) (up_path b (side_steps b k apex false) (to_of b k)) (side_node b k false (side_steps b k apex false))
-  up_side = (tree_walks b ok (side_steps b k apex false) (to_of b k) (around.cycle.in_range false) (around.cycle.short false)).0
+  up_side = (tree_walks b around.basis (side_steps b k apex false) (to_of b k) (around.cycle.in_range false) (around.cycle.short false)).0
 
   closed_walk : IsWalk (with_artificial b.net) (side_node b k true (side_steps b k apex true)) (cycle_of b (entering b k) apex) (side_node b k false (side_steps b k apex false))
   closed_walk =
@@ -192,14 +192,14 @@ module _ (b : TreeStructure) (k apex : ℕ) (ok : IsBasis b) (el : IsEligible b 
       let node = subst (λ g. IsNode (node_count g) v) (along_net (full_state b) (cycle_of b (entering b k) apex) x) h in
       let moves =
       moved_along (full_state b) (cycle_of b (entering b k) apex) x (side_node b k true (side_steps b k apex true)) (side_node b k false (side_steps b k apex false))
-      ok.flow.one_per_label (cycle_labels b k apex ok el around) closed_walk v in
-      omega (arith, ints, moves, ok.flow.no_surplus v node, ap (λ u. when (eqb u v) x) around.cycle.closed)
+      around.basis.flow.one_per_label (cycle_labels around) closed_walk v in
+      omega (arith, ints, moves, around.basis.flow.no_surplus v node, ap (λ u. when (eqb u v) x) around.cycle.closed)
 
   -- the cost changes by the reduced cost of the residual arc that enters, for each unit
   pub round_cost : (x : ℤ) →
       cost (with_artificial b.net).arcs (pushed_along (full_state b) (cycle_of b (entering b k) apex) x).amounts ≡ full_cost b +ℤ x *ℤ entering_cost b k
   round_cost x =
-      paid_along (full_state b) (cycle_of b (entering b k) apex) x ok.flow.one_per_label (cycle_labels b k apex ok el around)
+      paid_along (full_state b) (cycle_of b (entering b k) apex) x around.basis.flow.one_per_label (cycle_labels around)
       ∙ ap (λ z. full_cost b +ℤ z) (ap (λ z. z *ℤ x) cycle_cost ∙ *ℤ_comm (entering_cost b k) x)
 
 -- there is an amount for each label

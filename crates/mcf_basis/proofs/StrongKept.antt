@@ -10,11 +10,10 @@ use Rattle.mcf_flows.specs.Network.{Network, IsNode, node_count}
 use Rattle.mcf_links.specs.Rooted.{climb, IsOnPath}
 use Rattle.mcf_network.specs.declared.rid.Rid.{Rid}
 use Rattle.mcf_network.specs.Residual.{arc_at, head, tail}
-use Rattle.mcf_tree.specs.Apex.{IsApex}
 use Rattle.mcf_tree.specs.SpanningTree.{IsSpanning, depth_of, label_of, parent_of, size_of}
 use Rattle.mcf_basis.specs.Artificial.{IsLabel, with_artificial}
 use Rattle.mcf_basis.specs.Bases.{CanHold, HasTreeArc, IsBasis, IsStronglyFeasible}
-use Rattle.mcf_basis.specs.Pivots.{IsEligible, IsExchanged, IsMended, IsPivot, entering}
+use Rattle.mcf_basis.specs.Pivots.{IsExchanged, IsMended, IsPivot, entering}
 use Rattle.mcf_basis.specs.Pivots.IsMended.{kept, exchanged}
 use Rattle.mcf_basis.specs.Structures.{TreeStructure, CanTake, carried, leaving, reduced_at}
 use Rattle.mcf_basis.proofs.Around.{IsAround, IsLeaving, WentRound, arcs_of, from_of, round_amount, to_of, up_arc, side_steps, side_node}
@@ -122,9 +121,7 @@ strong_of_room b g amount spanning size joined same reads up v h =
 
 -- ---- the three cases
 
-module _ (old : TreeStructure) (k apex : ℕ) (moved : ℤ) (ok : IsBasis old) (eligible : IsEligible old k)
-    (is_apex : IsApex old.tree.parents (depth_of old.tree) (from_of old k) (to_of old k) apex)
-    (is_around : IsAround old k apex) (went : WentRound old k apex moved) where
+module _ {old : TreeStructure} {k apex : ℕ} {moved : ℤ} (is_around : IsAround old k apex) (went : WentRound old k apex moved) where
   -- each arc of the tree has room up afterwards
   abbrev HasRoom : List ℕ → List ℕ → Type 0
   HasRoom ps ls = HasRoomUp (arcs_of old.net) ps ls (round_amount old k apex moved)
@@ -137,51 +134,51 @@ module _ (old : TreeStructure) (k apex : ℕ) (moved : ℤ) (ok : IsBasis old) (
   -- what blocks on the right had room for 1, so something moves
   some_moves : (m : ℕ) → m < side_steps old k apex false → ¬ CanTake old (up_arc old (side_node old k false m)) (moved +ℤ pos 1) → pos 1 ≤ℤ moved
   some_moves m h full = elim (zero_or_more moved went.some) [
-    | inl none ↦ absurd (let w = side_step old k apex ok eligible is_around false m h in
-        full (subst (λ z. CanTake old (up_arc old (side_node old k false m)) (z +ℤ pos 1)) (sym none) (strong_up old ok (side_node old k false m) w.above w.within)))
+    | inl none ↦ absurd (let w = side_step is_around false m h in
+        full (subst (λ z. CanTake old (up_arc old (side_node old k false m)) (z +ℤ pos 1)) (sym none) (strong_up old is_around.basis (side_node old k false m) w.above w.within)))
     | inr some ↦ omega (arith, ints, some)
   ]
 
   -- the tree stays
   pub stays : ((p : ℕ) → p < side_steps old k apex false → CanTake old (up_arc old (side_node old k false p)) (moved +ℤ pos 1)) → HasRoom old.tree.parents old.tree.labels
   stays free =
-      strong_entering is_around.tree is_around.cycle went (fits old ok) (not_below old ok) (room_of_strong old ok)
+      strong_entering is_around.tree is_around.cycle went (fits old is_around.basis) (not_below old is_around.basis) (room_of_strong old is_around.basis)
       (λ p l. leave_of_take (free p l))
 
   module _ (out inner outer : ℕ) (new : TreeStructure) (x : IsExchanged old (entering old k) out inner outer new) where
     exchanged_room : (q : Rid) → q.arc ≡ label_of old.tree out → IsLeaving old k apex moved q → HasRoom new.tree.parents new.tree.labels
     exchanged_room q named (right m h is full free) =
         let at_out : out ≡ side_node old k false m =
-        step_of old k apex ok eligible is_around (side_step old k apex ok eligible is_around false m h) x.is_node
+        step_of is_around (side_step is_around false m h) x.is_node
         (sym (ap (λ r. r.arc) is) ∙ named) in
         elim x.ends [
-          | inl e ↦ absurd (below_apex ok.spanning.rooted (is_around.cycle.in_range false) h at_out
-              (subst (λ v. IsOnPath old.tree.parents v out) e.0 x.inside) (λ y p q. is_apex.deepest y q p))
-          | inr e ↦ strong_right is_around.tree is_around.cycle went (fits old ok) (not_below old ok) (room_of_strong old ok)
+          | inl e ↦ absurd (below_apex is_around.basis.spanning.rooted (is_around.cycle.in_range false) h at_out
+              (subst (λ v. IsOnPath old.tree.parents v out) e.0 x.inside) (λ y p q. is_around.is_apex.deepest y q p))
+          | inr e ↦ strong_right is_around.tree is_around.cycle went (fits old is_around.basis) (not_below old is_around.basis) (room_of_strong old is_around.basis)
               m new.tree.parents new.tree.labels h
               (rw (at_out, e.0, e.1) at x.swapped.parents) (rw (at_out, e.0) at x.swapped.labels)
               (some_moves m h (subst (λ r. ¬ CanTake old r (moved +ℤ pos 1)) is full)) (λ p l u. leave_of_take (free p l u))
         ]
     exchanged_room q named (enter is full free) =
-        absurd (eligible.outside (record { node = out; is_node = x.is_node; labelled = sym named ∙ ap (λ r. r.arc) is }))
+        absurd (is_around.eligible.outside (record { node = out; is_node = x.is_node; labelled = sym named ∙ ap (λ r. r.arc) is }))
     exchanged_room q named (left m h is full free first above) =
         let at_out : out ≡ side_node old k true m =
-        step_of old k apex ok eligible is_around (side_step old k apex ok eligible is_around true m h) x.is_node
+        step_of is_around (side_step is_around true m h) x.is_node
         (sym (ap (λ r. r.arc) is) ∙ named) in
         elim x.ends [
-          | inl e ↦ strong_left is_around.tree is_around.cycle went (fits old ok) (not_below old ok) (room_of_strong old ok)
+          | inl e ↦ strong_left is_around.tree is_around.cycle went (fits old is_around.basis) (not_below old is_around.basis) (room_of_strong old is_around.basis)
               m new.tree.parents new.tree.labels h
               (rw (at_out, e.0, e.1) at x.swapped.parents) (rw (at_out, e.0) at x.swapped.labels)
               (λ p l. leave_of_take (free p l)) (enter_room first) (λ p l. leave_of_take (above p l))
-          | inr e ↦ absurd (below_apex ok.spanning.rooted (is_around.cycle.in_range true) h at_out
-              (subst (λ v. IsOnPath old.tree.parents v out) e.0 x.inside) is_apex.deepest)
+          | inr e ↦ absurd (below_apex is_around.basis.spanning.rooted (is_around.cycle.in_range true) h at_out
+              (subst (λ v. IsOnPath old.tree.parents v out) e.0 x.inside) is_around.is_apex.deepest)
         ]
 
   -- where the entering arc leaves at once, no arc on the right blocks
   kept_room : (q : Rid) → q ≡ entering old k → IsLeaving old k apex moved q
       → (p : ℕ) → p < side_steps old k apex false → CanTake old (up_arc old (side_node old k false p)) (moved +ℤ pos 1)
   kept_room q same (right m h is full free) p l =
-      absurd (side_outside old k apex ok eligible is_around false m h (sym (ap (λ (r : Rid). r.arc) is) ∙ ap (λ (r : Rid). r.arc) same))
+      absurd (side_outside is_around false m h (sym (ap (λ (r : Rid). r.arc) is) ∙ ap (λ (r : Rid). r.arc) same))
   kept_room q same (enter is full free) p l = free p l
   kept_room q same (left m h is full free first above) p l = above p l
 
@@ -196,13 +193,13 @@ pub pivoted_amount : (old new : TreeStructure) (k : ℕ) (moved : ℤ) (pivot : 
 pivoted_amount old new k moved pivot label h =
     ap (λ xs. slice_index_or xs (label - 1) (pos 0)) pivot.amounts ∙ sym (round_at old k pivot.apex moved label h)
 
-pub strong_kept : (old new : TreeStructure) (k : ℕ) (moved : ℤ) → IsBasis old → (pivot : IsPivot old k moved new) → IsSpanning new.tree
+pub strong_kept : (old new : TreeStructure) (k : ℕ) (moved : ℤ) (pivot : IsPivot old k moved new) → IsSpanning new.tree
     → size_of new.tree ≡ node_count new.net + 1 → ((v : ℕ) → IsNode (node_count new.net) v → HasTreeArc new v)
     → IsAround old k pivot.apex → IsLeaving old k pivot.apex moved pivot.leaves → WentRound old k pivot.apex moved → IsStronglyFeasible new
-strong_kept old new k moved ok pivot spanning size joined is_around leaves went =
+strong_kept old new k moved pivot spanning size joined is_around leaves went =
     strong_of_room new old.net (round_amount old k pivot.apex moved) spanning size joined pivot.net
     (pivoted_amount old new k moved pivot)
-    (mended_room old k pivot.apex moved ok pivot.eligible pivot.is_apex is_around went new pivot.leaves leaves pivot.mended)
+    (mended_room is_around went new pivot.leaves leaves pivot.mended)
 
 -- ---- no less than nothing moves
 
@@ -223,5 +220,5 @@ moved_low old new k moved ok pivot = elim (low_or_below moved) [
   | inr below ↦ absurd (let is_around : IsAround old k pivot.apex = around old k pivot.apex ok pivot.eligible pivot.is_apex in
       let last = last_at old k pivot.apex moved pivot.leaves pivot.last_blocking in
       pivot.last_blocking.full (can_none old pivot.leaves (moved +ℤ pos 1) ok
-      (subst (λ q. IsLabel old.net q.arc) last.is (cycle_labels old k pivot.apex ok pivot.eligible is_around last.place pivot.leaves last.inside)) below))
+      (subst (λ q. IsLabel old.net q.arc) last.is (cycle_labels is_around last.place pivot.leaves last.inside)) below))
 ]
