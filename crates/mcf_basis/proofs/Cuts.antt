@@ -1,7 +1,7 @@
 -- At a last basis where an artificial arc carries something, the nodes of price above 0 can't send
 -- what they must.
-use Rattle.std.proofs.Common.{◌≡◌, ◌≢◌, ℕ, zero, suc, ◌+◌, ◌-◌, ◌*◌, ◌<◌, ◌≤◌, inl, inr, Bool, true, false, not, List, length, map, drop, sum, set}
-use Rattle.std.proofs.Common.{◌&&◌, get_or, refl, sym, ap, ◌∙◌, subst, arith, ℤ, pos, neg_ℤ, ◌+ℤ◌, ◌-ℤ◌, ◌≤ℤ◌, ◌<ℤ◌, length-set}
+use Rattle.std.proofs.Common.{◌≡◌, ◌≢◌, ℕ, zero, suc, ◌+◌, ◌-◌, ◌*◌, ◌<◌, ◌≤◌, inl, inr, Bool, true, false, not, List, length, map, drop, sum, set, ◌&&◌}
+use Rattle.std.proofs.Common.{get_or, refl, sym, ap, ◌∙◌, subst, arith, ℤ, pos, neg_ℤ, ◌+ℤ◌, ◌-ℤ◌, ◌≤ℤ◌, ◌<ℤ◌, length-set}
 use Rattle.std.specs.Prelude.{int_lt, max, unsigned_abs}
 use Rattle.std.specs.List.{AllZip}
 use Rattle.std.proofs.Math.Nat.{le-max_right, mul-le-mul_left}
@@ -32,7 +32,7 @@ use Rattle.mcf_basis.specs.Bases.{CanHold, HasTreeArc, IsBasis}
 use Rattle.mcf_basis.specs.Laws.{HasNoArtificial}
 use Rattle.mcf_basis.specs.Structures.{TreeStructure, Joins, carried, price_at, reduced_at, state_of}
 use Rattle.mcf_basis.specs.Violations.{HasNoEligible}
-use Rattle.mcf_basis.proofs.Cycles.{tree_of}
+use Rattle.mcf_basis.proofs.Around.{tree_of}
 use Rattle.mcf_basis.proofs.Flows.{added_arcs, amount_count, read_added, rest_count, split_net}
 use Rattle.mcf_basis.proofs.Labels.{added_arc, added_label, cases_in_tree, inner_arc, own_arc, own_label, sender_ends, taker_ends}
 use Rattle.mcf_basis.proofs.LastBases.{each_own, empty_above, full_below, node_count_added, supply_added, zero_or_more}

@@ -1,6 +1,6 @@
 -- What is read of a basis at the end: its flow, its prices and its cut.
-use Rattle.std.proofs.Common.{◌≡◌, ◌≢◌, ℕ, ◌+◌, ◌-◌, ◌<◌, ◌≤◌, inl, inr, Bool, true, false, eqb, cond, List, length, map, take, drop}
-use Rattle.std.proofs.Common.{get_or, refl, sym, ap, ◌∙◌, arith, subst, ℤ, pos, ◌+ℤ◌, ◌-ℤ◌, length-drop}
+use Rattle.std.proofs.Common.{◌≡◌, ◌≢◌, ℕ, ◌+◌, ◌-◌, ◌<◌, ◌≤◌, inl, inr, Bool, true, false, eqb, cond, List, length, map, take, drop, get_or, refl, sym, ap}
+use Rattle.std.proofs.Common.{◌∙◌, arith, subst, ℤ, pos, ◌+ℤ◌, ◌-ℤ◌, length-drop}
 use Rattle.std.specs.Prelude.{◌↔◌, IsTrue, if◌then◌else◌, int_lt}
 use Rattle.std.specs.List.{All, range_with_len}
 use Rattle.std.proofs.lemmas.Bool.{cases_eq}
@@ -26,7 +26,7 @@ use Rattle.mcf_basis.specs.Private.Layouts.{Layout, IsLaidOut, amount_in, basis_
 use Rattle.mcf_basis.specs.Structures.{TreeStructure, price_at, state_of, price_limit}
 use Rattle.mcf_basis.specs.Violations.{HasNoEligible}
 use Rattle.mcf_basis.proofs.Cuts.{HasWideTree, cuts_block}
-use Rattle.mcf_basis.proofs.Cycles.{tree_of}
+use Rattle.mcf_basis.proofs.Around.{tree_of}
 use Rattle.mcf_basis.proofs.PivotKeeps.{same_state}
 use Rattle.mcf_basis.proofs.TreePrices.{price_small}
 use Rattle.mcf_basis.proofs.Views.{amount_case, carried_added, one_node}

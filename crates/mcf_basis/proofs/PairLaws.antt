@@ -20,13 +20,11 @@ use Rattle.mcf_basis.specs.Laws.{PivotsLowerThePair}
 use Rattle.mcf_basis.specs.Pivots.{IsEligible, IsExchanged, IsMended, IsPivot, PairFalls, entering, full_cost, price_sum}
 use Rattle.mcf_basis.specs.Pivots.IsMended.{exchanged, kept}
 use Rattle.mcf_basis.specs.Structures.{TreeStructure, CanTake, carried, price_at, reduced_at}
-use Rattle.mcf_basis.proofs.Around.{IsAround, IsLeaving, from_of, to_of, side_steps, side_node}
+use Rattle.mcf_basis.proofs.Around.{IsAround, IsLeaving, from_of, to_of, side_steps, side_node, HasTwoEnds, around, two_ends}
 use Rattle.mcf_basis.proofs.Around.IsLeaving.{enter, left, right}
 use Rattle.mcf_basis.proofs.CyclePlaces.{leaving_of_last}
-use Rattle.mcf_basis.proofs.Cycles.{HasTwoEnds, around, two_ends}
 use Rattle.mcf_basis.proofs.LastBases.{zero_or_more}
-use Rattle.mcf_basis.proofs.Pushed.{step_of, side_step, side_outside}
-use Rattle.mcf_basis.proofs.PushedSums.{entering_cost, entering_low, none_turned, round_cost, turned_reduced}
+use Rattle.mcf_basis.proofs.Pushed.{step_of, side_step, side_outside, entering_cost, entering_low, none_turned, round_cost, turned_reduced}
 use Rattle.mcf_basis.proofs.StrongKept.{moved_low, strong_up}
 use Rattle.mcf_basis.proofs.TreePrices.{in_tree}
 

@@ -23,11 +23,10 @@ use Rattle.mcf_basis.specs.Private.Layouts.{Layout, IsLaidOut, Prices, basis_in,
 use Rattle.mcf_basis.specs.Private.Offered.{CanReduce, reduced_by}
 use Rattle.mcf_basis.specs.Private.Turned.{CanPush, IsPushedRound, is_left, offers_kept}
 use Rattle.mcf_basis.specs.Structures.{TreeStructure, CanTake}
-use Rattle.mcf_basis.proofs.Around.{CanGoRound, IsAround, IsLeaving, WentRound, from_of, to_of}
+use Rattle.mcf_basis.proofs.Around.{CanGoRound, IsAround, IsLeaving, WentRound, from_of, to_of, around}
 use Rattle.mcf_basis.proofs.Around.IsLeaving.{right as leaves_right, enter as leaves_at_once, left as leaves_left}
 use Rattle.mcf_basis.proofs.Climbed.{IsOut, IsTaken, chosen_round, chosen_taken, leaves_by}
 use Rattle.mcf_basis.proofs.CyclePlaces.{last_of_leaving}
-use Rattle.mcf_basis.proofs.Cycles.{around}
 use Rattle.mcf_basis.proofs.Offers.{IsReadOffer, can_reduce, offered, read_offer}
 use Rattle.mcf_basis.proofs.PairLaws.{pivots_lower_the_pair_lem}
 use Rattle.mcf_basis.proofs.PivotKeeps.{pivots_keep_bases_lem}

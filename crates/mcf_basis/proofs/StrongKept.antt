@@ -16,10 +16,9 @@ use Rattle.mcf_basis.specs.Bases.{CanHold, HasTreeArc, IsBasis, IsStronglyFeasib
 use Rattle.mcf_basis.specs.Pivots.{IsExchanged, IsMended, IsPivot, entering}
 use Rattle.mcf_basis.specs.Pivots.IsMended.{kept, exchanged}
 use Rattle.mcf_basis.specs.Structures.{TreeStructure, CanTake, carried, leaving, reduced_at}
-use Rattle.mcf_basis.proofs.Around.{IsAround, IsLeaving, WentRound, arcs_of, from_of, round_amount, to_of, up_arc, side_steps, side_node}
+use Rattle.mcf_basis.proofs.Around.{IsAround, IsLeaving, WentRound, arcs_of, from_of, round_amount, to_of, up_arc, side_steps, side_node, around, below_apex}
 use Rattle.mcf_basis.proofs.Around.IsLeaving.{right, enter, left}
 use Rattle.mcf_basis.proofs.CyclePlaces.{last_at, up_all, up_at}
-use Rattle.mcf_basis.proofs.Cycles.{around, below_apex}
 use Rattle.mcf_basis.proofs.Labels.{own_label}
 use Rattle.mcf_basis.proofs.LastBases.{zero_or_more}
 use Rattle.mcf_basis.proofs.Pushed.{cycle_labels, round_at, step_of, side_step, side_outside}

@@ -1,6 +1,7 @@
 -- What is read of a basis that is stored.
-use Rattle.std.proofs.Common.{◌≡◌, ◌≢◌, ℕ, ◌+◌, ◌-◌, ◌*◌, ◌<◌, ◌≤◌, inl, inr, eqb, length, get_or, ap, sym, ◌∙◌, arith, subst, pos}
-use Rattle.std.proofs.lemmas.Bool.{cond-true, cond-false, eq-eqb, eqb-true, ne_eqb, le-leb, lt-leb}
+use Rattle.std.proofs.Common.{◌≡◌, ◌≢◌, ℕ, ◌+◌, ◌-◌, ◌*◌, ◌<◌, ◌≤◌, inl, inr, eqb, length, get_or, ap, sym, ◌∙◌, arith, subst, pos, zero, suc, Bool, true}
+use Rattle.std.proofs.Common.{false, refl, Some, None}
+use Rattle.std.proofs.lemmas.Bool.{cond-true, cond-false, eq-eqb, eqb-true, ne_eqb, le-leb, lt-leb, cases_Bool, true≢false}
 use Rattle.std.proofs.lemmas.Int.{ints}
 use Rattle.std.proofs.lemmas.List.FromFn.{get_or-map-range_with_len}
 use Rattle.mcf_flows.specs.Network.{IsArcNumber, IsNode, node_count}
@@ -12,11 +13,28 @@ use Rattle.mcf_basis.specs.Private.Gaps.{IsSpread}
 use Rattle.mcf_basis.specs.Ranks.{greatest_cost, price_reach}
 use Rattle.mcf_basis.specs.Structures.{TreeStructure, IsInTree, carried, price_at, price_limit}
 use Rattle.mcf_basis.proofs.Around.{arcs_of}
-use Rattle.mcf_basis.proofs.LeastFound.{found_nowhere, found_only}
 use Rattle.mcf_basis.proofs.Pushes.{IsTreeOf, cases_found}
 use Rattle.mcf_basis.proofs.Spreads.{near_spread}
 use Rattle.mcf_basis.proofs.StrongPivot.{same_node}
 use Rattle.mcf_basis.proofs.TreePrices.{near_price, price_reached, price_small}
+use Rattle.std.specs.List.{find, range_with_len}
+
+module _ (p : ℕ → Bool) where
+  pub found_nowhere : (from n : ℕ) → ((j : ℕ) → from ≤ j → j < from + n → p j ≡ false) → find p (range_with_len from n) ≡ None
+  found_nowhere from zero each = refl
+  found_nowhere from (suc n) each =
+      rw (each from (omega arith) (omega arith)) (found_nowhere (from + 1) n (λ j l h. each j (omega arith) (omega arith)))
+
+  -- the only one that does
+  pub found_only : (from n v : ℕ) → from ≤ v → v < from + n → p v ≡ true → ((j : ℕ) → from ≤ j → j < from + n → p j ≡ true → j ≡ v)
+      → find p (range_with_len from n) ≡ Some v
+  found_only from zero v low high passes only = absurd (omega arith)
+  found_only from (suc n) v low high passes only =
+      elim (cases_Bool (p from)) [
+        | inl t ↦ (let e : from ≡ v = only from (omega arith) (omega arith) t in rw t (ap Some e))
+        | inr f ↦ (let ne : from ≢ v = (λ q. true≢false (sym passes ∙ (ap p (sym q) ∙ f))) in
+            rw f (found_only (from + 1) n v (omega arith) (omega arith) passes (λ j l h t. only j (omega arith) (omega arith) t)))
+      ]
 
 pub view_basis : (l : Layout) (b : TreeStructure) → basis_in l ≡ b → IsLaidOut l → IsBasis b
 view_basis l b e ok = subst IsBasis e ok.basis

@@ -3,7 +3,7 @@ use mir.Syntax.{w128}
 use Rattle.std.proofs.lemmas.Int.{to_z-of_z}
 use Rattle.std.proofs.lemmas.List.{take_all}
 use Rattle.mcf_basis.specs.Private.Turned.{CanRaise}
-use Rattle.mcf_basis.proofs.Repricing.{IsRepricing-step, has_room}
+use Rattle.mcf_basis.proofs.TurnedResiduals.{IsRepricing-step, has_room}
 use Rattle.mcf_basis.proofs.reprice.reprice.Goals as goal
 
 pub raise-requires : goal.raise-requires

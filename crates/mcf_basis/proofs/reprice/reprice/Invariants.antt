@@ -1,5 +1,5 @@
 use Rattle.std.proofs.Common.{◌≡◌, ◌+◌}
-use Rattle.mcf_basis.proofs.Repricing.{IsRepricing}
+use Rattle.mcf_basis.proofs.TurnedResiduals.{IsRepricing}
 use Rattle.mcf_basis.proofs.reprice.reprice.Given as goal
 
 -- each price was written once
