@@ -1,7 +1,6 @@
 -- The flow of a basis at which no arc is eligible.
-use Rattle.std.proofs.Common.{◌≡◌, ℕ, ◌+◌, ◌-◌, ◌<◌, ◌⊎◌, inl, inr, length, drop, get_or, refl, sym, ap, ◌∙◌, arith, subst, ℤ, pos, ◌<ℤ◌}
-use Rattle.std.proofs.Common.{◌≤ℤ◌}
-use Rattle.std.specs.Prelude.{unsigned_abs}
+use Rattle.std.proofs.Common.{◌≡◌, ℕ, ◌+◌, ◌-◌, ◌<◌, ◌⊎◌, inl, inr, length, drop, get_or, refl, sym, ap, ◌∙◌, arith, subst, ℤ, pos, ◌<ℤ◌, ◌≤ℤ◌, true, false}
+use Rattle.std.specs.Prelude.{unsigned_abs, int_lt}
 use Rattle.std.specs.List.{AllZip}
 use Rattle.std.proofs.lemmas.Int.{ints}
 use Rattle.std.proofs.lemmas.Grind.{get_or_after_one}
@@ -19,12 +18,17 @@ use Rattle.mcf_basis.specs.Bases.{CanHold, IsBasis}
 use Rattle.mcf_basis.specs.Laws.{HasNoArtificial, LastBasesAreShown}
 use Rattle.mcf_basis.specs.Structures.{TreeStructure, IsInTree, carried, price_at, reduced_at, state_of}
 use Rattle.mcf_basis.specs.Violations.{HasNoEligible}
-use Rattle.mcf_basis.proofs.Flows.{net_without, own_carried, own_count}
-use Rattle.mcf_basis.proofs.Labels.{own_label}
+use Rattle.mcf_basis.proofs.Labels.{net_without, own_carried, own_count, own_label}
 use Rattle.mcf_basis.proofs.Offers.{not_in_tree, own_reduced}
 
 pub zero_or_more : (z : ℤ) → pos 0 ≤ℤ z → (z ≡ pos 0) ⊎ (pos 0 <ℤ z)
 zero_or_more z h = grind (arith, ints, inl, inr)
+
+pub above_zero : (z : ℤ) → int_lt (pos 0) z ≡ true → pos 0 <ℤ z
+above_zero z e = grind (arith, ints)
+
+pub not_above_zero : (z : ℤ) → int_lt (pos 0) z ≡ false → z ≤ℤ pos 0
+not_above_zero z e = grind (arith, ints)
 
 pub size_low : (x : ℤ) → pos 0 ≤ℤ x → pos (unsigned_abs x) ≡ x
 size_low x h = grind (arith, ints)

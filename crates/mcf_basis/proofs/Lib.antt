@@ -9,7 +9,6 @@ mod LeastOffers
 mod PriceLists
 mod MostViolated
 pub mod RankLaws
-mod Flows
 pub mod LastBases
 pub mod TreeFlows
 pub mod RankDepths
@@ -18,16 +17,13 @@ mod Pushes
 mod StrongPivot
 mod Around
 mod Climbing
-mod TreeResiduals
 mod Climbed
 mod PushedResiduals
 mod TurnedResiduals
-mod StartLayouts
 mod Endings
 mod CyclePlaces
 mod StrongKept
 mod Pushed
-mod PairLaws
 mod PricesTurned
 mod PivotKeeps
 mod Pivoted
@@ -35,4 +31,3 @@ mod TurnedAmounts
 mod TurnedStart
 mod TurnedLayout
 mod Cuts
-mod LastFlows

@@ -28,8 +28,7 @@ use Rattle.mcf_basis.proofs.Around.IsLeaving.{right as leaves_right, enter as le
 use Rattle.mcf_basis.proofs.Climbed.{IsOut, IsTaken, chosen_round, chosen_taken, leaves_by}
 use Rattle.mcf_basis.proofs.CyclePlaces.{last_of_leaving}
 use Rattle.mcf_basis.proofs.Offers.{IsReadOffer, can_reduce, offered, read_offer}
-use Rattle.mcf_basis.proofs.PairLaws.{pivots_lower_the_pair_lem}
-use Rattle.mcf_basis.proofs.PivotKeeps.{pivots_keep_bases_lem}
+use Rattle.mcf_basis.proofs.PivotKeeps.{pivots_lower_the_pair_lem, pivots_keep_bases_lem}
 use Rattle.mcf_basis.proofs.Pushed.{went_round}
 use Rattle.mcf_basis.proofs.TurnedLayout.{IsPivotedLayout, can_exchange, exchanged_pivot, kept_pivot, next_layout}
 use Rattle.mcf_basis.proofs.TurnedStart.{can_push, entering_blocks, offer_ends, width_is}

@@ -1,6 +1,5 @@
 -- No rank lies far below 0.
-use Rattle.std.proofs.Common.{◌≡◌, ℕ, suc, ◌+◌, ◌*◌, ◌<◌, List, [], ◌∷◌, length, map, drop, sum, get_or, refl, ap, arith, ℤ, pos, neg_ℤ}
-use Rattle.std.proofs.Common.{◌+ℤ◌, ◌*ℤ◌, ◌≤ℤ◌}
+use Rattle.std.proofs.Common.{◌≡◌, ℕ, suc, ◌+◌, ◌*◌, ◌<◌, List, [], ◌∷◌, length, map, drop, sum, get_or, refl, ap, arith, ℤ, pos, neg_ℤ, ◌+ℤ◌, ◌*ℤ◌, ◌≤ℤ◌}
 use Rattle.std.proofs.lemmas.Int.{ints}
 use Rattle.std.proofs.lemmas.List.FromFn.{length-map-range_with_len}
 use Rattle.mcf_flows.specs.declared.arc.Arc.{Arc}
@@ -15,8 +14,7 @@ use Rattle.mcf_basis.specs.Laws.{RanksCountDown}
 use Rattle.mcf_basis.specs.Pivots.{full_cost, price_sum}
 use Rattle.mcf_basis.specs.Ranks.{price_reach, rank_above, rank_depth, rank_of}
 use Rattle.mcf_basis.specs.Structures.{TreeStructure, state_of}
-use Rattle.mcf_basis.proofs.Flows.{added_arcs, amount_count, arc_at_place, read_added, split_sum}
-use Rattle.mcf_basis.proofs.Labels.{added_label}
+use Rattle.mcf_basis.proofs.Labels.{added_arcs, amount_count, arc_at_place, read_added, split_sum, added_label}
 use Rattle.mcf_basis.proofs.LastBases.{size_low, within}
 use Rattle.mcf_basis.proofs.RankLaws.{price_sum_reached, rank_falls}
 

@@ -1,7 +1,7 @@
 -- The flow of a basis is a tree solution: from the leaves of the tree on, a circulation that is 0
 -- at all arcs whose flow is at a bound is 0.
-use Rattle.std.proofs.Common.{◌≡◌, ◌≢◌, ℕ, zero, suc, ◌+◌, ◌-◌, ◌<◌, ◌≤◌, ◌⊎◌, inl, inr, eqb, List, [], ◌∷◌, length, get_or, sym, ap, ◌∙◌, arith, subst}
-use Rattle.std.proofs.Common.{ℤ, pos, ◌-ℤ◌}
+use Rattle.std.proofs.Common.{◌≡◌, ◌≢◌, ℕ, zero, suc, ◌+◌, ◌-◌, ◌<◌, ◌≤◌, ◌⊎◌, inl, inr, eqb, List, [], ◌∷◌, length, get_or, sym, ap, ◌∙◌, arith, subst, ℤ, pos}
+use Rattle.std.proofs.Common.{◌-ℤ◌}
 use Rattle.std.proofs.lemmas.Int.{ints}
 use Rattle.std.proofs.lemmas.Bool.{cases_eq}
 use Rattle.std.proofs.lemmas.Bool.Decides.{nat_tests}
@@ -18,8 +18,7 @@ use Rattle.mcf_basis.specs.Laws.{BasesAreTreeSolutions}
 use Rattle.mcf_basis.specs.Structures.{TreeStructure, IsInTree, carried, state_of}
 use Rattle.mcf_basis.specs.Structures.Joins.{out_of, into}
 use Rattle.mcf_network.specs.TreeSolutions.{IsFreeCirculation, at_arc}
-use Rattle.mcf_basis.proofs.Flows.{own_carried, zero_terms}
-use Rattle.mcf_basis.proofs.Labels.{cases_in_tree, own_arc, own_label}
+use Rattle.mcf_basis.proofs.Labels.{own_carried, zero_terms, cases_in_tree, own_arc, own_label}
 use Rattle.mcf_basis.proofs.StrongPivot.{parent_apart}
 use Rattle.mcf_basis.proofs.TreePrices.{in_tree}
 

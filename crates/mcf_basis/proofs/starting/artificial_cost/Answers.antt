@@ -1,7 +1,7 @@
 use Rattle.std.proofs.Common.{◌≡◌, ◌+◌, ◌-◌, ◌<◌, length, get_or, ap, arith, ◌∙◌}
 use Rattle.mcf_flows.specs.WellFormed.{weight}
 use Rattle.mcf_network.specs.Residual.{no_arc}
-use Rattle.mcf_basis.proofs.StartLayouts.{weight_next, weight_part}
+use Rattle.mcf_basis.proofs.StarBases.{weight_next, weight_part}
 use Rattle.mcf_basis.proofs.starting.artificial_cost.Goals as goal
 
 pub overflow_add-total : goal.overflow_add-total

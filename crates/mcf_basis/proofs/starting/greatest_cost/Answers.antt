@@ -3,7 +3,7 @@ use Rattle.std.specs.Prelude.{unsigned_abs}
 use mir.Syntax.{w128}
 use Rattle.std.proofs.lemmas.Int.{to_z-of_z}
 use Rattle.mcf_network.specs.Residual.{no_arc}
-use Rattle.mcf_basis.proofs.StartLayouts.{greatest_next}
+use Rattle.mcf_basis.proofs.StarBases.{greatest_next}
 use Rattle.mcf_basis.proofs.starting.greatest_cost.Goals as goal
 
 pub loop-i-preserved : goal.loop-i-preserved

@@ -4,7 +4,7 @@ use mir.Syntax.{w128}
 use Rattle.std.proofs.lemmas.Int.{to_z-of_z}
 use Rattle.mcf_flows.specs.Network.{at_node}
 use Rattle.mcf_basis.specs.Private.Layouts.{artificial_residuals, no_residuals}
-use Rattle.mcf_basis.proofs.StartLayouts.{made_behind, star_amount, star_residuals}
+use Rattle.mcf_basis.proofs.StarBases.{made_behind, star_amount, star_residuals}
 use Rattle.mcf_basis.proofs.starting.star_columns.Goals as goal
 
 pub loop-i-preserved : goal.loop-i-preserved

@@ -1,7 +1,7 @@
 use Rattle.std.proofs.Common.{◌≡◌, ◌+◌, ◌≤◌, ◌∷◌, map, pos, vec_capacity, vec_len}
 use Rattle.std.specs.List.{range_with_len}
 use Rattle.mcf_basis.specs.Private.Layouts.{no_residuals}
-use Rattle.mcf_basis.proofs.StartLayouts.{star_amount, star_residuals}
+use Rattle.mcf_basis.proofs.StarBases.{star_amount, star_residuals}
 use Rattle.mcf_basis.proofs.starting.star_columns.Given as goal
 
 abbrev pub invariant-loop-i : goal.invariant-loop-i

@@ -1,5 +1,5 @@
 use Rattle.std.proofs.Common.{ap, arith, rules, ◌∙◌}
-use Rattle.mcf_basis.proofs.StartLayouts.{made_more, star_offer}
+use Rattle.mcf_basis.proofs.StarBases.{made_more, star_offer}
 use Rattle.mcf_basis.proofs.starting.star_offers.Goals as goal
 
 pub loop-i-preserved : goal.loop-i-preserved

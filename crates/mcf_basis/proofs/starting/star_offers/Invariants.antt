@@ -1,6 +1,6 @@
 use Rattle.std.proofs.Common.{◌≡◌, ◌≤◌, map, vec_capacity, vec_len}
 use Rattle.std.specs.List.{range_with_len}
-use Rattle.mcf_basis.proofs.StartLayouts.{star_offer}
+use Rattle.mcf_basis.proofs.StarBases.{star_offer}
 use Rattle.mcf_basis.proofs.starting.star_offers.Given as goal
 
 abbrev pub invariant-loop-i : goal.invariant-loop-i

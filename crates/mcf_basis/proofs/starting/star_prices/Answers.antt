@@ -5,7 +5,7 @@ use Rattle.std.proofs.lemmas.Int.{to_z-of_z}
 use Rattle.mcf_flows.specs.Network.{at_node}
 use Rattle.mcf_basis.specs.Artificial.{is_sender}
 use Rattle.mcf_basis.proofs.PriceLists.{values_push}
-use Rattle.mcf_basis.proofs.StartLayouts.{made_behind}
+use Rattle.mcf_basis.proofs.StarBases.{made_behind}
 use Rattle.mcf_basis.proofs.starting.star_prices.Goals as goal
 
 pub loop-i-preserved : goal.loop-i-preserved

@@ -1,5 +1,5 @@
 use Rattle.mcf_basis.specs.Private.Climbs.{laid}
-use Rattle.mcf_basis.proofs.StartLayouts.{IsStarStored, star_laid_out, star_starts}
+use Rattle.mcf_basis.proofs.StarBases.{IsStarStored, star_laid_out, star_starts}
 use Rattle.mcf_basis.proofs.basis.Basis.start.Goals as goal
 
 -- the star, as it is stored
