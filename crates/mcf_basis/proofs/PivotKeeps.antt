@@ -76,89 +76,6 @@ module _ (b : TreeStructure) (label v : ℕ) (x : ℤ) (new : ℕ → ℤ)
       backward_bound : (old new x : ℤ) → new +ℤ x ≡ old → x ≤ℤ old → ((x +ℤ pos 1) ≤ℤ old → ⊥) → new ≡ pos 0
       backward_bound old new x moves fits full = grind (arith, ints)
 
-module _ (old new : TreeStructure) (k : ℕ) (moved : ℤ) (ok : IsBasis old) (pivot : IsPivot old k moved new) (around : IsAround old k pivot.apex)
-    (went : WentRound old k pivot.apex moved) (can : CanGoRound old k pivot.apex moved) where
-  abbrev now : ℕ → ℤ
-  now label = round_amount old k pivot.apex moved label
-
-  amount_is : (label : ℕ) → 0 < label → carried new label ≡ now label
-  amount_is label h = pivoted_amount old new k moved pivot label h
-
-  enters_from : entering old k ≡ leaving old.net k (from_of old k)
-  enters_from = entering_leaves old k around.cycle.apart
-
-  can_enter : CanTake old (leaving old.net k (from_of old k)) moved
-  can_enter = subst (λ r. CanTake old r moved) enters_from can.entering
-
-  old_hold : (label : ℕ) → IsLabel old.net label → CanHold old.net label (carried old label)
-  old_hold label h = ok.flow.within_bounds label h
-
-  -- every amount is within its bounds
-  round_hold : (label : ℕ) → IsLabel old.net label → CanHold old.net label (now label)
-  round_hold label h =
-      elim (cases_eq k label) [
-        | inl e ↦ on_cycle went.entering can_enter e
-        | inr ne ↦ elim (cases_sides (λ side p. label_of old.tree (side_node old k side p)) (side_steps old k pivot.apex) label) [
-          | inl t ↦ on_cycle (went.side t.side t.at t.short) (can.side t.side t.at t.short) t.is
-          | inr off ↦ subst (CanHold old.net label) (sym (went.others label (λ e. ne (sym e)) (λ side i l e. off side i l (sym e)))) (old_hold label h)
-        ]
-      ]
-    where
-      on_cycle : {l v : ℕ} → Leaves (arcs_of old.net) (carried old) now l v moved → CanTake old (leaving old.net l v) moved → l ≡ label
-          → CanHold old.net label (now label)
-      on_cycle {l} {v} leaves takes e = subst (λ i. CanHold old.net i (now i)) e
-          (pushed_hold old l v moved now leaves takes went.some (old_hold l (subst (IsLabel old.net) (sym e) h)))
-
-  -- an arc outside the old tree that doesn't enter keeps its amount
-  round_kept : (label : ℕ) → label ≢ k → ¬ IsInTree old label → now label ≡ carried old label
-  round_kept label ne out =
-      went.others label ne (λ side p h e.
-      out (record { node = side_node old k side p; is_node = side_is_node around side p h; labelled = sym e }))
-
-  abbrev IsBound : ℕ → Type 0
-  IsBound label = (now label ≡ pos 0) ⊎ ((label ≤ length old.net.arcs) × (now label ≡ (arc_at old.net label).cap))
-
-  -- the arc that leaves is at a bound
-  leaving_bound : IsLeaving old k pivot.apex moved pivot.leaves → IsBound pivot.leaves.arc
-  leaving_bound leaves = elim leaves [
-    | right m h is full rest ↦ on_cycle (went.side false m h) (can.side false m h) is full
-    | enter is full rest ↦ on_cycle went.entering can_enter (is ∙ enters_from) full
-    | left m h is full rest more side ↦ on_cycle (went.side true m h) (can.side true m h) is full
-  ]
-    where
-      on_cycle : {l v : ℕ} → Leaves (arcs_of old.net) (carried old) now l v moved → CanTake old (leaving old.net l v) moved → pivot.leaves ≡ leaving old.net l v
-          → ¬ CanTake old pivot.leaves (moved +ℤ pos 1) → IsBound pivot.leaves.arc
-      on_cycle {l} {v} leaves takes is full = subst (λ r. IsBound r.arc) (sym is)
-          (pushed_bound old l v moved now leaves takes went.some (subst (λ r. ¬ CanTake old r (moved +ℤ pos 1)) is full))
-
-  old_bound : (label : ℕ) → IsLabel old.net label → label ≢ k → ¬ IsInTree old label → IsBound label
-  old_bound label h ne out =
-      elim (ok.at_bounds label h out) [
-        | inl z ↦ inl (round_kept label ne out ∙ z)
-        | inr f ↦ inr (f.0, round_kept label ne out ∙ f.1)
-      ]
-
-  here_label : (label : ℕ) → IsLabel new.net label → IsLabel old.net label
-  here_label label h = subst (λ g. IsLabel g label) pivot.net h
-
-  pub new_within : (label : ℕ) → IsLabel new.net label → CanHold new.net label (carried new label)
-  new_within label h =
-      subst (λ g. CanHold g label (carried new label)) (sym pivot.net)
-      (subst (CanHold old.net label) (sym (amount_is label h.0)) (round_hold label (here_label label h)))
-
-  in_new : (label : ℕ) → 0 < label → IsBound label → IsAtBound new label
-  in_new label h (inl z) = inl (amount_is label h ∙ z)
-  in_new label h (inr f) =
-      inr (subst (λ g. label ≤ length g.arcs) (sym pivot.net) f.0, amount_is label h ∙ (f.1 ∙ ap (λ g. (arc_at g label).cap) (sym pivot.net)))
-
-  pub new_at_bounds : IsLeaving old k pivot.apex moved pivot.leaves → (label : ℕ) → IsLabel new.net label → ¬ IsInTree new label → IsAtBound new label
-  new_at_bounds leaves label h out =
-      elim ((new_tree old new k moved ok pivot).outside label
-      (λ v q e. out (record { node = v; is_node = subst (λ g. IsNode (node_count g) v) (sym pivot.net) q; labelled = e }))) [
-        | inl is ↦ in_new label h.0 (subst IsBound (sym is) (leaving_bound leaves))
-        | inr away ↦ in_new label h.0 (old_bound label (here_label label h) away.0 away.1)
-      ]
-
 pub same_state : (s : Pseudoflow) (g : Network) (amounts : List ℤ) → s.net ≡ g → s.amounts ≡ amounts → s ≡ record { net = g; amounts = amounts }
 same_state s g amounts e f = ap (λ n. record { net = n; amounts = s.amounts }) e ∙ ap (λ a. record { net = g; amounts = a }) f
 
@@ -191,6 +108,87 @@ module _ (old new : TreeStructure) (k : ℕ) (moved : ℤ) (ok : IsBasis old) (p
   went : WentRound old k pivot.apex moved
   went = went_round is_around moved (moved_low old new k moved ok pivot)
 
+  abbrev now : ℕ → ℤ
+  now label = round_amount old k pivot.apex moved label
+
+  amount_is : (label : ℕ) → 0 < label → carried new label ≡ now label
+  amount_is label h = pivoted_amount old new k moved pivot label h
+
+  enters_from : entering old k ≡ leaving old.net k (from_of old k)
+  enters_from = entering_leaves old k is_around.cycle.apart
+
+  can_enter : CanTake old (leaving old.net k (from_of old k)) moved
+  can_enter = subst (λ r. CanTake old r moved) enters_from leaves.1.entering
+
+  old_hold : (label : ℕ) → IsLabel old.net label → CanHold old.net label (carried old label)
+  old_hold label h = ok.flow.within_bounds label h
+
+  -- every amount is within its bounds
+  round_hold : (label : ℕ) → IsLabel old.net label → CanHold old.net label (now label)
+  round_hold label h =
+      elim (cases_eq k label) [
+        | inl e ↦ on_cycle went.entering can_enter e
+        | inr ne ↦ elim (cases_sides (λ side p. label_of old.tree (side_node old k side p)) (side_steps old k pivot.apex) label) [
+          | inl t ↦ on_cycle (went.side t.side t.at t.short) (leaves.1.side t.side t.at t.short) t.is
+          | inr off ↦ subst (CanHold old.net label) (sym (went.others label (λ e. ne (sym e)) (λ side i l e. off side i l (sym e)))) (old_hold label h)
+        ]
+      ]
+    where
+      on_cycle : {l v : ℕ} → Leaves (arcs_of old.net) (carried old) now l v moved → CanTake old (leaving old.net l v) moved → l ≡ label
+          → CanHold old.net label (now label)
+      on_cycle {l} {v} leaves takes e = subst (λ i. CanHold old.net i (now i)) e
+          (pushed_hold old l v moved now leaves takes went.some (old_hold l (subst (IsLabel old.net) (sym e) h)))
+
+  -- an arc outside the old tree that doesn't enter keeps its amount
+  round_kept : (label : ℕ) → label ≢ k → ¬ IsInTree old label → now label ≡ carried old label
+  round_kept label ne out =
+      went.others label ne (λ side p h e.
+      out (record { node = side_node old k side p; is_node = side_is_node is_around side p h; labelled = sym e }))
+
+  abbrev IsBound : ℕ → Type 0
+  IsBound label = (now label ≡ pos 0) ⊎ ((label ≤ length old.net.arcs) × (now label ≡ (arc_at old.net label).cap))
+
+  -- the arc that leaves is at a bound
+  leaving_bound : IsBound pivot.leaves.arc
+  leaving_bound = elim leaves.0 [
+    | right m h is full rest ↦ on_cycle (went.side false m h) (leaves.1.side false m h) is full
+    | enter is full rest ↦ on_cycle went.entering can_enter (is ∙ enters_from) full
+    | left m h is full rest more side ↦ on_cycle (went.side true m h) (leaves.1.side true m h) is full
+  ]
+    where
+      on_cycle : {l v : ℕ} → Leaves (arcs_of old.net) (carried old) now l v moved → CanTake old (leaving old.net l v) moved → pivot.leaves ≡ leaving old.net l v
+          → ¬ CanTake old pivot.leaves (moved +ℤ pos 1) → IsBound pivot.leaves.arc
+      on_cycle {l} {v} leaves takes is full = subst (λ r. IsBound r.arc) (sym is)
+          (pushed_bound old l v moved now leaves takes went.some (subst (λ r. ¬ CanTake old r (moved +ℤ pos 1)) is full))
+
+  old_bound : (label : ℕ) → IsLabel old.net label → label ≢ k → ¬ IsInTree old label → IsBound label
+  old_bound label h ne out =
+      elim (ok.at_bounds label h out) [
+        | inl z ↦ inl (round_kept label ne out ∙ z)
+        | inr f ↦ inr (f.0, round_kept label ne out ∙ f.1)
+      ]
+
+  here_label : (label : ℕ) → IsLabel new.net label → IsLabel old.net label
+  here_label label h = subst (λ g. IsLabel g label) pivot.net h
+
+  new_within : (label : ℕ) → IsLabel new.net label → CanHold new.net label (carried new label)
+  new_within label h =
+      subst (λ g. CanHold g label (carried new label)) (sym pivot.net)
+      (subst (CanHold old.net label) (sym (amount_is label h.0)) (round_hold label (here_label label h)))
+
+  in_new : (label : ℕ) → 0 < label → IsBound label → IsAtBound new label
+  in_new label h (inl z) = inl (amount_is label h ∙ z)
+  in_new label h (inr f) =
+      inr (subst (λ g. label ≤ length g.arcs) (sym pivot.net) f.0, amount_is label h ∙ (f.1 ∙ ap (λ g. (arc_at g label).cap) (sym pivot.net)))
+
+  new_at_bounds : (label : ℕ) → IsLabel new.net label → ¬ IsInTree new label → IsAtBound new label
+  new_at_bounds label h out =
+      elim ((new_tree old new k moved ok pivot).outside label
+      (λ v q e. out (record { node = v; is_node = subst (λ g. IsNode (node_count g) v) (sym pivot.net) q; labelled = e }))) [
+        | inl is ↦ in_new label h.0 (subst IsBound (sym is) leaving_bound)
+        | inr away ↦ in_new label h.0 (old_bound label (here_label label h) away.0 away.1)
+      ]
+
   -- the amounts went round
   round_state : pushed_along (full_state old) (cycle_of old (entering old k) pivot.apex) moved ≡ full_state new
   round_state =
@@ -202,7 +200,7 @@ module _ (old new : TreeStructure) (k : ℕ) (moved : ℤ) (ok : IsBasis old) (p
     of_net = refl;
     one_per_label = ap (λ (xs : List ℤ). length xs) pivot.amounts
         ∙ (round_count old k pivot.apex moved ok ∙ ap (λ g. length (with_artificial g).arcs) (sym pivot.net));
-    within_bounds = new_within old new k moved ok pivot is_around went leaves.1;
+    within_bounds = new_within;
     no_surplus = subst HasNoSurplus round_state (round_surplus is_around moved);
   }
 
@@ -225,7 +223,7 @@ module _ (old new : TreeStructure) (k : ℕ) (moved : ℤ) (ok : IsBasis old) (p
     size = new_size old new k moved ok pivot;
     tree_arcs = new_tree_arcs old new k moved ok pivot;
     flow = new_flow;
-    at_bounds = new_at_bounds old new k moved ok pivot is_around went leaves.1 leaves.0;
+    at_bounds = new_at_bounds;
     prices = new_prices old new k moved ok pivot count;
     strong = strong_kept old new k moved pivot spans (new_size old new k moved ok pivot) (new_tree_arcs old new k moved ok pivot) is_around leaves.0 went;
   }
