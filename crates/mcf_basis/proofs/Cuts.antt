@@ -62,8 +62,7 @@ total f (suc n) = total f n + f n
 
 total-same : (f h : ℕ → ℕ) (n : ℕ) → ((i : ℕ) → i < n → f i ≡ h i) → total f n ≡ total h n
 total-same f h zero e = refl
-total-same f h (suc n) e =
-    omega (arith, total-same f h n (λ i l. e i (omega arith)), e n (omega arith))
+total-same f h (suc n) e = omega (arith, total-same f h n (λ i l. e i (omega arith)), e n (omega arith))
 
 -- what is left of a list without them
 record HasRest (ws : List ℕ) (at : ℕ → ℕ) (n : ℕ) : Type 0 where
@@ -76,14 +75,12 @@ rest_of : (ws : List ℕ) (at : ℕ → ℕ) (n : ℕ) → ((i : ℕ) → i < n 
 rest_of ws at zero inside apart = record { rest = ws; size = refl; sums = omega arith; kept = λ j off. refl }
 rest_of ws at (suc n) inside apart =
     let r : HasRest ws at n = rest_of ws at n (λ i h. inside i (omega arith)) (λ i j h l. apart i j h (omega arith)) in
-    let size : length r.rest ≡ length ws = r.size in
     let here : at n < length ws = inside n (omega arith) in
-    let sums : total (λ i. get_or ws (at i) 0) n + sum r.rest ≡ sum ws = r.sums in
-    let one : sum (set r.rest (at n) 0) + get_or r.rest (at n) 0 ≡ sum r.rest + 0 = sum_by-set (λ x. x) r.rest (at n) 0 0 (omega (arith, size, here)) in
+    let one : sum (set r.rest (at n) 0) + get_or r.rest (at n) 0 ≡ sum r.rest + 0 = sum_by-set (λ x. x) r.rest (at n) 0 0 (omega (arith, r.size, here)) in
     record {
       rest = set r.rest (at n) 0;
-      size = length-set r.rest (at n) 0 ∙ size;
-      sums = omega (arith, r.kept (at n) (λ i h e. apart i n h (omega arith) (sym e)), sums, one);
+      size = length-set r.rest (at n) 0 ∙ r.size;
+      sums = omega (arith, r.kept (at n) (λ i h e. apart i n h (omega arith) (sym e)), r.sums, one);
       kept = λ j off. get_or-set_other r.rest (at n) j 0 0 (off n (omega arith)) ∙ r.kept j (λ i h. off i (omega arith));
     }
 

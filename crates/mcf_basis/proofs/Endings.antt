@@ -55,10 +55,9 @@ pub none_left : (l : Layout) (b : TreeStructure) (t : Bool) → basis_in l ≡ b
     → IsTrue t ↔ ((v : ℕ) → 1 ≤ v → v < length l.artificial → get_or l.artificial v (pos 0) ≡ pos 0)
     → IsTrue t ↔ HasNoArtificial b
 none_left l b t e ok test =
-    let size : length l.artificial ≡ node_count l.net + 1 = ok.artificial_size in
     subst (λ b. IsTrue t ↔ HasNoArtificial b) e (
-      (λ h v node. carried_added l v _ node refl ∙ test.0 h v node.0 (omega arith)),
-      (λ none. test.1 (λ v low high. (let node : IsNode (node_count l.net) v = (low, omega arith) in sym (carried_added l v _ node refl) ∙ none v node))),
+      (λ h v node. carried_added l v _ node refl ∙ test.0 h v node.0 (omega (arith, node, ok.artificial_size))),
+      (λ none. test.1 (λ v low high. (let node : IsNode (node_count l.net) v = (low, omega (arith, high, ok.artificial_size)) in sym (carried_added l v _ node refl) ∙ none v node))),
     )
 
 -- ---- the prices
@@ -78,10 +77,9 @@ pub record AreReadPrices (l : Layout) (b : TreeStructure) : Type 0 where
 
 pub read_prices : (l : Layout) (b : TreeStructure) → basis_in l ≡ b → IsLaidOut l → AreReadPrices l b
 read_prices l b e ok =
-    let count : length l.table.prices ≡ node_count l.net + 1 = ok.basis.prices.one_per_node in
     record {
-      some = omega arith;
-      count = omega (arith, length-drop 1 l.table.prices, count, ap (λ x. node_count x.net) e);
+      some = omega (arith, ok.basis.prices.one_per_node);
+      count = omega (arith, length-drop 1 l.table.prices, ok.basis.prices.one_per_node, ap (λ x. node_count x.net) e);
       value = ap (λ x. drop 1 x.prices) e;
       small = small_prices b (subst IsBasis e ok.basis);
     }

@@ -34,8 +34,7 @@ offered b o = o.cost -ℤ price_at b o.from +ℤ price_at b o.to
 
 -- an arc of reduced cost other than 0 is outside the tree
 pub not_in_tree : (b : TreeStructure) (k : ℕ) → IsBasis b → reduced_at b k ≢ pos 0 → ¬ IsInTree b k
-not_in_tree b k ok ne t =
-    ne (ap (reduced_at b) (sym t.labelled) ∙ ok.prices.balanced t.node t.is_node)
+not_in_tree b k ok ne t = ne (ap (reduced_at b) (sym t.labelled) ∙ ok.prices.balanced t.node t.is_node)
 
 pub record IsReadOffer (b : TreeStructure) (k : ℕ) (o : ArcOffer) : Type 0 where
   pub from : o.from ≤ node_count b.net
@@ -132,7 +131,7 @@ module _ (l : Layout) (k : ℕ) (ok : IsLaidOut l) (h : IsArcNumber l.net k) whe
   -- and its reduced cost can be computed
   pub can_reduce : CanReduce l.table.prices (offer_at l k)
   can_reduce =
-      let count : length l.table.prices ≡ node_count l.net + 1 = ok.basis.prices.one_per_node in
+      let count = ok.basis.prices.one_per_node in
       let r = read_offer in
       record {
         ends = record { from = omega (arith, count, r.from); to = omega (arith, count, r.to); cost = r.cost };
@@ -149,17 +148,14 @@ pub record IsOfferRead (l : Layout) (b : TreeStructure) (k : ℕ) (o : ArcOffer)
 pub offer_read : (l : Layout) (b : TreeStructure) (k i : ℕ) (o : ArcOffer) → basis_in l ≡ b → IsLaidOut l → IsArcNumber b.net k → i ≡ k - 1
     → o ≡ get_or l.offers i o → IsOfferRead l b k o
 offer_read l b k i o e ok h same read =
-    let count : length l.offers ≡ length l.net.arcs = ok.offers_size in
     let here : IsArcNumber l.net k = subst (λ x. IsArcNumber x.net k) (sym e) h in
-    let is : o ≡ offer_at l k = get_or_read l.offers i o (omega arith) read no_offer ∙ ap (λ j. get_or l.offers j no_offer) same in
+    let is : o ≡ offer_at l k = get_or_read l.offers i o (omega (arith, ok.offers_size, here, same)) read no_offer
+    ∙ ap (λ j. get_or l.offers j no_offer) same in
     let r = read_offer l k ok here in
     rw is (subst (λ x. IsOfferRead l x k (offer_at l k)) e (record { can = can_reduce l k ok here; eligible = (r.eligible, r.only); size = r.size }))
 
 pub offer_in_range : (l : Layout) (b : TreeStructure) (k i : ℕ) → basis_in l ≡ b → IsLaidOut l → IsArcNumber b.net k → i ≡ k - 1 → i < length l.offers
-offer_in_range l b k i e ok h same =
-    let here : IsArcNumber l.net k = subst (λ x. IsArcNumber x.net k) (sym e) h in
-    let count : length l.offers ≡ length l.net.arcs = ok.offers_size in
-    omega arith
+offer_in_range l b k i e ok h same = omega (arith, subst (λ x. IsArcNumber x.net k) (sym e) h, ok.offers_size, same)
 
 -- an arc as the code reads it, and its reduced cost
 pub record IsReadReduced (b : TreeStructure) (k src dst : ℕ) (c : ℤ) : Type 0 where

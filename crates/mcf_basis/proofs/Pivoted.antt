@@ -58,9 +58,6 @@ module _ (l : Layout) (b : TreeStructure) (k : ℕ) (ok : IsLaidOut l) (view : b
   el : IsEligible (basis_in l) k
   el = subst (λ x. IsEligible x k) (sym view) eligible
 
-  is_basis : IsBasis (basis_in l)
-  is_basis = ok.basis
-
   pub number : IsArcNumber l.net k
   number = el.arc
 
@@ -71,18 +68,16 @@ module _ (l : Layout) (b : TreeStructure) (k : ℕ) (ok : IsLaidOut l) (view : b
   read = read_offer l k ok number
 
   keep_premises : (1 ≤ k) × (k ≤ length l.offers) × IsUpTo limits.cost (offer_at l k).cost
-  keep_premises = (let n = number in let size = ok.offers_size in (n.0, omega (arith, n, size), read.cost))
+  keep_premises = (el.arc.0, omega (arith, el.arc, ok.offers_size), read.cost)
 
   pub residuals_sized : length l.residuals ≡ size_of l.tree
-  residuals_sized = (let n = nodes in ok.residuals_size ∙ sym n)
+  residuals_sized = ok.residuals_size ∙ sym ok.basis.size
 
   -- the offer, as it is read
   module _ (o : ArcOffer) (i : ℕ) (at : i ≡ k - 1) (read_there : o ≡ get_or l.offers i o) where
     is : o ≡ offer_at l k
     is =
-        let n = number in
-        let size = ok.offers_size in
-        read_there ∙ (get_or_default l.offers i o no_offer (omega (arith, at, n, size)) ∙ ap (λ j. get_or l.offers j no_offer) at)
+        read_there ∙ (get_or_default l.offers i o no_offer (omega (arith, at, el.arc, ok.offers_size)) ∙ ap (λ j. get_or l.offers j no_offer) at)
 
     pub from_in_tree : o.from < size_of l.tree
     from_in_tree = (let h : (offer_at l k).from ≤ node_count l.net = read.from in rw is (omega (arith, nodes, h)))
@@ -171,11 +166,11 @@ module _ (l : Layout) (b : TreeStructure) (k : ℕ) (ok : IsLaidOut l) (view : b
           mended = h.mended;
           pivots = h.pivots;
         } in
-        let basis : IsBasis (basis_in l') = pivots_keep_bases_lem (basis_in l) (basis_in l') k (pos f.amount) is_basis pivot in
+        let basis : IsBasis (basis_in l') = pivots_keep_bases_lem (basis_in l) (basis_in l') k (pos f.amount) ok.basis pivot in
         record {
           pivot = pivot;
           laid_out = h.laid_out basis;
-          falls = pivots_lower_the_pair_lem (basis_in l) (basis_in l') k (pos f.amount) is_basis pivot;
+          falls = pivots_lower_the_pair_lem (basis_in l) (basis_in l') k (pos f.amount) ok.basis pivot;
         }
 
     pub turned : (t' : SpanningTree) (offers : List ArcOffer) (residuals residuals' : List Residuals) (artificial : List ℤ) (table' : Prices) (pivots : ℕ) →

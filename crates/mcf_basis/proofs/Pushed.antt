@@ -68,8 +68,7 @@ one_push s k true x label low high h = one_set s.amounts k label (amount_at s k 
 one_push s k false x label low high h = one_set s.amounts k label (amount_at s k +ℤ x) x low high h refl
 
 pub pushed_count : (s : Pseudoflow) (r : Rid) (x : ℤ) → length (pushed s r x).amounts ≡ length s.amounts
-pushed_count s r x =
-    length-set s.amounts (r.arc - 1) (cond r.back (amount_at s r.arc -ℤ x) (amount_at s r.arc +ℤ x))
+pushed_count s r x = length-set s.amounts (r.arc - 1) (cond r.back (amount_at s r.arc -ℤ x) (amount_at s r.arc +ℤ x))
 
 pub along_count : (s : Pseudoflow) (walk : List Rid) (x : ℤ) → length (pushed_along s walk x).amounts ≡ length s.amounts
 along_count s [] x = refl
@@ -263,8 +262,7 @@ one_surplus s k false x count h v = let e = net_changed s k x v count h in omega
 -- the surplus moves from the beginning of a walk to its end
 moved_along : (s : Pseudoflow) (walk : List Rid) (x : ℤ) (u w : ℕ) → length s.amounts ≡ length s.net.arcs → All (λ r. IsArcNumber s.net r.arc) walk →
     IsWalk s.net u walk w → (v : ℕ) → surplus_at (pushed_along s walk x) v ≡ surplus_at s v -ℤ when (eqb u v) x +ℤ when (eqb w v) x
-moved_along s [] x u w count all walk v =
-    omega (arith, ints, ap (λ i. when (eqb i v) x) walk)
+moved_along s [] x u w count all walk v = omega (arith, ints, ap (λ i. when (eqb i v) x) walk)
 moved_along s (r ∷ rest) x u w count all walk v =
     let here : IsArcNumber s.net r.arc = All-head (λ (q : Rid). IsArcNumber s.net q.arc) r rest all in
     let more =
@@ -390,8 +388,7 @@ module _ {b : TreeStructure} {k apex : ℕ} (around : IsAround b k apex) where
 
   cycle_cost : walk_cost (with_artificial b.net) (cycle_of b (entering b k) apex) ≡ entering_cost b k
   cycle_cost =
-      let split =
-      walk_cost-append (with_artificial b.net) (down_path b (side_steps b k apex true) (from_of b k))
+      let split = walk_cost-append (with_artificial b.net) (down_path b (side_steps b k apex true) (from_of b k))
       (entering b k ∷ up_path b (side_steps b k apex false) (to_of b k)) in
       let same = ap (price_at b) around.cycle.closed in
       omega (arith, ints, split, down_side.paid, up_side.paid, turned_reduced b k (entering b k).back, same)

@@ -25,8 +25,7 @@ lower_cost c d s t half a b lt =
     omega (arith, ints, a, b, mul-mono_left d (c -ℤ pos 1) (pos (2 * half + 1)) (omega (arith, ints)) step, split, one)
 
 lower_sum : (c d s t : ℤ) (half : ℕ) → d ≡ c → t <ℤ s → (d *ℤ pos (2 * half + 1) +ℤ t) <ℤ (c *ℤ pos (2 * half + 1) +ℤ s)
-lower_sum c d s t half e lt =
-    omega (arith, ints, ap (λ x. x *ℤ pos (2 * half + 1)) e, lt)
+lower_sum c d s t half e lt = omega (arith, ints, ap (λ x. x *ℤ pos (2 * half + 1)) e, lt)
 
 pub rank_falls : (old new : TreeStructure) → IsBasis old → IsBasis new → new.net ≡ old.net → PairFalls old new → rank_of new <ℤ rank_of old
 rank_falls old new ok ok' net falls =

@@ -10,7 +10,7 @@ use Rattle.mcf_flows.specs.Network.{Network, IsNode, node_count}
 use Rattle.mcf_links.specs.Rooted.{climb, IsOnPath}
 use Rattle.mcf_network.specs.declared.rid.Rid.{Rid}
 use Rattle.mcf_network.specs.Residual.{arc_at, head, tail}
-use Rattle.mcf_tree.specs.SpanningTree.{IsSpanning, depth_of, label_of, parent_of, size_of}
+use Rattle.mcf_tree.specs.SpanningTree.{IsSpanning, depth_of, label_of, size_of}
 use Rattle.mcf_basis.specs.Artificial.{IsLabel, with_artificial}
 use Rattle.mcf_basis.specs.Bases.{CanHold, HasTreeArc, IsBasis, IsStronglyFeasible}
 use Rattle.mcf_basis.specs.Pivots.{IsExchanged, IsMended, IsPivot, entering}
@@ -83,9 +83,9 @@ fits b ok label =
 
 pub not_below : (b : TreeStructure) → IsBasis b → (label : ℕ) → pos 0 ≤ℤ carried b label
 not_below b ok label =
-    let count : length b.amounts ≡ length (with_artificial b.net).arcs = ok.flow.one_per_label in
     elim (cases_lt (label - 1) (length b.amounts)) [
-      | inl within ↦ (let held : CanHold b.net (label - 1 + 1) (carried b (label - 1 + 1)) = ok.flow.within_bounds (label - 1 + 1) (omega arith, omega arith) in
+      | inl within ↦ (let held : CanHold b.net (label - 1 + 1) (carried b (label - 1 + 1)) = ok.flow.within_bounds (label - 1 + 1)
+          (omega arith, omega (arith, ok.flow.one_per_label, within)) in
           let place : label - 1 + 1 - 1 ≡ label - 1 = omega arith in
           subst (λ i. pos 0 ≤ℤ slice_index_or b.amounts i (pos 0)) place held.low)
       | inr past ↦ (let none = get_or_past b.amounts (label - 1) (pos 0) past in omega (arith, ints, none))
@@ -96,9 +96,7 @@ not_below b ok label =
 -- one more can go up from each node
 pub strong_up : (b : TreeStructure) → IsBasis b → (v : ℕ) → 0 < v → v < length b.tree.parents → CanTake b (up_arc b v) (pos 1)
 strong_up b ok v p h =
-    let size : size_of b.tree ≡ node_count b.net + 1 = ok.size in
-    let falls : depth_of b.tree v ≡ depth_of b.tree (parent_of b.tree v) + 1 = ok.spanning.rooted.falls v p h in
-    up_at b (λ r. CanTake b r (pos 1)) (depth_of b.tree v) v (ok.strong v (omega arith, omega arith)) zero (omega arith)
+    up_at b (λ r. CanTake b r (pos 1)) (depth_of b.tree v) v (ok.strong v (p, omega (arith, h, ok.size))) zero (omega (arith, ok.spanning.rooted.falls v p h))
 
 pub room_of_strong : (b : TreeStructure) → IsBasis b → HasRoomUp (arcs_of b.net) b.tree.parents b.tree.labels (carried b)
 room_of_strong b ok = record { room = λ v p h. leave_of_take (strong_up b ok v p h) }
@@ -147,8 +145,7 @@ module _ {old : TreeStructure} {k apex : ℕ} {moved : ℤ} (is_around : IsAroun
   module _ (out inner outer : ℕ) (new : TreeStructure) (x : IsExchanged old (entering old k) out inner outer new) where
     exchanged_room : (q : Rid) → q.arc ≡ label_of old.tree out → IsLeaving old k apex moved q → HasRoom new.tree.parents new.tree.labels
     exchanged_room q named (right m h is full free) =
-        let at_out : out ≡ side_node old k false m =
-        step_of is_around (side_step is_around false m h) x.is_node
+        let at_out : out ≡ side_node old k false m = step_of is_around (side_step is_around false m h) x.is_node
         (sym (ap (λ r. r.arc) is) ∙ named) in
         elim x.ends [
           | inl e ↦ absurd (below_apex is_around.basis.spanning.rooted (is_around.cycle.in_range false) h at_out
@@ -161,8 +158,7 @@ module _ {old : TreeStructure} {k apex : ℕ} {moved : ℤ} (is_around : IsAroun
     exchanged_room q named (enter is full free) =
         absurd (is_around.eligible.outside (record { node = out; is_node = x.is_node; labelled = sym named ∙ ap (λ r. r.arc) is }))
     exchanged_room q named (left m h is full free first above) =
-        let at_out : out ≡ side_node old k true m =
-        step_of is_around (side_step is_around true m h) x.is_node
+        let at_out : out ≡ side_node old k true m = step_of is_around (side_step is_around true m h) x.is_node
         (sym (ap (λ r. r.arc) is) ∙ named) in
         elim x.ends [
           | inl e ↦ strong_left is_around.tree is_around.cycle went (fits old is_around.basis) (not_below old is_around.basis) (room_of_strong old is_around.basis)

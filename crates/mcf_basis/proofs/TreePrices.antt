@@ -1,5 +1,5 @@
 -- Where the prices of a basis lie.
-use Rattle.std.proofs.Common.{◌≡◌, ℕ, zero, suc, ◌+◌, ◌-◌, ◌*◌, ◌<◌, ◌≤◌, ◌⊎◌, inl, inr, List, [], ◌∷◌, length, map, sum, ap, ◌∙◌, arith, subst, sym, get_or, ℤ, pos}
+use Rattle.std.proofs.Common.{◌≡◌, ℕ, zero, suc, ◌+◌, ◌-◌, ◌*◌, ◌<◌, ◌≤◌, ◌⊎◌, inl, inr, List, [], ◌∷◌, length, ap, ◌∙◌, arith, subst, sym, get_or, ℤ, pos}
 use Rattle.std.proofs.Common.{◌+ℤ◌, ◌-ℤ◌}
 use Rattle.std.specs.Prelude.{unsigned_abs}
 use Rattle.std.specs.List.{All}
@@ -9,9 +9,9 @@ use Rattle.std.proofs.lemmas.Bool.{cases_eq}
 use Rattle.mcf_flows.specs.declared.arc.Arc.{Arc}
 use Rattle.mcf_flows.specs.Limits.{limits, node_limit}
 use Rattle.mcf_flows.specs.Network.{Network, IsArcNumber, IsNode, node_count}
-use Rattle.mcf_flows.specs.WellFormed.{IsUpTo, weight}
+use Rattle.mcf_flows.specs.WellFormed.{IsUpTo}
 use Rattle.mcf_flows.proofs.Bounds.{size_up_to, up_to_size}
-use Rattle.mcf_network.specs.Nets.{IsNet, IsNetArc, net_total_limit}
+use Rattle.mcf_network.specs.Nets.{IsNet, IsNetArc}
 use Rattle.mcf_network.specs.Residual.{no_arc, arc_at}
 use Rattle.mcf_tree.specs.SpanningTree.{depth_of, label_of, parent_of, size_of}
 use Rattle.mcf_tree.proofs.Meeting.{path_place}
@@ -70,12 +70,10 @@ root_step b label u (into s d) r p c =
 
 module _ (b : TreeStructure) (ok : IsBasis b) where
   pub in_tree : (v : ℕ) → v ≤ node_count b.net → v < size_of b.tree
-  in_tree v h = let size : size_of b.tree ≡ node_count b.net + 1 = ok.size in omega arith
+  in_tree v h = omega (arith, h, ok.size)
 
   pub parent_in : (v : ℕ) → v ≤ node_count b.net → parent_of b.tree v ≤ node_count b.net
-  parent_in v h =
-      let size : size_of b.tree ≡ node_count b.net + 1 = ok.size in
-      let p : parent_of b.tree v < size_of b.tree = ok.spanning.rooted.within v (in_tree v h) in omega arith
+  parent_in v h = omega (arith, ok.size, ok.spanning.rooted.within v (in_tree v h))
 
   -- the arc above a node whose parent isn't the root
   inner_step : (v far : ℕ) (z : ℤ) → 0 < v → v ≤ node_count b.net → 0 < parent_of b.tree v → IsUpTo far (price_at b (parent_of b.tree v) -ℤ z)
@@ -125,9 +123,8 @@ module _ (b : TreeStructure) (ok : IsBasis b) where
   -- the price of the child of the root on the path from a node
   pub top_near : (v : ℕ) → 0 < v → v ≤ node_count b.net → IsNear (artificial_cost b.net) 0 (price_at b (top b v))
   top_near v up h =
-      let inside : v < size_of b.tree = in_tree v h in
-      let f : depth_of b.tree v ≡ depth_of b.tree (parent_of b.tree v) + 1 = ok.spanning.rooted.falls v up inside in
-      let w = step_at ok.spanning.rooted v (depth_of b.tree v) (depth_of b.tree v - 1) inside (omega arith) (omega arith) in
+      let f = ok.spanning.rooted.falls v up (in_tree v h) in
+      let w = step_at ok.spanning.rooted v (depth_of b.tree v) (depth_of b.tree v - 1) (in_tree v h) (omega arith) (omega (arith, f)) in
       let g = ok.spanning.rooted.falls (top b v) w.above w.within in
       let z : parent_of b.tree (top b v) ≡ 0 = root_from_depth b.tree.parents (depth_of b.tree) ok.spanning.rooted (parent_of b.tree (top b v))
       (ok.spanning.rooted.within (top b v) w.within) (omega (arith, f, g, w.deep)) in
@@ -163,14 +160,10 @@ module _ (b : TreeStructure) (ok : IsBasis b) where
 -- within the limits of nets a price fits 128 bits, with much to spare
 pub reach_small : (g : Network) → IsNet g → price_reach g ≤ price_limit
 reach_small g ok =
-    let total : sum (map weight g.arcs) ≤ net_total_limit = ok.total in
-    let cost : greatest_cost g.arcs ≤ limits.cost = greatest_small g.arcs ok.each_arc in
     let a : node_count g * greatest_cost g.arcs ≤ node_limit * greatest_cost g.arcs = mul-le-mul ok.nodes (omega arith) in
-    let b : node_limit * greatest_cost g.arcs ≤ node_limit * limits.cost = mul-le-mul_left node_limit cost in
-    omega arith
+    omega (arith, ok.total, a, mul-le-mul_left node_limit (greatest_small g.arcs ok.each_arc))
 
 pub price_small : (b : TreeStructure) → IsBasis b → (v : ℕ) → v ≤ node_count b.net → IsUpTo price_limit (price_at b v)
 price_small b ok v h =
-    let p : IsUpTo (price_reach b.net) (price_at b v) = price_reached b ok v h in
-    let small : price_reach b.net ≤ price_limit = reach_small b.net ok.of_net in
-    (omega (arith, ints), omega (arith, ints))
+    let p = price_reached b ok v h in
+    let small = reach_small b.net ok.of_net in (omega (arith, ints, p, small), omega (arith, ints, p, small))

@@ -46,12 +46,11 @@ pub record IsReadPrice (l : Layout) (b : TreeStructure) (v : ℕ) : Type 0 where
 
 pub read_price : (l : Layout) (b : TreeStructure) (v : ℕ) → basis_in l ≡ b → IsLaidOut l → v ≤ node_count b.net → IsReadPrice l b v
 read_price l b v e ok h =
-    let nodes : node_count l.net ≡ node_count b.net = ap (λ x. node_count x.net) e in
-    let count : length l.table.prices ≡ node_count l.net + 1 = ok.basis.prices.one_per_node in
+    let nodes = ap (λ x. node_count x.net) e in
     record {
-      in_range = omega arith;
+      in_range = omega (arith, h, nodes, ok.basis.prices.one_per_node);
       value = ap (λ x. price_at x v) e;
-      small = price_small (basis_in l) ok.basis v (omega arith);
+      small = price_small (basis_in l) ok.basis v (omega (arith, h, nodes));
     }
 
 -- each price has room

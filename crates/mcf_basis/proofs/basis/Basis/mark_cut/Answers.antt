@@ -49,5 +49,4 @@ returns-clause-blocks c =
     (λ v h. c.loop-i.invariant.marks v h (omega (arith, count, h, c.loop-i-test.false)))
 
 pub returns-clause-basis : goal.returns-clause-basis
-returns-clause-basis c =
-    view_basis _ c.args.self.now c.self.view_is c.self.invariant
+returns-clause-basis c = view_basis _ c.args.self.now c.self.view_is c.self.invariant

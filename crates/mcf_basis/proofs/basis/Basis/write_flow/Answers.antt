@@ -4,20 +4,16 @@ use Rattle.mcf_basis.proofs.Endings.{can_be_written, flow_written}
 use Rattle.mcf_basis.proofs.basis.Basis.write_flow.Goals as goal
 
 pub write_outside-requires-clause-net : goal.write_outside-requires-clause-net
-write_outside-requires-clause-net c =
-    c.requires ∙ ap (λ (b : TreeStructure). b.net) (sym c.self.view_is)
+write_outside-requires-clause-net c = c.requires ∙ ap (λ (b : TreeStructure). b.net) (sym c.self.view_is)
 
 pub write_tree-requires-clause-size : goal.write_tree-requires-clause-size
-write_tree-requires-clause-size c =
-    (can_be_written _ c.self.invariant).size
+write_tree-requires-clause-size c = (can_be_written _ c.self.invariant).size
 
 pub write_tree-requires-clause-low : goal.write_tree-requires-clause-low
-write_tree-requires-clause-low c =
-    (can_be_written _ c.self.invariant).low
+write_tree-requires-clause-low c = (can_be_written _ c.self.invariant).low
 
 pub write_tree-requires-clause-apart : goal.write_tree-requires-clause-apart
-write_tree-requires-clause-apart c =
-    (can_be_written _ c.self.invariant).apart
+write_tree-requires-clause-apart c = (can_be_written _ c.self.invariant).apart
 
 pub returns-clause-value : goal.returns-clause-value
 returns-clause-value c =
