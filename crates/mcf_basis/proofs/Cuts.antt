@@ -5,7 +5,7 @@ use Rattle.std.proofs.Common.{get_or, refl, sym, ap, ◌∙◌, subst, arith, �
 use Rattle.std.specs.Prelude.{int_lt, max, unsigned_abs}
 use Rattle.std.specs.List.{AllZip, All}
 use Rattle.std.proofs.Math.Nat.{le-max_right, mul-le-mul_left}
-use Rattle.std.proofs.lemmas.Bool.{and_parts, cases_Bool}
+use Rattle.std.proofs.lemmas.Bool.{and_parts, cases_Bool, cond-true, cond-false}
 use Rattle.std.proofs.lemmas.Int.{ints}
 use Rattle.std.proofs.lemmas.List.{get_or-map, get_or-set_other, length-map}
 use Rattle.std.proofs.lemmas.List.Sums.{sum_by-set}
@@ -41,7 +41,7 @@ use Rattle.mcf_basis.proofs.LastBases.{each_own, empty_above, full_below, node_c
 use Rattle.mcf_basis.proofs.LastBases.{shows, within}
 use Rattle.mcf_basis.proofs.Offers.{own_reduced}
 use Rattle.mcf_basis.proofs.Pushed.{node_of}
-use Rattle.mcf_basis.proofs.StarBases.{sender_net, taker_net}
+use Rattle.mcf_basis.proofs.StarBases.{added_net}
 use Rattle.mcf_basis.proofs.StrongPivot.{IsStep, labels_apart, step_at}
 use Rattle.mcf_basis.proofs.TreePrices.{in_tree, one_step, top, top_near}
 use Rattle.std.proofs.lemmas.List.Elements.{All-head, All-tail}
@@ -129,11 +129,11 @@ module _ (b : TreeStructure) (ok : IsBasis b) where
   pub node_case : (v : ℕ) → IsNode (node_count b.net) v → NodeCase b v
   node_case v h =
       elim (cases_Bool (is_sender b.net v)) [
-        | inl e ↦ sends (unsent_is v h ∙ (sender_net b.net (drop (length b.net.arcs) b.amounts) (rest_count b ok) v h e
+        | inl e ↦ sends (unsent_is v h ∙ (added_net b.net (drop (length b.net.arcs) b.amounts) (rest_count b ok) v h ∙ cond-true _ _ _ e
             ∙ read_added b (v - 1) v (omega arith))) (λ some. (let falls = added_price v h some in
             let to = ap (price_at b) (sender_ends b.net v e).1 in
             omega (arith, ints, falls, ap (price_at b) (sender_ends b.net v e).0, to, ok.prices.root)))
-        | inr e ↦ takes (unsent_is v h ∙ (taker_net b.net (drop (length b.net.arcs) b.amounts) (rest_count b ok) v h e
+        | inr e ↦ takes (unsent_is v h ∙ (added_net b.net (drop (length b.net.arcs) b.amounts) (rest_count b ok) v h ∙ cond-false _ _ _ e
             ∙ ap neg_ℤ (read_added b (v - 1) v (omega arith)))) (λ some. (let falls = added_price v h some in
             let to = ap (price_at b) (taker_ends b.net v e).1 in
             omega (arith, ints, falls, ap (price_at b) (taker_ends b.net v e).0, to, ok.prices.root)))

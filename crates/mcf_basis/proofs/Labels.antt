@@ -2,7 +2,7 @@
 use Rattle.std.proofs.Common.{◌≡◌, ℕ, ◌+◌, ◌-◌, ◌<◌, ◌++◌, ◌⊎◌, inl, inr, true, false, length, map, refl, ap, sym, ◌∙◌, arith, get_or, pos, length-append, suc}
 use Rattle.std.proofs.Common.{◌≤◌, Bool, eqb, List, [], ◌∷◌, take, drop, ℤ, ◌+ℤ◌}
 use Rattle.std.specs.List.{range_with_len}
-use Rattle.std.proofs.lemmas.Bool.{cases_Bool, cases_lt}
+use Rattle.std.proofs.lemmas.Bool.{cases_lt}
 use Rattle.std.proofs.lemmas.List.{get_or_append_left, get_or-append-add, get_or-take, get_or-drop, take-append-drop, length-take-le, length-drop}
 use Rattle.std.proofs.lemmas.List.FromFn.{length-map-range_with_len, get_or-map-range_with_len}
 use Rattle.mcf_flows.specs.Network.{Network, IsArcNumber, IsNode, node_count, flow_sum, when}
@@ -95,10 +95,7 @@ inner_arc g label u v h pu pv joins =
     elim (label_case g label h) [
       | own k ↦ k
       | added w node e ↦ absurd (let same = added_arc g w label node e in
-          elim (cases_Bool (is_sender g w)) [
-            | inl e ↦ (let z = ap (λ a. a.dst) same ∙ (sender_ends g w e).1 in omega (arith, z, both_up g label u v pu pv joins))
-            | inr e ↦ (let z = ap (λ a. a.src) same ∙ (taker_ends g w e).0 in omega (arith, z, both_up g label u v pu pv joins))
-          ])
+          grind (arith, ap (λ a. a.src) same, ap (λ a. a.dst) same, both_up g label u v pu pv joins))
     ]
 
 -- an arc joins its ends in either order

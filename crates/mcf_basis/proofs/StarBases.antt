@@ -1,11 +1,11 @@
 -- The star of the artificial arcs is a basis, and so it is stored.
-use Rattle.std.proofs.Common.{◌≡◌, ◌≢◌, ℕ, zero, suc, ◌+◌, ◌-◌, ◌<◌, inl, inr, true, false, not, eqb, List, [], length, map, take, drop, replicate, get_or}
-use Rattle.std.proofs.Common.{refl, sym, ap, ◌∙◌, arith, subst, ℤ, pos, neg_ℤ, ◌+ℤ◌, ◌-ℤ◌, ◌<ℤ◌, length-append, ◌≤◌, ◌++◌, Bool, cond, ◌∷◌}
+use Rattle.std.proofs.Common.{◌≡◌, ◌≢◌, ℕ, zero, suc, ◌+◌, ◌-◌, ◌<◌, inl, inr, false, eqb, List, [], length, map, take, drop, replicate, get_or, refl, sym, ap}
+use Rattle.std.proofs.Common.{◌∙◌, arith, subst, ℤ, pos, neg_ℤ, ◌+ℤ◌, ◌-ℤ◌, length-append, ◌≤◌, ◌++◌, Bool, cond, ◌∷◌, true}
 use Rattle.std.specs.Prelude.{unsigned_abs, int_le, if◌then◌else◌, int_lt, max, sum}
 use Rattle.std.specs.List.{All, range_with_len}
 use Rattle.std.proofs.lemmas.Int.{ints}
 use Rattle.std.proofs.lemmas.Bool.Decides.{nat_tests}
-use Rattle.std.proofs.lemmas.Bool.{cases_Bool, eq-eqb, true≢false, cases_lt, cond-true, cond-false}
+use Rattle.std.proofs.lemmas.Bool.{cases_Bool, eq-eqb, cases_lt, cond-true, cond-false}
 use Rattle.std.proofs.lemmas.List.{get_or-replicate, get_or-take, get_or_append_left, get_or-append-add, length-drop, length-replicate, length-take-le}
 use Rattle.std.proofs.lemmas.List.{ext_get_or}
 use Rattle.std.proofs.lemmas.List.Elements.{All-nil, All-cons}
@@ -13,14 +13,13 @@ use Rattle.std.proofs.lemmas.List.FromFn.{get_or-map-range_with_len, length-map-
 use Rattle.mcf_flows.specs.declared.arc.Arc.{Arc}
 use Rattle.mcf_flows.specs.Flow.{net}
 use Rattle.mcf_flows.specs.Network.{Network, IsNode, at_node, flow_sum, node_count, when, IsArcNumber}
-use Rattle.mcf_flows.proofs.IntLaws.{at_most}
 use Rattle.mcf_network.specs.Nets.{IsNet, IsNetArc}
 use Rattle.mcf_network.specs.Residual.{arc_at}
 use Rattle.mcf_network.specs.States.{HasNoSurplus}
 use Rattle.mcf_network.proofs.ArcLaws.{net_arc_at}
 use Rattle.mcf_network.proofs.StateLaws.{when-other}
 use Rattle.mcf_tree.specs.SpanningTree.{IsSpanning, IsStar, depth_of, label_of, parent_of, size_of}
-use Rattle.mcf_basis.specs.Artificial.{IsLabel, artificial_arc, artificial_cost, is_sender, with_artificial}
+use Rattle.mcf_basis.specs.Artificial.{IsLabel, artificial_arc, is_sender, with_artificial, artificial_cost}
 use Rattle.mcf_basis.specs.Bases.{CanHold, HasTreeArc, HasTreePrices, IsAtBound, IsBasis}
 use Rattle.mcf_basis.specs.Starts.{start_amounts, start_price, start_prices, IsStart}
 use Rattle.mcf_basis.specs.Structures.{TreeStructure, CanTake, IsInTree, carried, full_state, leaving, price_at, reduced_at, up_path}
@@ -28,7 +27,7 @@ use Rattle.mcf_basis.specs.Structures.Joins.{out_of, into}
 use Rattle.mcf_basis.proofs.Labels.{added_arcs, arc_at_place, net_of_zeros, read_added, split_net, added_arc, added_label, label_case, label_count, sender_ends}
 use Rattle.mcf_basis.proofs.Labels.{taker_ends}
 use Rattle.mcf_basis.proofs.Labels.LabelCase.{own, added}
-use Rattle.mcf_basis.proofs.LastBases.{node_count_added, size_low, supply_added, above_zero, not_above_zero}
+use Rattle.mcf_basis.proofs.LastBases.{node_count_added, supply_added, above_zero, not_above_zero}
 use Rattle.mcf_basis.proofs.TreeFlows.{single_term}
 use Rattle.mcf_flows.specs.WellFormed.{weight}
 use Rattle.mcf_flows.proofs.Bounds.{sum-weights}
@@ -40,18 +39,19 @@ use Rattle.mcf_basis.specs.Private.Layouts.IsOffer.{closed, forward}
 use Rattle.mcf_basis.specs.Ranks.{greatest_cost}
 use Rattle.mcf_basis.proofs.Views.{amount_added, amount_none}
 
-below_zero : (x : ℤ) → int_le (pos 0) x ≡ false → x <ℤ pos 0
-below_zero x e = grind (arith, ints)
+-- what a node sends or takes is its supply
+signed_size : (x : ℤ) → cond (int_le (pos 0) x) (pos (unsigned_abs x)) (neg_ℤ (pos (unsigned_abs x))) ≡ x
+signed_size x = grind (arith, ints)
 
-size_below : (x : ℤ) → x <ℤ pos 0 → pos (unsigned_abs x) ≡ neg_ℤ x
-size_below x h = grind (arith, ints)
+-- along an artificial arc the price falls by its cost c
+price_falls : (sends : Bool) (v : ℕ) (price : ℕ → ℤ) (c : ℤ) → price 0 ≡ pos 0 → price v ≡ cond sends c (neg_ℤ c)
+    → c -ℤ price (cond sends v 0) +ℤ price (cond sends 0 v) ≡ pos 0
+price_falls true v price c root at = omega (arith, ints, root, at)
+price_falls false v price c root at = omega (arith, ints, root, at)
 
 -- an artificial arc has no end at another node
 apart_ends : (g : Network) (u v : ℕ) → 0 < v → u ≢ v → ((artificial_arc g u).src ≢ v) × ((artificial_arc g u).dst ≢ v)
-apart_ends g u v up ne = elim (cases_Bool (is_sender g u)) [
-  | inl e ↦ (let z = sender_ends g u e in (λ q. ne (sym z.0 ∙ q), λ q. (let w = sym z.1 ∙ q in omega (arith, w, up))))
-  | inr e ↦ (let z = taker_ends g u e in (λ q. (let w = sym z.0 ∙ q in omega (arith, w, up)), λ q. ne (sym z.1 ∙ q)))
-]
+apart_ends g u v up ne = (λ q. grind (arith, q, up, ne), λ q. grind (arith, q, up, ne))
 
 -- what the artificial arcs carry at the start
 abbrev pub star_amount : Network → ℕ → ℤ
@@ -74,19 +74,11 @@ module _ (g : Network) (flow : List ℤ) (count : length flow ≡ node_count g) 
       ∙ ap (λ a. when (eqb (end a) v) (get_or flow (v - 1) (pos 0))) (arc_at_place g (v - 1) (omega arith) ∙ ap (artificial_arc g) back)
 
   -- a sender sends away along it, a taker takes
-  pub sender_net : is_sender g v ≡ true → net (added_arcs g) flow v ≡ get_or flow (v - 1) (pos 0)
-  sender_net e =
+  pub added_net : net (added_arcs g) flow v ≡ cond (is_sender g v) (get_or flow (v - 1) (pos 0)) (neg_ℤ (get_or flow (v - 1) (pos 0)))
+  added_net =
       let out = at_end (λ a. a.src) (λ u ne. (apart_ends g u v h.0 ne).0) in
       let inn = at_end (λ a. a.dst) (λ u ne. (apart_ends g u v h.0 ne).1) in
-      let ends = sender_ends g v e in
-      grind (arith, ints, nat_tests, out, inn, ends, h)
-
-  pub taker_net : is_sender g v ≡ false → net (added_arcs g) flow v ≡ neg_ℤ (get_or flow (v - 1) (pos 0))
-  taker_net e =
-      let out = at_end (λ a. a.src) (λ u ne. (apart_ends g u v h.0 ne).0) in
-      let inn = at_end (λ a. a.dst) (λ u ne. (apart_ends g u v h.0 ne).1) in
-      let ends = taker_ends g v e in
-      grind (arith, ints, nat_tests, out, inn, ends, h)
+      grind (arith, ints, nat_tests, out, inn, h)
 
 -- by their places among the amounts of the start
 pub start_own : (g : Network) (i : ℕ) → i < length g.arcs → get_or (start_amounts g) i (pos 0) ≡ pos 0
@@ -154,15 +146,8 @@ module _ (b : TreeStructure) (ok : IsNet b.net) (spanning : IsSpanning b.tree) (
 
   star_balanced : (v : ℕ) → IsNode (node_count b.net) v → reduced_at b (label_of b.tree v) ≡ pos 0
   star_balanced v h =
-      let cut = ap (λ a. a.cost -ℤ price_at b a.src +ℤ price_at b a.dst) (star_arc v h) in
-      elim (cases_Bool (is_sender b.net v)) [
-        | inl e ↦ (let s = ap (price_at b) (sender_ends b.net v e).0 in
-            let p : start_price b.net v ≡ pos (artificial_cost b.net) = rw e refl in
-            omega (arith, ints, cut, root_start_price, node_start_price v h, s, ap (price_at b) (sender_ends b.net v e).1, p))
-        | inr e ↦ (let s = ap (price_at b) (taker_ends b.net v e).0 in
-            let p : start_price b.net v ≡ neg_ℤ (pos (artificial_cost b.net)) = rw e refl in
-            omega (arith, ints, cut, root_start_price, node_start_price v h, s, ap (price_at b) (taker_ends b.net v e).1, p))
-      ]
+      ap (λ a. a.cost -ℤ price_at b a.src +ℤ price_at b a.dst) (star_arc v h)
+      ∙ price_falls (is_sender b.net v) v (price_at b) (pos (artificial_cost b.net)) root_start_price (node_start_price v h)
 
   star_prices : HasTreePrices b
   star_prices = record {
@@ -201,14 +186,9 @@ module _ (b : TreeStructure) (ok : IsNet b.net) (spanning : IsSpanning b.tree) (
       let none = net_of_zeros b.net.arcs (take (length b.net.arcs) b.amounts) v (λ i l. (let m : i < length b.net.arcs = omega (arith, l, short) in
       get_or-take (length b.net.arcs) b.amounts i (pos 0) m ∙ own_empty i m)) in
       let read = read_added b (v - 1) v (omega arith) ∙ added_amount v (length b.net.arcs + v) node refl in
-      elim (cases_Bool (is_sender b.net v)) [
-        | inl e ↦ (let away = sender_net b.net (drop (length b.net.arcs) b.amounts) count v node e in
-            let whole = size_low (at_node b.net.supplies v) (at_most (pos 0) (at_node b.net.supplies v) e) in
-            omega (arith, ints, split, none, away, read, whole, supply_added b.net v))
-        | inr e ↦ (let away = taker_net b.net (drop (length b.net.arcs) b.amounts) count v node e in
-            let whole = size_below (at_node b.net.supplies v) (below_zero (at_node b.net.supplies v) e) in
-            omega (arith, ints, split, none, away, read, whole, supply_added b.net v))
-      ]
+      let away = added_net b.net (drop (length b.net.arcs) b.amounts) count v node ∙ (ap (λ z. cond (is_sender b.net v) z (neg_ℤ z)) read
+      ∙ signed_size (at_node b.net.supplies v)) in
+      omega (arith, ints, split, none, away, supply_added b.net v)
 
   star_strong : (v : ℕ) → IsNode (node_count b.net) v → All (λ r. CanTake b r (pos 1)) (up_path b (depth_of b.tree v) v)
   star_strong v h =
@@ -222,12 +202,7 @@ module _ (b : TreeStructure) (ok : IsNet b.net) (spanning : IsSpanning b.tree) (
       room = record {
         forward = λ f l. absurd (let e = star_label v h in omega (arith, e, l, h));
         backward = λ back. (let amount = added_amount v (label_of b.tree v) h (star_label v h) in
-            elim (cases_Bool (is_sender b.net v)) [
-              | inl e ↦ absurd (let src = ap (λ a. a.src) (star_arc v h) ∙ (sender_ends b.net v e).0 in
-                  true≢false (sym back ∙ ap not (eq-eqb _ _ src)))
-              | inr e ↦ (let size = size_below (at_node b.net.supplies v) (below_zero (at_node b.net.supplies v) e) in
-                  omega (arith, ints, amount, size, below_zero (at_node b.net.supplies v) e))
-            ]);
+            grind (arith, ints, nat_tests, ap (λ a. a.src) (star_arc v h), back, amount));
       }
 
   pub star_is_basis : IsBasis b
