@@ -116,6 +116,10 @@ module _ (l : Layout) (b : TreeStructure) (k : ℕ) (ok : IsLaidOut l) (view : b
         }
 
   module _ (f : Cycle) (round : IsRoundOf l k f) where
+    -- the arc that leaves
+    abbrev leaves : Rid
+    leaves = leaves_by (basis_in l) k f.leaving f.out
+
     -- what push asks for
     pub push_ready : CanPush l.net l.tree l.residuals l.artificial f.from f.to f.apex f.amount
     push_ready = rw (round.same_from, round.same_to) (can_push l k f.apex f.amount ok el round.is_around round.can)
@@ -126,7 +130,7 @@ module _ (l : Layout) (b : TreeStructure) (k : ℕ) (ok : IsLaidOut l) (view : b
     replace_ready residuals size is = record {
       at_once = λ e. rw round.same_arc keep_premises;
       exchanged = λ other. rw (round.same_arc, round.same_from, round.same_to, is)
-          (can_exchange l k f.apex f.amount f.out (is_left f.leaving) (leaves_by (basis_in l) k f.leaving f.out) residuals ok el round.is_around round.can
+          (can_exchange l k f.apex f.amount f.out (is_left f.leaving) leaves residuals ok el round.is_around round.can
           (round.is_out other) size);
     }
 
@@ -138,7 +142,7 @@ module _ (l : Layout) (b : TreeStructure) (k : ℕ) (ok : IsLaidOut l) (view : b
         f.reduced ≡ offered (basis_in l) (offer_at l k) →
         IsPushedRound l.net l.tree l.residuals residuals l.artificial artificial f.from f.to f.apex f.amount →
         IsReplaced l.net l.tree t' l.offers offers residuals residuals' l.table table' f →
-        IsPivotedLayout l (next_layout l t' offers residuals' artificial table') k f.apex (pos f.amount) (leaves_by (basis_in l) k f.leaving f.out)
+        IsPivotedLayout l (next_layout l t' offers residuals' artificial table') k f.apex (pos f.amount) leaves
     replaced t' offers residuals residuals' artificial table' is pushed (at_once e tree turned same prices) =
         let full : ¬ CanTake (basis_in l) (entering (basis_in l) k) (pos f.amount +ℤ pos 1) =
         leaving_blocks (basis_in l) k f.apex (pos f.amount) (entering (basis_in l) k)
@@ -150,17 +154,17 @@ module _ (l : Layout) (b : TreeStructure) (k : ℕ) (ok : IsLaidOut l) (view : b
     replaced t' offers residuals residuals' artificial table' is pushed (exchanged other h) =
         exchanged_pivot l k f.apex f.amount ok el round.is_around round.can went residuals artificial
         (rw (round.same_from, round.same_to) at pushed) f.out (is_left f.leaving)
-        (leaves_by (basis_in l) k f.leaving f.out) (round.is_out other) t' offers residuals' table'
+        leaves (round.is_out other) t' offers residuals' table'
         (rw (round.same_arc, round.same_from, round.same_to, is) at h)
 
-    pub pivoted : (l' : Layout) → IsPivotedLayout l l' k f.apex (pos f.amount) (leaves_by (basis_in l) k f.leaving f.out) → IsTurnedTo (basis_in l) l' k (pos f.amount)
+    pub pivoted : (l' : Layout) → IsPivotedLayout l l' k f.apex (pos f.amount) leaves → IsTurnedTo (basis_in l) l' k (pos f.amount)
     pivoted l' h =
         let pivot : IsPivot (basis_in l) k (pos f.amount) (basis_in l') = record {
           eligible = el;
           apex = f.apex;
           is_apex = round.is_around.is_apex;
-          leaves = leaves_by (basis_in l) k f.leaving f.out;
-          last_blocking = last_of_leaving (basis_in l) k f.apex (pos f.amount) (leaves_by (basis_in l) k f.leaving f.out) round.can round.leaves;
+          leaves = leaves;
+          last_blocking = last_of_leaving (basis_in l) k f.apex (pos f.amount) leaves round.can round.leaves;
           net = h.net;
           amounts = h.amounts;
           mended = h.mended;
@@ -179,4 +183,4 @@ module _ (l : Layout) (b : TreeStructure) (k : ℕ) (ok : IsLaidOut l) (view : b
         IsReplaced l.net l.tree t' l.offers offers residuals residuals' l.table table' f →
         IsTurnedTo b (laid l.net t' offers residuals' artificial table' pivots) k (pos f.amount)
     turned t' offers residuals residuals' artificial table' pivots one_more is pushed done =
-        rw (one_more, ← view) (pivoted (next_layout l t' offers residuals' artificial table') (replaced t' offers residuals residuals' artificial table' is pushed done))
+        rw (one_more, ← view) (pivoted _ (replaced t' offers residuals residuals' artificial table' is pushed done))

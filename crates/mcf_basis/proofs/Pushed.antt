@@ -154,8 +154,8 @@ module _ {b : TreeStructure} {k apex : ℕ} (around : IsAround b k apex) where
   })
 
   cycle_entries : All (HasEntry b.amounts) (cycle_of b (entering b k) apex)
-  cycle_entries =
-      All-weaker (λ r. IsLabel b.net r.arc) (HasEntry b.amounts) (λ r h. (h.0, rw around.basis.flow.one_per_label h.1)) (cycle_of b (entering b k) apex) cycle_labels
+  cycle_entries = All-weaker (λ r. IsLabel b.net r.arc) (HasEntry b.amounts)
+      (λ r h. (h.0, rw around.basis.flow.one_per_label h.1)) (cycle_of b (entering b k) apex) cycle_labels
 
   labels_differ : (s t : Bool) (p q : ℕ) → p < side_steps b k apex s → q < side_steps b k apex t → side_node b k s p ≢ side_node b k t q
       → label_of b.tree (side_node b k s p) ≢ label_of b.tree (side_node b k t q)
@@ -381,10 +381,9 @@ module _ {b : TreeStructure} {k apex : ℕ} (around : IsAround b k apex) where
   up_side : IsPricedWalk b (to_of b k) (up_path b (side_steps b k apex false) (to_of b k)) (side_node b k false (side_steps b k apex false))
   up_side = (tree_walks b around.basis (side_steps b k apex false) (to_of b k) (around.cycle.in_range false) (around.cycle.short false)).0
 
-  closed_walk : IsWalk (with_artificial b.net) (side_node b k true (side_steps b k apex true)) (cycle_of b (entering b k) apex) (side_node b k false (side_steps b k apex false))
-  closed_walk =
-      IsWalk-append (with_artificial b.net) (down_path b (side_steps b k apex true) (from_of b k)) (entering b k ∷ up_path b (side_steps b k apex false) (to_of b k))
-      (side_node b k true (side_steps b k apex true)) (from_of b k) (side_node b k false (side_steps b k apex false)) down_side.joined (refl, up_side.joined)
+  closed_walk : IsWalk (with_artificial b.net) (side_node b k true (side_steps b k apex true)) (cycle_of b (entering b k) apex)
+      (side_node b k false (side_steps b k apex false))
+  closed_walk = IsWalk-append (with_artificial b.net) (down_path b (side_steps b k apex true) (from_of b k)) _ _ _ _ down_side.joined (refl, up_side.joined)
 
   cycle_cost : walk_cost (with_artificial b.net) (cycle_of b (entering b k) apex) ≡ entering_cost b k
   cycle_cost =
@@ -397,9 +396,7 @@ module _ {b : TreeStructure} {k apex : ℕ} (around : IsAround b k apex) where
   pub round_surplus : (x : ℤ) → HasNoSurplus (pushed_along (full_state b) (cycle_of b (entering b k) apex) x)
   round_surplus x v h =
       let node = subst (λ g. IsNode (node_count g) v) (along_net (full_state b) (cycle_of b (entering b k) apex) x) h in
-      let moves =
-      moved_along (full_state b) (cycle_of b (entering b k) apex) x (side_node b k true (side_steps b k apex true)) (side_node b k false (side_steps b k apex false))
-      around.basis.flow.one_per_label (cycle_labels around) closed_walk v in
+      let moves = moved_along (full_state b) (cycle_of b (entering b k) apex) x _ _ around.basis.flow.one_per_label (cycle_labels around) closed_walk v in
       omega (arith, ints, moves, around.basis.flow.no_surplus v node, ap (λ u. when (eqb u v) x) around.cycle.closed)
 
   -- the cost changes by the reduced cost of the residual arc that enters, for each unit

@@ -17,6 +17,7 @@ use Rattle.mcf_basis.specs.Pivots.{IsExchanged, IsMended, IsPivot, entering}
 use Rattle.mcf_basis.specs.Pivots.IsMended.{kept, exchanged}
 use Rattle.mcf_basis.specs.Structures.{TreeStructure, CanTake, carried, leaving, reduced_at}
 use Rattle.mcf_basis.proofs.Around.{IsAround, IsLeaving, WentRound, arcs_of, from_of, round_amount, to_of, up_arc, side_steps, side_node, around, below_apex}
+use Rattle.mcf_basis.proofs.Around.{CanGoRight}
 use Rattle.mcf_basis.proofs.Around.IsLeaving.{right, enter, left}
 use Rattle.mcf_basis.proofs.CyclePlaces.{last_at, up_all, up_at}
 use Rattle.mcf_basis.proofs.Labels.{own_label}
@@ -132,12 +133,12 @@ module _ {old : TreeStructure} {k apex : ℕ} {moved : ℤ} (is_around : IsAroun
   some_moves : (m : ℕ) → m < side_steps old k apex false → ¬ CanTake old (up_arc old (side_node old k false m)) (moved +ℤ pos 1) → pos 1 ≤ℤ moved
   some_moves m h full = elim (zero_or_more moved went.some) [
     | inl none ↦ absurd (let w = side_step is_around false m h in
-        full (subst (λ z. CanTake old (up_arc old (side_node old k false m)) (z +ℤ pos 1)) (sym none) (strong_up old is_around.basis (side_node old k false m) w.above w.within)))
+        full (rw none (strong_up old is_around.basis (side_node old k false m) w.above w.within)))
     | inr some ↦ omega (arith, ints, some)
   ]
 
   -- the tree stays
-  pub stays : ((p : ℕ) → p < side_steps old k apex false → CanTake old (up_arc old (side_node old k false p)) (moved +ℤ pos 1)) → HasRoom old.tree.parents old.tree.labels
+  pub stays : CanGoRight old k apex (moved +ℤ pos 1) → HasRoom old.tree.parents old.tree.labels
   stays free =
       strong_entering is_around.tree is_around.cycle went (fits old is_around.basis) (not_below old is_around.basis) (room_of_strong old is_around.basis)
       (λ p l. leave_of_take (free p l))
@@ -150,8 +151,8 @@ module _ {old : TreeStructure} {k apex : ℕ} {moved : ℤ} (is_around : IsAroun
         elim x.ends [
           | inl e ↦ absurd (below_apex is_around.basis.spanning.rooted (is_around.cycle.in_range false) h at_out
               (subst (λ v. IsOnPath old.tree.parents v out) e.0 x.inside) (λ y p q. is_around.is_apex.deepest y q p))
-          | inr e ↦ strong_right is_around.tree is_around.cycle went (fits old is_around.basis) (not_below old is_around.basis) (room_of_strong old is_around.basis)
-              m new.tree.parents new.tree.labels h
+          | inr e ↦ strong_right is_around.tree is_around.cycle went (fits old is_around.basis) (not_below old is_around.basis)
+              (room_of_strong old is_around.basis) m new.tree.parents new.tree.labels h
               (rw (at_out, e.0, e.1) at x.swapped.parents) (rw (at_out, e.0) at x.swapped.labels)
               (some_moves m h (subst (λ r. ¬ CanTake old r (moved +ℤ pos 1)) is full)) (λ p l u. leave_of_take (free p l u))
         ]
@@ -161,8 +162,8 @@ module _ {old : TreeStructure} {k apex : ℕ} {moved : ℤ} (is_around : IsAroun
         let at_out : out ≡ side_node old k true m = step_of is_around (side_step is_around true m h) x.is_node
         (sym (ap (λ r. r.arc) is) ∙ named) in
         elim x.ends [
-          | inl e ↦ strong_left is_around.tree is_around.cycle went (fits old is_around.basis) (not_below old is_around.basis) (room_of_strong old is_around.basis)
-              m new.tree.parents new.tree.labels h
+          | inl e ↦ strong_left is_around.tree is_around.cycle went (fits old is_around.basis) (not_below old is_around.basis)
+              (room_of_strong old is_around.basis) m new.tree.parents new.tree.labels h
               (rw (at_out, e.0, e.1) at x.swapped.parents) (rw (at_out, e.0) at x.swapped.labels)
               (λ p l. leave_of_take (free p l)) (enter_room first) (λ p l. leave_of_take (above p l))
           | inr e ↦ absurd (below_apex is_around.basis.spanning.rooted (is_around.cycle.in_range true) h at_out
@@ -170,8 +171,7 @@ module _ {old : TreeStructure} {k apex : ℕ} {moved : ℤ} (is_around : IsAroun
         ]
 
   -- where the entering arc leaves at once, no arc on the right blocks
-  kept_room : (q : Rid) → q ≡ entering old k → IsLeaving old k apex moved q
-      → (p : ℕ) → p < side_steps old k apex false → CanTake old (up_arc old (side_node old k false p)) (moved +ℤ pos 1)
+  kept_room : (q : Rid) → q ≡ entering old k → IsLeaving old k apex moved q → CanGoRight old k apex (moved +ℤ pos 1)
   kept_room q same (right m h is full free) p l =
       absurd (side_outside is_around false m h (sym (ap (λ (r : Rid). r.arc) is) ∙ ap (λ (r : Rid). r.arc) same))
   kept_room q same (enter is full free) p l = free p l

@@ -155,8 +155,8 @@ module _ {g : Arcs} {ps ls : List ℕ} {d : ℕ → ℕ} {old new : ℕ → ℤ}
       → IsRelabelled ps ls ms d (node false m) enter (end false) → pos 1 ≤ℤ delta
       → ((k : ℕ) → m < k → k < steps false → CanGoUp old false k (delta +ℤ pos 1)) → HasRoomUp g qs ms new
   strong_right m qs ms in_walk turned relabelled positive room = record {
-    room = λ v p h. each_turned m tree.rooted (cycle.in_range false) (omega (arith, in_walk, cycle.short false)) turned relabelled (λ arc u w. CanLeave g new arc u (pos 1)) v
-        (CanLeave-le positive (CanLeave-back cycle.apart cycle.joined push.entering (fits enter) (low enter)))
+    room = λ v p h. each_turned m tree.rooted (cycle.in_range false) (omega (arith, in_walk, cycle.short false)) turned relabelled
+        (λ arc u w. CanLeave g new arc u (pos 1)) v (CanLeave-le positive (CanLeave-back cycle.apart cycle.joined push.entering (fits enter) (low enter)))
         (λ k lt. (let h : k < steps false = omega arith in
         CanLeave-le positive (CanLeave-back (side_apart false k h) (side_joins false k h) (push.side false k h)
         (fits (slice_index ls (node false k))) (low (slice_index ls (node false k))))))
@@ -172,8 +172,8 @@ module _ {g : Arcs} {ps ls : List ℕ} {d : ℕ → ℕ} {old new : ℕ → ℤ}
       → ((k : ℕ) → k < m → CanLeave g old (slice_index ls (node true k)) (slice_index ps (node true k)) (delta +ℤ pos 1))
       → CanLeave g old enter (end true) (delta +ℤ pos 1) → ((k : ℕ) → k < steps false → CanGoUp old false k (delta +ℤ pos 1)) → HasRoomUp g qs ms new
   strong_left m qs ms in_walk turned relabelled room_left room_entering room_right = record {
-    room = λ v p h. each_turned m tree.rooted (cycle.in_range true) (omega (arith, in_walk, cycle.short true)) turned relabelled (λ arc u w. CanLeave g new arc u (pos 1)) v
-        (CanLeave-more cycle.apart cycle.joined push.entering room_entering)
+    room = λ v p h. each_turned m tree.rooted (cycle.in_range true) (omega (arith, in_walk, cycle.short true)) turned relabelled
+        (λ arc u w. CanLeave g new arc u (pos 1)) v (CanLeave-more cycle.apart cycle.joined push.entering room_entering)
         (λ k lt. (let h : k < steps true = omega arith in
         CanLeave-more (λ e. side_apart true k h (sym e)) (JoinsEnds-sym (side_joins true k h)) (push.side true k h) (room_left k lt)))
         (λ off. kept v p (omega (arith, h, turned.size)) (λ k lt e. room_right k lt));
