@@ -8,6 +8,7 @@ use Rattle.std.proofs.Math.Nat.{le-max_right, mul-le-mul_left}
 use Rattle.std.proofs.lemmas.Bool.{and_parts, cases_Bool, cond-true, cond-false}
 use Rattle.std.proofs.lemmas.Int.{ints}
 use Rattle.std.proofs.lemmas.List.{get_or-map, get_or-set_other, length-map}
+use Rattle.std.proofs.lemmas.List.Elements.{All-head, All-tail}
 use Rattle.std.proofs.lemmas.List.Sums.{sum_by-set}
 use Rattle.mcf_flows.specs.declared.arc.Arc.{Arc}
 use Rattle.mcf_flows.specs.declared.problem.Side.TheVariants.{Send}
@@ -18,7 +19,9 @@ use Rattle.mcf_flows.specs.WellFormed.{HasEnds, IsUpTo, weight}
 use Rattle.mcf_flows.proofs.ArcSums.{arc_sum-same, arc_sum-zero, flow_sum-arc_sum, flow_sum-same_at, flow_sum-zero, flow_sum-le_two, flow_sum-same}
 use Rattle.mcf_flows.proofs.ArcSums.{flow_sum-sub}
 use Rattle.mcf_flows.proofs.Bounds.{up_to_size, weight-le-sum, mul_up_to, sum-weights}
+use Rattle.mcf_flows.proofs.Duality.{reduced_total}
 use Rattle.mcf_flows.proofs.Hoffman.{nets_across}
+use Rattle.mcf_flows.proofs.IntLaws.{mul-anti, mul-mono, mul-neg, mul-one, mul-sub, neg-mul, sub-mul}
 use Rattle.mcf_flows.proofs.NodeSums.{nets_cancel, node_sum-add, node_sum-same, node_sum-sub, node_sum_above_zero, node_sum_at_least_zero, node_sum-mul}
 use Rattle.mcf_flows.proofs.NodeSums.{node_sum-net}
 use Rattle.mcf_links.specs.Rooted.{climb}
@@ -44,9 +47,6 @@ use Rattle.mcf_basis.proofs.Pushed.{node_of}
 use Rattle.mcf_basis.proofs.StarBases.{added_net}
 use Rattle.mcf_basis.proofs.StrongPivot.{IsStep, labels_apart, step_at}
 use Rattle.mcf_basis.proofs.TreePrices.{in_tree, one_step, top, top_near}
-use Rattle.std.proofs.lemmas.List.Elements.{All-head, All-tail}
-use Rattle.mcf_flows.proofs.Duality.{reduced_total}
-use Rattle.mcf_flows.proofs.IntLaws.{mul-anti, mul-mono, mul-neg, mul-one, mul-sub, neg-mul, sub-mul}
 
 -- the arcs of the net that are in the tree can carry something
 abbrev pub HasWideTree : TreeStructure → Type 0

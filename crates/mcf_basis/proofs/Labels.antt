@@ -3,24 +3,24 @@ use Rattle.std.proofs.Common.{◌≡◌, ℕ, ◌+◌, ◌-◌, ◌<◌, ◌++�
 use Rattle.std.proofs.Common.{◌≤◌, Bool, eqb, List, [], ◌∷◌, take, drop, ℤ, ◌+ℤ◌}
 use Rattle.std.specs.List.{range_with_len}
 use Rattle.std.proofs.lemmas.Bool.{cases_lt}
+use Rattle.std.proofs.lemmas.Int.{ints}
 use Rattle.std.proofs.lemmas.List.{get_or_append_left, get_or-append-add, get_or-take, get_or-drop, take-append-drop, length-take-le, length-drop}
 use Rattle.std.proofs.lemmas.List.FromFn.{length-map-range_with_len, get_or-map-range_with_len}
+use Rattle.mcf_flows.specs.declared.arc.Arc.{Arc}
+use Rattle.mcf_flows.specs.Flow.{net}
 use Rattle.mcf_flows.specs.Network.{Network, IsArcNumber, IsNode, node_count, flow_sum, when}
+use Rattle.mcf_flows.proofs.ArcSums.{flow_sum-append}
 use Rattle.mcf_network.specs.Nets.{IsNet}
 use Rattle.mcf_network.specs.Residual.{no_arc, arc_at}
 use Rattle.mcf_network.proofs.ArcLaws.{ends_at}
-use Rattle.mcf_basis.specs.Artificial.{IsLabel, artificial_arc, artificial_cost, is_sender, with_artificial}
+use Rattle.mcf_network.proofs.StateLaws.{when-zero}
 use Rattle.mcf_tree.specs.SpanningTree.{label_of}
+use Rattle.mcf_basis.specs.Artificial.{IsLabel, artificial_arc, artificial_cost, is_sender, with_artificial}
+use Rattle.mcf_basis.specs.Bases.{IsBasis}
+use Rattle.mcf_basis.specs.Laws.{HasNoArtificial}
 use Rattle.mcf_basis.specs.Structures.{TreeStructure, IsInTree, Joins, carried, state_of}
 use Rattle.mcf_basis.specs.Structures.Joins.{out_of, into}
 use Rattle.mcf_basis.proofs.Pushes.{cases_found}
-use Rattle.std.proofs.lemmas.Int.{ints}
-use Rattle.mcf_flows.specs.declared.arc.Arc.{Arc}
-use Rattle.mcf_flows.specs.Flow.{net}
-use Rattle.mcf_flows.proofs.ArcSums.{flow_sum-append}
-use Rattle.mcf_network.proofs.StateLaws.{when-zero}
-use Rattle.mcf_basis.specs.Bases.{IsBasis}
-use Rattle.mcf_basis.specs.Laws.{HasNoArtificial}
 
 pub label_count : (g : Network) → length (with_artificial g).arcs ≡ length g.arcs + node_count g
 unfolding with_artificial

@@ -18,7 +18,6 @@ mod StrongPivot
 mod Around
 mod Climbing
 mod Climbed
-mod PushedResiduals
 mod TurnedResiduals
 mod Endings
 mod CyclePlaces

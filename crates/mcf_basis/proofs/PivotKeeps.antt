@@ -2,12 +2,24 @@
 -- bounds, and at a bound outside the new tree.
 use Rattle.std.proofs.Common.{◌≡◌, length, List, refl, sym, ap, ◌∙◌, subst, ℕ, ℤ, ◌≢◌, ◌<◌, ◌≤◌, ◌⊎◌, inl, inr, true, false, not, arith, pos, ◌+ℤ◌, ◌≤ℤ◌, Bool}
 use Rattle.std.proofs.Common.{◌-ℤ◌, ◌<ℤ◌}
+use Rattle.std.specs.Prelude.{int_lt}
+use Rattle.std.proofs.Math.IntN.{◌*ℤ◌, *ℤ_comm}
+use Rattle.std.proofs.lemmas.Bool.{both_ways, cases_eq, eq-eqb, ne_eqb, false_from_ne_true}
+use Rattle.std.proofs.lemmas.Int.{ints}
+use Rattle.mcf_flows.specs.Flow.{cost}
 use Rattle.mcf_flows.specs.Network.{Network, IsNode, node_count, node_sum, when}
+use Rattle.mcf_flows.proofs.IntLaws.{mul_below_zero, zero-mul}
+use Rattle.mcf_flows.proofs.NodeSums.{node_sum-sub, node_sum_above_zero}
+use Rattle.mcf_links.specs.Rooted.{climb}
+use Rattle.mcf_network.specs.declared.rid.Rid.{Rid}
 use Rattle.mcf_network.specs.Nets.{IsNet}
+use Rattle.mcf_network.specs.Residual.{arc_at, head, tail, unit_cost}
 use Rattle.mcf_network.specs.States.{Pseudoflow, HasNoSurplus}
 use Rattle.mcf_network.specs.Walks.{pushed_along}
 use Rattle.mcf_network.proofs.WalkLaws.{along_net}
 use Rattle.mcf_tree.specs.SpanningTree.{IsSpanning, label_of, depth_of}
+use Rattle.mcf_tree.specs.Subtree.{is_above}
+use Rattle.mcf_tree.proofs.Moved.{over-from_path, path-from_over}
 use Rattle.mcf_basis.specs.Artificial.{with_artificial, IsLabel}
 use Rattle.mcf_basis.specs.Bases.{IsBasis, IsFullFlow, CanHold, IsAtBound}
 use Rattle.mcf_basis.specs.Laws.{PivotsKeepBases, PivotsLowerThePair}
@@ -16,26 +28,14 @@ use Rattle.mcf_basis.specs.Pivots.IsMended.{kept, exchanged}
 use Rattle.mcf_basis.specs.Structures.{TreeStructure, cycle_of, full_state, CanTake, IsInTree, carried, leaving, price_at, reduced_at}
 use Rattle.mcf_basis.proofs.Around.{CanGoRound, IsAround, IsLeaving, WentRound, arcs_of, from_of, round_amount, side_steps, side_node, around, to_of}
 use Rattle.mcf_basis.proofs.Around.{HasTwoEnds, two_ends}
+use Rattle.mcf_basis.proofs.Around.IsLeaving.{right, enter, left}
 use Rattle.mcf_basis.proofs.CyclePlaces.{leaving_of_last}
+use Rattle.mcf_basis.proofs.LastBases.{zero_or_more}
 use Rattle.mcf_basis.proofs.PricesTurned.{new_prices, new_size, new_tree_arcs, new_tree}
 use Rattle.mcf_basis.proofs.Pushed.{went_round, side_is_node, round_count, round_surplus, step_of, side_step, side_outside, entering_cost, entering_low}
 use Rattle.mcf_basis.proofs.Pushed.{none_turned, round_cost, turned_reduced}
-use Rattle.mcf_basis.proofs.StrongKept.{moved_low, strong_kept, entering_leaves, pivoted_amount, strong_up}
-use Rattle.std.proofs.lemmas.Int.{ints}
-use Rattle.std.proofs.lemmas.Bool.{both_ways, cases_eq, eq-eqb, ne_eqb, false_from_ne_true}
-use Rattle.mcf_network.specs.Residual.{arc_at, head, tail, unit_cost}
-use Rattle.mcf_basis.proofs.Around.IsLeaving.{right, enter, left}
 use Rattle.mcf_basis.proofs.Pushes.{Leaves, cases_sides}
-use Rattle.std.specs.Prelude.{int_lt}
-use Rattle.std.proofs.Math.IntN.{◌*ℤ◌, *ℤ_comm}
-use Rattle.mcf_flows.specs.Flow.{cost}
-use Rattle.mcf_flows.proofs.IntLaws.{mul_below_zero, zero-mul}
-use Rattle.mcf_flows.proofs.NodeSums.{node_sum-sub, node_sum_above_zero}
-use Rattle.mcf_network.specs.declared.rid.Rid.{Rid}
-use Rattle.mcf_links.specs.Rooted.{climb}
-use Rattle.mcf_tree.specs.Subtree.{is_above}
-use Rattle.mcf_tree.proofs.Moved.{over-from_path, path-from_over}
-use Rattle.mcf_basis.proofs.LastBases.{zero_or_more}
+use Rattle.mcf_basis.proofs.StrongKept.{moved_low, strong_kept, entering_leaves, pivoted_amount, strong_up}
 use Rattle.mcf_basis.proofs.TreePrices.{in_tree}
 
 -- one residual arc along which x went

@@ -2,38 +2,38 @@
 -- sums: no surplus, and the cost by the reduced cost of the arc that enters.
 use Rattle.std.proofs.Common.{◌≡◌, ◌≢◌, ℕ, zero, suc, ◌+◌, ◌-◌, ◌<◌, ◌≤◌, Bool, true, false, not, eqb, cond, List, [], ◌∷◌, length, get_or, set, refl, sym, ap}
 use Rattle.std.proofs.Common.{◌∙◌, arith, inl, inr, ℤ, pos, ◌+ℤ◌, ◌-ℤ◌, ◌≤ℤ◌, neg_ℤ, ◌++◌, ◌⊎◌, subst, ◌<ℤ◌}
-use Rattle.std.specs.List.{All}
 use Rattle.std.specs.Prelude.{if◌then◌else◌, int_lt}
+use Rattle.std.specs.List.{All}
+use Rattle.std.proofs.Math.IntN.{◌*ℤ◌, *ℤ_comm}
 use Rattle.std.proofs.lemmas.Bool.{cases_eq, cond-true, cond-false, eq-eqb, ne_eqb}
+use Rattle.std.proofs.lemmas.Bool.Decides.{nat_tests}
 use Rattle.std.proofs.lemmas.Int.{ints}
 use Rattle.std.proofs.lemmas.List.{length-set}
 use Rattle.std.proofs.lemmas.List.Elements.{All-head, All-tail, All-weaker}
+use Rattle.mcf_flows.specs.Flow.{cost, net}
 use Rattle.mcf_flows.specs.Network.{Network, IsNode, node_count, when, IsArcNumber}
+use Rattle.mcf_flows.proofs.ArcSums.{flow_sum-set}
+use Rattle.mcf_flows.proofs.IntLaws.{mul-add, mul-sub, neg-mul, add-mul, zero-mul}
+use Rattle.mcf_flows.proofs.NodeSums.{when-neg}
 use Rattle.mcf_links.specs.Rooted.{climb}
+use Rattle.mcf_links.proofs.Paths.{above_root}
 use Rattle.mcf_network.specs.declared.rid.Rid.{Rid}
 use Rattle.mcf_network.specs.Residual.{arc_at, head, tail, no_arc, unit_cost}
 use Rattle.mcf_network.specs.States.{Pseudoflow, amount_at, pushed, HasNoSurplus, surplus_at}
 use Rattle.mcf_network.specs.Walks.{pushed_along, IsWalk, walk_cost}
 use Rattle.mcf_network.proofs.StateLaws.{read_written, rid, when-other, when-same, when-add}
+use Rattle.mcf_network.proofs.WalkLaws.{along_net}
 use Rattle.mcf_tree.specs.SpanningTree.{depth_of, label_of, parent_of}
 use Rattle.mcf_basis.specs.Artificial.{IsLabel, with_artificial}
 use Rattle.mcf_basis.specs.Bases.{IsBasis}
 use Rattle.mcf_basis.specs.Pivots.{entering, IsEligible, full_cost}
 use Rattle.mcf_basis.specs.Structures.{TreeStructure, carried, cycle_of, full_state, Joins, down_path, leaving, price_at, reduced_at, up_path}
+use Rattle.mcf_basis.specs.Structures.Joins.{out_of, into}
 use Rattle.mcf_basis.proofs.Around.{IsAround, WentRound, arcs_of, round_amount, side_end, side_steps, side_node, from_of, to_of}
 use Rattle.mcf_basis.proofs.CyclePlaces.{OnCycle, each_place, on_cycle}
 use Rattle.mcf_basis.proofs.Labels.{own_label, joins_back}
 use Rattle.mcf_basis.proofs.Pushes.{Leaves, each_side}
 use Rattle.mcf_basis.proofs.StrongPivot.{IsStep, labels_apart, same_node, step_at}
-use Rattle.std.proofs.Math.IntN.{◌*ℤ◌, *ℤ_comm}
-use Rattle.std.proofs.lemmas.Bool.Decides.{nat_tests}
-use Rattle.mcf_flows.specs.Flow.{cost, net}
-use Rattle.mcf_flows.proofs.ArcSums.{flow_sum-set}
-use Rattle.mcf_flows.proofs.IntLaws.{mul-add, mul-sub, neg-mul, add-mul, zero-mul}
-use Rattle.mcf_flows.proofs.NodeSums.{when-neg}
-use Rattle.mcf_links.proofs.Paths.{above_root}
-use Rattle.mcf_network.proofs.WalkLaws.{along_net}
-use Rattle.mcf_basis.specs.Structures.Joins.{out_of, into}
 
 -- ---- pushes along a list of residual arcs, by labels
 

@@ -3,9 +3,9 @@ use Rattle.std.proofs.Common.{◌≡◌, ◌≢◌, ℕ, zero, suc, ◌+◌, ◌
 use Rattle.std.proofs.Common.{◌∙◌, arith, subst, ℤ, pos, neg_ℤ, ◌+ℤ◌, ◌-ℤ◌, length-append, ◌≤◌, ◌++◌, Bool, cond, ◌∷◌, true}
 use Rattle.std.specs.Prelude.{unsigned_abs, int_le, if◌then◌else◌, int_lt, max, sum}
 use Rattle.std.specs.List.{All, range_with_len}
-use Rattle.std.proofs.lemmas.Int.{ints}
-use Rattle.std.proofs.lemmas.Bool.Decides.{nat_tests}
 use Rattle.std.proofs.lemmas.Bool.{cases_Bool, eq-eqb, cases_lt, cond-true, cond-false}
+use Rattle.std.proofs.lemmas.Bool.Decides.{nat_tests}
+use Rattle.std.proofs.lemmas.Int.{ints}
 use Rattle.std.proofs.lemmas.List.{get_or-replicate, get_or-take, get_or_append_left, get_or-append-add, length-drop, length-replicate, length-take-le}
 use Rattle.std.proofs.lemmas.List.{ext_get_or}
 use Rattle.std.proofs.lemmas.List.Elements.{All-nil, All-cons}
@@ -13,14 +13,22 @@ use Rattle.std.proofs.lemmas.List.FromFn.{get_or-map-range_with_len, length-map-
 use Rattle.mcf_flows.specs.declared.arc.Arc.{Arc}
 use Rattle.mcf_flows.specs.Flow.{net}
 use Rattle.mcf_flows.specs.Network.{Network, IsNode, at_node, flow_sum, node_count, when, IsArcNumber}
+use Rattle.mcf_flows.specs.WellFormed.{weight}
+use Rattle.mcf_flows.proofs.Bounds.{sum-weights}
 use Rattle.mcf_network.specs.Nets.{IsNet, IsNetArc}
 use Rattle.mcf_network.specs.Residual.{arc_at}
 use Rattle.mcf_network.specs.States.{HasNoSurplus}
 use Rattle.mcf_network.proofs.ArcLaws.{net_arc_at}
 use Rattle.mcf_network.proofs.StateLaws.{when-other}
 use Rattle.mcf_tree.specs.SpanningTree.{IsSpanning, IsStar, depth_of, label_of, parent_of, size_of}
+use Rattle.mcf_basis.specs.declared.offer.ArcOffer.{ArcOffer}
+use Rattle.mcf_basis.specs.declared.residuals.Residuals.{Residuals}
 use Rattle.mcf_basis.specs.Artificial.{IsLabel, artificial_arc, is_sender, with_artificial, artificial_cost}
 use Rattle.mcf_basis.specs.Bases.{CanHold, HasTreeArc, HasTreePrices, IsAtBound, IsBasis}
+use Rattle.mcf_basis.specs.Private.Layouts.{Layout, IsLaidOut, IsOffer, IsStarTable, amount_in, amount_outside, artificial_residuals, basis_in, forward_offer}
+use Rattle.mcf_basis.specs.Private.Layouts.{no_offer, no_residuals, offer_at}
+use Rattle.mcf_basis.specs.Private.Layouts.IsOffer.{closed, forward}
+use Rattle.mcf_basis.specs.Ranks.{greatest_cost}
 use Rattle.mcf_basis.specs.Starts.{start_amounts, start_price, start_prices, IsStart}
 use Rattle.mcf_basis.specs.Structures.{TreeStructure, CanTake, IsInTree, carried, full_state, leaving, price_at, reduced_at, up_path}
 use Rattle.mcf_basis.specs.Structures.Joins.{out_of, into}
@@ -29,14 +37,6 @@ use Rattle.mcf_basis.proofs.Labels.{taker_ends}
 use Rattle.mcf_basis.proofs.Labels.LabelCase.{own, added}
 use Rattle.mcf_basis.proofs.LastBases.{node_count_added, supply_added, above_zero, not_above_zero}
 use Rattle.mcf_basis.proofs.TreeFlows.{single_term}
-use Rattle.mcf_flows.specs.WellFormed.{weight}
-use Rattle.mcf_flows.proofs.Bounds.{sum-weights}
-use Rattle.mcf_basis.specs.declared.offer.ArcOffer.{ArcOffer}
-use Rattle.mcf_basis.specs.declared.residuals.Residuals.{Residuals}
-use Rattle.mcf_basis.specs.Private.Layouts.{Layout, IsLaidOut, IsOffer, IsStarTable, amount_in, amount_outside, artificial_residuals, basis_in, forward_offer}
-use Rattle.mcf_basis.specs.Private.Layouts.{no_offer, no_residuals, offer_at}
-use Rattle.mcf_basis.specs.Private.Layouts.IsOffer.{closed, forward}
-use Rattle.mcf_basis.specs.Ranks.{greatest_cost}
 use Rattle.mcf_basis.proofs.Views.{amount_added, amount_none}
 
 -- what a node sends or takes is its supply

@@ -1,6 +1,7 @@
 -- What is read of a basis that is stored.
 use Rattle.std.proofs.Common.{◌≡◌, ◌≢◌, ℕ, ◌+◌, ◌-◌, ◌*◌, ◌<◌, ◌≤◌, inl, inr, eqb, length, get_or, ap, sym, ◌∙◌, arith, subst, pos, zero, suc, Bool, true}
 use Rattle.std.proofs.Common.{false, refl, Some, None}
+use Rattle.std.specs.List.{find, range_with_len}
 use Rattle.std.proofs.lemmas.Bool.{cond-true, cond-false, eq-eqb, eqb-true, ne_eqb, le-leb, lt-leb, cases_Bool, true≢false}
 use Rattle.std.proofs.lemmas.Int.{ints}
 use Rattle.std.proofs.lemmas.List.FromFn.{get_or-map-range_with_len}
@@ -8,8 +9,8 @@ use Rattle.mcf_flows.specs.Network.{IsArcNumber, IsNode, node_count}
 use Rattle.mcf_flows.specs.WellFormed.{IsUpTo}
 use Rattle.mcf_tree.specs.SpanningTree.{label_of, size_of}
 use Rattle.mcf_basis.specs.Bases.{IsBasis}
-use Rattle.mcf_basis.specs.Private.Layouts.{Layout, IsLaidOut, amount_by, amount_in, amount_in_tree, amount_outside, basis_in, node_below}
 use Rattle.mcf_basis.specs.Private.Gaps.{IsSpread}
+use Rattle.mcf_basis.specs.Private.Layouts.{Layout, IsLaidOut, amount_by, amount_in, amount_in_tree, amount_outside, basis_in, node_below}
 use Rattle.mcf_basis.specs.Ranks.{greatest_cost, price_reach}
 use Rattle.mcf_basis.specs.Structures.{TreeStructure, IsInTree, carried, price_at, price_limit}
 use Rattle.mcf_basis.proofs.Around.{arcs_of}
@@ -17,7 +18,6 @@ use Rattle.mcf_basis.proofs.Pushes.{IsTreeOf, cases_found}
 use Rattle.mcf_basis.proofs.Spreads.{near_spread}
 use Rattle.mcf_basis.proofs.StrongPivot.{same_node}
 use Rattle.mcf_basis.proofs.TreePrices.{near_price, price_reached, price_small}
-use Rattle.std.specs.List.{find, range_with_len}
 
 module _ (p : ℕ → Bool) where
   pub found_nowhere : (from n : ℕ) → ((j : ℕ) → from ≤ j → j < from + n → p j ≡ false) → find p (range_with_len from n) ≡ None
