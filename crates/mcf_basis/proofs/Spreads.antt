@@ -4,13 +4,13 @@ use Rattle.std.proofs.lemmas.Int.{ints}
 use Rattle.mcf_flows.specs.Limits.{limits}
 use Rattle.mcf_flows.specs.Network.{Network, node_count}
 use Rattle.mcf_flows.specs.WellFormed.{IsUpTo}
+use Rattle.mcf_network.specs.Nets.{greatest_cost}
 use Rattle.mcf_basis.specs.Artificial.{artificial_cost}
 use Rattle.mcf_basis.specs.Private.Gaps.{IsShown, IsSpread, spread_limit, stand_in}
 use Rattle.mcf_basis.specs.Private.Gaps.IsSpread.{plain, above, below}
 use Rattle.mcf_basis.specs.Private.Layouts.{IsGapOf, change_limit, path_limit}
 use Rattle.mcf_basis.specs.Private.Layouts.IsGapOf.{none, far}
 use Rattle.mcf_basis.specs.Private.Turned.{price_change}
-use Rattle.mcf_basis.specs.Ranks.{greatest_cost}
 use Rattle.mcf_basis.proofs.Gaps.IsMoved.{down, stays, up}
 use Rattle.mcf_basis.proofs.Gaps.{IsMoved, is_moved, moved_is, twice, unmoved}
 use Rattle.mcf_basis.proofs.TreePrices.{IsNear}

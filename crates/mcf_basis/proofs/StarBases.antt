@@ -28,7 +28,6 @@ use Rattle.mcf_basis.specs.Bases.{CanHold, HasTreeArc, HasTreePrices, IsAtBound,
 use Rattle.mcf_basis.specs.Private.Layouts.{Layout, IsLaidOut, IsOffer, IsStarTable, amount_in, amount_outside, artificial_residuals, basis_in, forward_offer}
 use Rattle.mcf_basis.specs.Private.Layouts.{no_offer, no_residuals, offer_at}
 use Rattle.mcf_basis.specs.Private.Layouts.IsOffer.{closed, forward}
-use Rattle.mcf_basis.specs.Ranks.{greatest_cost}
 use Rattle.mcf_basis.specs.Starts.{start_amounts, start_price, start_prices, IsStart}
 use Rattle.mcf_basis.specs.Structures.{TreeStructure, CanTake, IsInTree, carried, full_state, leaving, price_at, reduced_at, up_path}
 use Rattle.mcf_basis.specs.Structures.Joins.{out_of, into}
@@ -253,14 +252,6 @@ weight_part (a ∷ arcs) (suc i) =
     omega (arith, sum-weights weight a (take i arcs), sum-weights weight a arcs, weight_part arcs i)
 
 -- ---- the greatest cost, and how far prices reach
-
-pub greatest_next : (arcs : List Arc) (i : ℕ) (d : Arc) → i < length arcs
-    → greatest_cost (take (i + 1) arcs) ≡ max (greatest_cost (take i arcs)) (unsigned_abs (get_or arcs i d).cost)
-greatest_next [] i d h = absurd (omega arith)
-greatest_next (a ∷ arcs) zero d h = omega arith
-greatest_next (a ∷ arcs) (suc i) d h =
-    let place : suc i + 1 ≡ suc (i + 1) = omega arith in
-    ap (λ j. greatest_cost (take j (a ∷ arcs))) place ∙ omega (arith, greatest_next arcs i d (omega arith))
 
 -- ---- the star, as it is stored
 

@@ -11,8 +11,9 @@ use Rattle.mcf_flows.specs.Limits.{limits, node_limit}
 use Rattle.mcf_flows.specs.Network.{Network, IsArcNumber, IsNode, node_count}
 use Rattle.mcf_flows.specs.WellFormed.{IsUpTo}
 use Rattle.mcf_flows.proofs.Bounds.{size_up_to, up_to_size}
-use Rattle.mcf_network.specs.Nets.{IsNet, IsNetArc}
+use Rattle.mcf_network.specs.Nets.{IsNet, IsNetArc, greatest_cost}
 use Rattle.mcf_network.specs.Residual.{no_arc, arc_at}
+use Rattle.mcf_network.proofs.Costs.{greatest_small, size_within}
 use Rattle.mcf_tree.specs.SpanningTree.{depth_of, label_of, parent_of, size_of}
 use Rattle.mcf_tree.proofs.Meeting.{path_place}
 use Rattle.mcf_links.specs.Rooted.{climb, IsOnPath}
@@ -20,25 +21,11 @@ use Rattle.mcf_links.proofs.Paths.{climb-root, root_from_depth}
 use Rattle.mcf_links.proofs.Depths.{depth-lt}
 use Rattle.mcf_basis.specs.Artificial.{artificial_cost, with_artificial}
 use Rattle.mcf_basis.specs.Bases.{HasTreeArc, IsBasis}
-use Rattle.mcf_basis.specs.Ranks.{greatest_cost, price_reach}
+use Rattle.mcf_basis.specs.Ranks.{price_reach}
 use Rattle.mcf_basis.specs.Structures.{TreeStructure, Joins, price_at, reduced_at, price_limit}
 use Rattle.mcf_basis.specs.Structures.Joins.{out_of, into}
 use Rattle.mcf_basis.proofs.Labels.{own_arc, root_arc, inner_arc}
 use Rattle.mcf_basis.proofs.StrongPivot.{step_at}
-
--- no arc costs more than the greatest cost
-pub cost_within : (arcs : List Arc) (i : ℕ) (d : Arc) → i < length arcs → unsigned_abs (get_or arcs i d).cost ≤ greatest_cost arcs
-cost_within [] i d h = absurd (omega arith)
-cost_within (a ∷ arcs) zero d h = omega arith
-cost_within (a ∷ arcs) (suc i) d h = let ih : unsigned_abs (get_or arcs i d).cost ≤ greatest_cost arcs = cost_within arcs i d (omega arith) in omega arith
-
-pub greatest_small : (arcs : List Arc) → All IsNetArc arcs → greatest_cost arcs ≤ limits.cost
-greatest_small [] each = omega arith
-greatest_small (a ∷ arcs) each =
-    let h : IsNetArc a = each 0 no_arc (omega arith) in
-    let first : unsigned_abs a.cost ≤ limits.cost = size_up_to limits.cost a.cost h.cost_small in
-    let rest : greatest_cost arcs ≤ limits.cost = greatest_small arcs (λ i d l. each (suc i) d (omega arith)) in
-    omega arith
 
 -- one step away from a node whose price lies near a number
 pub one_step : (b : TreeStructure) (label u v near far : ℕ) (z : ℤ) → Joins b.net label u v → reduced_at b label ≡ pos 0
@@ -82,7 +69,7 @@ module _ (b : TreeStructure) (ok : IsBasis b) where
       let arc : HasTreeArc b v = ok.tree_arcs v (omega arith, h) in
       let own : IsArcNumber b.net (label_of b.tree v) = inner_arc b.net (label_of b.tree v) v (parent_of b.tree v) arc.label up high arc.joins in
       let same = ap (λ a. a.cost) (own_arc b.net (label_of b.tree v) own) in
-      let small = cost_within b.net.arcs (label_of b.tree v - 1) no_arc (omega arith) in
+      let small = size_within b.net.arcs (label_of b.tree v - 1) no_arc (omega arith) in
       let near = up_to_size (arc_at b.net (label_of b.tree v)).cost in
       one_step b (label_of b.tree v) v (parent_of b.tree v) (greatest_cost b.net.arcs) far z arc.joins (ok.prices.balanced v (omega arith, h))
       (omega (arith, ints), omega (arith, ints)) p

@@ -7,11 +7,12 @@ use Rattle.std.proofs.lemmas.Int.{ints}
 use Rattle.std.proofs.lemmas.List.FromFn.{get_or-map-range_with_len}
 use Rattle.mcf_flows.specs.Network.{IsArcNumber, IsNode, node_count}
 use Rattle.mcf_flows.specs.WellFormed.{IsUpTo}
+use Rattle.mcf_network.specs.Nets.{greatest_cost}
 use Rattle.mcf_tree.specs.SpanningTree.{label_of, size_of}
 use Rattle.mcf_basis.specs.Bases.{IsBasis}
 use Rattle.mcf_basis.specs.Private.Gaps.{IsSpread}
 use Rattle.mcf_basis.specs.Private.Layouts.{Layout, IsLaidOut, amount_by, amount_in, amount_in_tree, amount_outside, basis_in, node_below}
-use Rattle.mcf_basis.specs.Ranks.{greatest_cost, price_reach}
+use Rattle.mcf_basis.specs.Ranks.{price_reach}
 use Rattle.mcf_basis.specs.Structures.{TreeStructure, IsInTree, carried, price_at, price_limit}
 use Rattle.mcf_basis.proofs.Around.{arcs_of}
 use Rattle.mcf_basis.proofs.Pushes.{IsTreeOf, cases_found}

@@ -1,20 +1,15 @@
 -- How many pivots there can be: the pair of the cost and the sum of the prices as one number, and
 -- its bounds.
 -- Source: AMO 11.6, constants own
-use Rattle.std.specs.Prelude.{ℕ, ◌+◌, ◌*◌, max, List, [], ◌∷◌, ℤ, pos, ◌+ℤ◌, ◌-ℤ◌, ◌*ℤ◌, ◌≤ℤ◌, unsigned_abs}
-use Rattle.mcf_flows.specs.declared.arc.Arc.{Arc}
+use Rattle.std.specs.Prelude.{ℕ, ◌+◌, ◌*◌, ℤ, pos, ◌+ℤ◌, ◌-ℤ◌, ◌*ℤ◌, ◌≤ℤ◌, unsigned_abs}
 use Rattle.mcf_flows.specs.Flow.{cost}
 use Rattle.mcf_flows.specs.Network.{Network, node_count}
+use Rattle.mcf_network.specs.Nets.{greatest_cost}
 use Rattle.mcf_network.specs.States.{Pseudoflow}
 use Rattle.mcf_basis.specs.Artificial.{artificial_cost}
 use Rattle.mcf_basis.specs.Bases.{IsFullFlow}
 use Rattle.mcf_basis.specs.Pivots.{full_cost, price_sum}
 use Rattle.mcf_basis.specs.Structures.{TreeStructure}
-
--- the greatest absolute value of a cost, 0 without arcs
-abbrev pub greatest_cost : List Arc → ℕ
-greatest_cost [] = 0
-greatest_cost (a ∷ arcs) = max (unsigned_abs a.cost) (greatest_cost arcs)
 
 -- how far from 0 a price can lie: the path of the tree to the root has one artificial arc, and
 -- fewer others than there are nodes

@@ -7,7 +7,7 @@ ghost use Rattle.mcf_network.specs.Nets.{IsNet};
 ghost use Rattle.mcf_network.specs.Residual.{arc_at};
 ghost use Rattle.mcf_basis.specs.Artificial.{artificial_cost, is_sender};
 ghost use Rattle.mcf_basis.specs.Private.Layouts.{FitsWith, IsStarTable, artificial_residuals, forward_offer, no_offer, no_residuals, prices_of_star};
-ghost use Rattle.mcf_basis.specs.Ranks.{greatest_cost, price_reach};
+ghost use Rattle.mcf_basis.specs.Ranks.{price_reach};
 ghost use Rattle.mcf_basis.specs.Starts.{IsStart};
 
 use crate::basis::Basis;
@@ -187,25 +187,7 @@ fn price_reach(net: &Net, cost: i128) -> u128
     ensures value { result ≡ price_reach net.now }
     ensures net { IsNet net.now }
 {
-    cost.unsigned_abs() + u128::from(net.node_count()) * greatest_cost(net)
-}
-
-// The greatest absolute value of a cost, 0 without arcs.
-fn greatest_cost(net: &Net) -> u128
-    ensures { result ≡ greatest_cost net.now.arcs }
-{
-    let mut greatest = 0;
-    for i in 0..net.arc_count() {
-        greatest = greater(greatest, net.cost(ArcId::at(i)).unsigned_abs());
-    }
-    greatest
-}
-
-// The greater of two numbers.
-fn greater(left: u128, right: u128) -> u128
-    ensures { result ≡ max left right }
-{
-    if left < right { right } else { left }
+    cost.unsigned_abs() + u128::from(net.node_count()) * net.greatest_cost()
 }
 
 // The cost of an artificial arc: one more than all arcs of the net together can cost or earn.
