@@ -48,6 +48,19 @@ FAULTS = [
         "routes, 1, lead, not read without period",
     ),
     faulty(
+        "name,supply,perod,keep most,keep-cost\nA,0,Jan,1,1\n",
+        "from,to,most,cost,period,load\nA,A,1,1,Jan,1\n",
+        "places, 1, keep most, not read without period",
+        "routes, 1, period, not read without period",
+        "places, 1, 3, nearly period",
+        "places, 1, 5, nearly keep cost",
+    ),
+    faulty(
+        "name,supply\nA,0\n",
+        "from,to,most,cost,Periods\nA,A,1,1,Jan\n",
+        "routes, 1, 5, nearly period",
+    ),
+    faulty(
         "name,supply,period\nA,0,Jan\n",
         "from,to,most,cost,lead\nA,A,1,1,1\nA,B,1,1,0\n",
         "routes, 3, to, no such place",

@@ -4,7 +4,7 @@ use Rattle.std.specs.Prelude.{◌≡◌, ℕ, true, false, ◌&&◌, List, [], O
 use Rattle.std.specs.Option.{is_none}
 use Rattle.mcf_places.specs.Answers.{IsPlannerAnswer}
 use Rattle.mcf_places.specs.PlannerFaults.{IsProperPlanner}
-use Rattle.mcf_period_reading.specs.PeriodHeads.{tells_periods}
+use Rattle.mcf_period_reading.specs.HeadFaults.{tells_periods}
 use Rattle.mcf_reading.specs.Reading.{Entries, read_tables}
 use Rattle.mcf_table.specs.Texts.{Record}
 use Rattle.mcf_table.specs.declared.fault.TextFault.{TextFault}
@@ -35,9 +35,9 @@ IsProblemAnswer said terms (Solved s) =
 IsProblemAnswer said terms (TooGreat faults) = IsMadeOf said terms (GreatNumbers faults)
 IsProblemAnswer said terms (Improper faults) = IsMadeOf said terms (ImproperProblem faults)
 
--- The answer to the rows of two tables, if no column says something about periods: all faults of
--- heads and cells; or, if there are none, the answer to what they say. Otherwise their answer over
--- periods.
+-- The answer to the rows of two tables, if no column says something about periods, and no head is
+-- nearly one of those that do: all faults of heads and cells; or, if there are none, the answer to
+-- what they say. Otherwise their answer over periods.
 abbrev pub IsTableAnswer : List Record → List Record → Options → TableAnswer → Type 0
 IsTableAnswer places routes options (Periods answer) =
     (tells_periods places routes ≡ true) × IsPeriodTableAnswer places routes options answer

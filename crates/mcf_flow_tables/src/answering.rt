@@ -102,7 +102,8 @@ pub(crate) fn table_answer<S: Solves>(
 ) -> Result<TableAnswer, NoMemory>
     ensures { IfOk result (IsTableAnswer places.now routes.now options) }
 {
-    if tells_periods(places, routes) {
+    let tells = tells_periods(alloc, places, routes)?;
+    if tells {
         let answer = period_answer(alloc, solver, places, routes, options)?;
         return Ok(TableAnswer::Periods(answer));
     }

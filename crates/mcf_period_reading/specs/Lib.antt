@@ -6,9 +6,12 @@ pub use Rattle.mcf_reading.specs.Columns
 pub use Rattle.mcf_reading.specs.HeadTexts
 pub use Rattle.mcf_reading.specs.RouteRows
 pub use Rattle.mcf_table.specs.Heads
+pub use Rattle.mcf_table.specs.NearHeads as NearWords
 pub use Rattle.mcf_table.specs.Texts
 pub mod PeriodFaults
 pub mod PeriodHeads
+pub mod NearHeads
+pub mod HeadFaults
 pub mod PeriodCells
 pub mod Spots
 pub mod Seen

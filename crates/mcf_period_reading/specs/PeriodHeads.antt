@@ -1,20 +1,14 @@
 -- The heads of the columns that say something about periods.
 -- Source: own
-use Rattle.std.specs.Prelude.{ℕ, Bool, not, ◌||◌, List, [], ◌∷◌, ◌++◌, codes, Option, Some, None}
-use Rattle.std.specs.List.{flat_map, list_any}
-use Rattle.mcf_reading.specs.HeadTexts.{has_periods}
+use Rattle.std.specs.Prelude.{ℕ, Bool, List, [], ◌∷◌, codes, Option}
+use Rattle.std.specs.List.{list_any}
 use Rattle.mcf_reading.specs.declared.locations.Table.{Table}
 use Rattle.mcf_reading.specs.declared.locations.Table.TheVariants.{Places, Routes}
 use Rattle.mcf_table.specs.Heads.{column_of, is_there, only_place}
 use Rattle.mcf_table.specs.Texts.{Record}
 use Rattle.mcf_table.specs.declared.heads.Column.{Column}
-use Rattle.mcf_table.specs.declared.heads.Column.TheVariants.{Missing, Twice, At}
-use Rattle.mcf_period_reading.specs.PeriodFaults.{if_kind, told}
 use Rattle.mcf_period_reading.specs.declared.heads.PeriodHead.{PeriodHead}
 use Rattle.mcf_period_reading.specs.declared.heads.PeriodHead.TheVariants.{Period, KeepMost, KeepCost, FirstStock, LastStock, Lead}
-use Rattle.mcf_period_reading.specs.declared.kinds.PeriodFault.{PeriodFault}
-use Rattle.mcf_period_reading.specs.declared.kinds.PeriodKind.{PeriodKind}
-use Rattle.mcf_period_reading.specs.declared.kinds.PeriodKind.TheVariants.{NoPeriods, TwoColumns}
 
 -- the text of a head
 abbrev pub head_text : PeriodHead → List ℕ
@@ -41,23 +35,3 @@ place_under records head = only_place (column_under records head)
 -- a table has a column with one of these heads
 abbrev pub has_any : List Record → List PeriodHead → Bool
 has_any records heads = list_any (λ head. is_there (column_under records head)) heads
-
--- a column of the tables says something about periods
-abbrev pub tells_periods : List Record → List Record → Bool
-tells_periods places routes = has_any places (heads_of Places) || has_any routes (heads_of Routes)
-
--- what is wrong with a column, if the table of places has a column of periods, or if it has none
-abbrev pub column_kind : Bool → Column → Option PeriodKind
-column_kind has Missing = None
-column_kind has Twice = Some TwoColumns
-column_kind has (At place) = if_kind (not has) NoPeriods
-
--- the fault of a head
-abbrev pub head_fault : Bool → Table → List Record → PeriodHead → List PeriodFault
-head_fault has table records head = told table 0 head (column_kind has (column_under records head))
-
--- the faults of the heads of both tables
-abbrev pub head_faults : List Record → List Record → List PeriodFault
-head_faults places routes =
-    flat_map (head_fault (has_periods places) Places places) (heads_of Places)
-    ++ flat_map (head_fault (has_periods places) Routes routes) (heads_of Routes)

@@ -7,8 +7,8 @@ use Rattle.mcf_table.specs.Texts.{Record}
 use Rattle.mcf_period_reading.specs.PeriodCells.{cells_under}
 use Rattle.mcf_reading.specs.HeadTexts.{has_periods}
 use Rattle.mcf_reading.specs.declared.locations.Table.TheVariants.{Places}
+use Rattle.mcf_period_reading.specs.HeadFaults.{head_faults}
 use Rattle.mcf_period_reading.specs.PeriodFaults.{if_kind, told}
-use Rattle.mcf_period_reading.specs.PeriodHeads.{head_faults}
 use Rattle.mcf_period_reading.specs.PlaceTimes.{all_place_faults, periods_in, place_times, spots, time_columns}
 use Rattle.mcf_period_reading.specs.RouteTimes.{all_route_faults, route_format, route_times}
 use Rattle.mcf_period_reading.specs.declared.heads.PeriodHead.TheVariants.{Period}

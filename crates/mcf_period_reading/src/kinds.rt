@@ -15,6 +15,8 @@ pub enum PeriodKind {
     TwoColumns,
     /// The table of places has no column of periods.
     NoPeriods,
+    /// No column has this head, and the title of the column at this place, from 0, nearly is it.
+    NearHead(usize),
     /// No row of places names a period.
     NoneNamed,
     /// The cell isn't a name.

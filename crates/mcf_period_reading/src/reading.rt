@@ -1,11 +1,12 @@
 //! What both tables say about periods.
 ghost use Rattle.std.specs.Prelude.{◌≡◌, [], IfOk};
-ghost use Rattle.mcf_period_reading.specs.PeriodHeads.{head_faults};
+ghost use Rattle.mcf_period_reading.specs.HeadFaults.{head_faults};
 ghost use Rattle.mcf_period_reading.specs.PeriodReading.{IsReadOf, empty_kind, place_format, spots_in};
 ghost use Rattle.mcf_period_reading.specs.PlaceTimes.{periods_in};
 
 use crate::cells::cells_under;
-use crate::heads::{PeriodHead, head_faults};
+use crate::head_faults::head_faults;
+use crate::heads::PeriodHead;
 use crate::kinds::{PeriodFault, PeriodKind, if_kind, push_told};
 use crate::place_times::{PlaceFormat, PlaceTime, periods_in, read_places, spots, time_columns};
 use crate::route_times::{RouteTime, read_routes, route_format};

@@ -1,7 +1,7 @@
 -- Faults of tables over periods as rows of a table. Those of the problem without periods are told
 -- of the rows that its places and its routes come from, and have one cell more: the period.
 -- Source: own
-use Rattle.std.specs.Prelude.{ℕ, ◌-◌, nat_lt, Bool, if◌then◌else◌, List, [], ◌∷◌, ◌++◌, codes, decimal, length, Option, Some, None}
+use Rattle.std.specs.Prelude.{ℕ, suc, ◌-◌, nat_lt, Bool, if◌then◌else◌, List, [], ◌∷◌, ◌++◌, codes, decimal, length, Option, Some, None}
 use Rattle.mcf_answer_rows.specs.AnswerRows.{cell_under, line_at}
 use Rattle.mcf_answer_rows.specs.FaultWords.{fault_row, name_word, number_word, too_great}
 use Rattle.mcf_flows.specs.declared.code.Code.TheVariants as code
@@ -10,7 +10,8 @@ use Rattle.mcf_instance.specs.declared.arrays.ArrayFault.TheVariants as number
 use Rattle.mcf_model.specs.declared.faults.RouteFault.{RouteFault}
 use Rattle.mcf_model.specs.declared.faults.RouteFault.TheVariants as route
 use Rattle.mcf_period_reading.specs.PeriodHeads.{head_text}
-use Rattle.mcf_period_reading.specs.declared.heads.PeriodHead.TheVariants.{KeepCost, KeepMost, Lead}
+use Rattle.mcf_period_reading.specs.declared.heads.PeriodHead.{PeriodHead}
+use Rattle.mcf_period_reading.specs.declared.heads.PeriodHead.TheVariants.{FirstStock, KeepCost, KeepMost, LastStock, Lead, Period}
 use Rattle.mcf_period_reading.specs.declared.kinds.PeriodFault.{PeriodFault}
 use Rattle.mcf_period_reading.specs.declared.kinds.PeriodKind.{PeriodKind}
 use Rattle.mcf_period_reading.specs.declared.kinds.PeriodKind.TheVariants as kind
@@ -22,31 +23,54 @@ use Rattle.mcf_places.specs.declared.faults.PlannerFault.TheVariants as planner
 use Rattle.mcf_places.specs.declared.origins.Origin.{Origin}
 use Rattle.mcf_places.specs.declared.origins.Origin.TheVariants.{OfPlace, OfPenalty, OfRoute, OfAll}
 use Rattle.mcf_plan_rows.specs.FaultRows.{TwoTables, beyond_column, beyond_word, great_row, planner_column, planner_table, planner_word, table_in, table_word}
+use Rattle.mcf_reading.specs.Cells.{cell_at}
 use Rattle.mcf_reading.specs.declared.locations.Table.TheVariants.{Places, Routes}
+use Rattle.mcf_table.specs.Heads.{cells_of, column_of, only_place}
+use Rattle.mcf_table.specs.Texts.{Record}
 use Rattle.mcf_period_text.specs.TimedTables.{TimedTables, departure_origin, period_name, place_origin, store_origin, told_row}
 
 -- ---- faults of heads and cells
 
--- what is wrong with what a cell says of periods
-abbrev pub period_word : PeriodKind → List ℕ
-period_word kind.TwoColumns = codes "two such columns"
-period_word kind.NoPeriods = codes "not read without period"
-period_word kind.NoneNamed = codes "no period named"
-period_word (kind.Name fault) = name_word fault
-period_word kind.Twice = codes "named twice in a period"
-period_word kind.NoPeriod = codes "no such period"
-period_word (kind.Number fault) = number_word fault
-period_word kind.BelowZero = codes "below 0"
-period_word kind.NoLead = codes "no number of periods"
-period_word kind.NotFirst = codes "not in the first period"
-period_word kind.NotLast = codes "not in the last period"
+-- that a title nearly is this head
+abbrev pub near_word : PeriodHead → List ℕ
+near_word Period = codes "nearly period"
+near_word KeepMost = codes "nearly keep most"
+near_word KeepCost = codes "nearly keep cost"
+near_word FirstStock = codes "nearly first stock"
+near_word LastStock = codes "nearly last stock"
+near_word Lead = codes "nearly lead"
+
+-- what is wrong with what a cell under a head says of periods
+abbrev pub period_word : PeriodHead → PeriodKind → List ℕ
+period_word under kind.TwoColumns = codes "two such columns"
+period_word under kind.NoPeriods = codes "not read without period"
+period_word under (kind.NearHead place) = near_word under
+period_word under kind.NoneNamed = codes "no period named"
+period_word under (kind.Name fault) = name_word fault
+period_word under kind.Twice = codes "named twice in a period"
+period_word under kind.NoPeriod = codes "no such period"
+period_word under (kind.Number fault) = number_word fault
+period_word under kind.BelowZero = codes "below 0"
+period_word under kind.NoLead = codes "no number of periods"
+period_word under kind.NotFirst = codes "not in the first period"
+period_word under kind.NotLast = codes "not in the last period"
+
+-- the column of a fault: its head, or, of a title that nearly is the head, its place, from 1
+abbrev pub period_column : PeriodHead → PeriodKind → List ℕ
+period_column under (kind.NearHead place) = decimal (suc place)
+period_column under kind = head_text under
+
+-- its place, from 0; none, if the head doesn't stand in just one column
+abbrev pub period_place : List Record → PeriodHead → PeriodKind → Option ℕ
+period_place records under (kind.NearHead place) = Some place
+period_place records under kind = only_place (column_of (head_text under) records)
 
 -- a fault of what a table says of periods
 abbrev pub period_fault_row : TwoTables → PeriodFault → List (List ℕ)
 period_fault_row two fault =
     let records = table_in two fault.table in
-    fault_row (table_word fault.table) (decimal (line_at records fault.row)) (head_text fault.head) (period_word fault.kind)
-    (cell_under (head_text fault.head) records fault.row)
+    fault_row (table_word fault.table) (decimal (line_at records fault.row)) (period_column fault.head fault.kind)
+    (period_word fault.head fault.kind) (cell_at (cells_of records fault.row) (period_place records fault.head fault.kind))
 
 -- ---- numbers that are too great, and rows that are too late
 

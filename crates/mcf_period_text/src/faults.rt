@@ -5,15 +5,17 @@ ghost use Rattle.mcf_answer_rows.specs.Lines.{row_line, rows_text};
 ghost use Rattle.mcf_period_units.specs.declared.faults.PeriodGreat.TheVariants as great;
 ghost use Rattle.mcf_plan_rows.specs.FaultRows.{table_word, tables_in};
 ghost use Rattle.mcf_reading.specs.declared.locations.Table.TheVariants.{Places};
-ghost use Rattle.mcf_period_text.specs.PeriodFaultRows.{beyond_place, is_store, many_places, of_departure, of_none, of_place, of_route, of_store, period_beyond_row, period_cell_row, period_fault_row, period_great_row, period_planner_row, placed_row, planner_place};
+ghost use Rattle.mcf_period_text.specs.PeriodFaultRows.{beyond_place, is_store, many_places, of_departure, of_none, of_place, of_route, of_store, period_beyond_row, period_cell_row, period_column, period_fault_row, period_great_row, period_place, period_planner_row, placed_row, planner_place};
 ghost use Rattle.mcf_period_text.specs.Private.PlacedFaults.{placed_in};
 ghost use Rattle.mcf_period_text.specs.TimedTables.{timed_in};
 
 use crate::timed::{Timed, departure_origin, period_name, place_origin, store_origin, told_row};
 use crate::words::{great_sum, head_text, many_places, period_word, store_column, store_number};
-use mcf_answer_rows::{Wrong, cell_under, line_cell, put_fault, put_line, too_great};
+use mcf_answer_rows::{
+    Wrong, cell_at, cell_under, line_cell, next_cell, place_of, put_fault, put_line, too_great,
+};
 use mcf_instance::ArrayFault;
-use mcf_period_reading::{PeriodFault, PeriodHead};
+use mcf_period_reading::{PeriodFault, PeriodHead, PeriodKind};
 use mcf_period_units::{PeriodCell, PeriodGreat};
 use mcf_places::{Origin, PlannerFault};
 use mcf_plan_rows::{
@@ -21,8 +23,31 @@ use mcf_plan_rows::{
     table_word,
 };
 use mcf_reading::Table;
+use mcf_table::Records;
 use mcf_text::NoMemory;
 use std::alloc::Global;
+
+// The column of a fault: its head, or, of a title that nearly is the head, its place, from 1.
+fn period_column(alloc: Global, head: PeriodHead, kind: PeriodKind) -> Result<Vec<u8>, NoMemory>
+    ensures { IfOk result (λ made. made.items ≡ period_column head kind) }
+{
+    if let PeriodKind::NearHead(place) = kind {
+        return next_cell(alloc, place);
+    }
+    let mut made = Vec::new(alloc);
+    made.extend_from_slice(head_text(head))?;
+    Ok(made)
+}
+
+// Its place, from 0; none, if the head doesn't stand in just one column.
+fn period_place(records: &Records, head: PeriodHead, kind: PeriodKind) -> Option<usize>
+    ensures { result ≡ period_place records.now head kind }
+{
+    match kind {
+        PeriodKind::NearHead(place) => Some(place),
+        _ => place_of(records, head_text(head)),
+    }
+}
 
 // Appends a fault of what a table says of periods.
 fn put_period_fault(
@@ -36,11 +61,12 @@ fn put_period_fault(
 {
     let records = two.table(fault.table);
     let line = line_cell(alloc, records, fault.row)?;
-    let column = head_text(fault.head);
-    let cell = cell_under(records, column, fault.row);
+    let column = period_column(alloc, fault.head, fault.kind)?;
+    let place = period_place(records, fault.head, fault.kind);
+    let cell = cell_at(records, fault.row, place);
     let wrong = Wrong {
-        column,
-        what: period_word(fault.kind),
+        column: &column,
+        what: period_word(fault.head, fault.kind),
     };
     put_fault(out, table_word(fault.table), &line, wrong, cell)
 }

@@ -1,7 +1,7 @@
 //! The words by which faults about periods are told.
 ghost use Rattle.std.specs.Prelude.{◌≡◌};
 ghost use Rattle.mcf_period_reading.specs.PeriodHeads.{head_text};
-ghost use Rattle.mcf_period_text.specs.PeriodFaultRows.{great_sum, many_places, period_word, store_column, store_number};
+ghost use Rattle.mcf_period_text.specs.PeriodFaultRows.{great_sum, many_places, near_word, period_word, store_column, store_number};
 
 use mcf_answer_rows::{name_word, number_word};
 use mcf_flows::Code;
@@ -23,13 +23,28 @@ pub(crate) fn head_text(head: PeriodHead) -> &'static [u8]
     }
 }
 
-// What is wrong with what a cell says of periods.
-pub(crate) fn period_word(kind: PeriodKind) -> &'static [u8]
-    ensures { result.now ≡ period_word kind }
+// That a title nearly is this head.
+fn near_word(head: PeriodHead) -> &'static [u8]
+    ensures { result.now ≡ near_word head }
+{
+    match head {
+        PeriodHead::Period => b"nearly period",
+        PeriodHead::KeepMost => b"nearly keep most",
+        PeriodHead::KeepCost => b"nearly keep cost",
+        PeriodHead::FirstStock => b"nearly first stock",
+        PeriodHead::LastStock => b"nearly last stock",
+        PeriodHead::Lead => b"nearly lead",
+    }
+}
+
+// What is wrong with what a cell under a head says of periods.
+pub(crate) fn period_word(head: PeriodHead, kind: PeriodKind) -> &'static [u8]
+    ensures { result.now ≡ period_word head kind }
 {
     match kind {
         PeriodKind::TwoColumns => b"two such columns",
         PeriodKind::NoPeriods => b"not read without period",
+        PeriodKind::NearHead(_) => near_word(head),
         PeriodKind::NoneNamed => b"no period named",
         PeriodKind::Name(fault) => name_word(fault),
         PeriodKind::Twice => b"named twice in a period",

@@ -14,6 +14,8 @@ mod groups;
 #[cfg(test)]
 mod near_heads;
 #[cfg(test)]
+mod near_period_heads;
+#[cfg(test)]
 mod period_units;
 #[cfg(test)]
 mod periods;

@@ -118,7 +118,11 @@ static ROWS: [FaultRow; 11] = [
 ];
 
 // The faults of two texts, whose cells a semicolon separates; none if one is no table.
-fn faults_of(alloc: Global, places: &[u8], routes: &[u8]) -> Result<Vec<PeriodFault>, NoMemory> {
+pub(crate) fn faults_of(
+    alloc: Global,
+    places: &[u8],
+    routes: &[u8],
+) -> Result<Vec<PeriodFault>, NoMemory> {
     let none = Vec::new(alloc);
     let Ok(places) = records_of(alloc, places, b';')? else {
         return Ok(none);
@@ -250,10 +254,12 @@ fn places_have_rows_for_periods(rt: HostRuntime) -> Result<(), Fail> {
         return Ok(());
     };
     let periods = periods_in(rt.alloc(), &places)?;
+    let tells_over = tells_periods(rt.alloc(), &places, &routes)?;
+    let tells_plain = tells_periods(rt.alloc(), &plain, &routes)?;
     let over = read(rt.alloc(), &places, &routes, None)?;
     let once = read(rt.alloc(), &plain, &routes, None)?;
     assert!(rt; has_periods(&places) && !has_periods(&plain));
-    assert!(rt; tells_periods(&places, &routes) && !tells_periods(&plain, &routes));
+    assert!(rt; tells_over && !tells_plain);
     assert!(rt; periods.len() == 2);
     assert!(rt; over.is_ok() && once.is_err());
     Ok(())

@@ -1,7 +1,7 @@
 use Rattle.std.proofs.Common.{◌≡◌, ◌++◌, take}
 use Rattle.std.specs.List.{flat_map}
-use Rattle.mcf_period_reading.specs.PeriodHeads.{head_fault}
-use Rattle.mcf_period_reading.proofs.heads.push_head_faults.Given as goal
+use Rattle.mcf_period_reading.specs.HeadFaults.{head_fault}
+use Rattle.mcf_period_reading.proofs.head_faults.push_head_faults.Given as goal
 
 abbrev pub invariant-loop-head : goal.invariant-loop-head
 invariant-loop-head l =
