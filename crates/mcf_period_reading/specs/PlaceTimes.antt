@@ -10,7 +10,7 @@ use Rattle.mcf_reading.specs.RouteRows.{place_or_none}
 use Rattle.mcf_reading.specs.declared.locations.Table.TheVariants.{Places}
 use Rattle.mcf_table.specs.Heads.{cells_of, column_of, only_place}
 use Rattle.mcf_table.specs.Texts.{Record, is_filled}
-use Rattle.mcf_period_reading.specs.PeriodCells.{cells_under, limit_kind, number_kind, stock_kind}
+use Rattle.mcf_period_reading.specs.PeriodCells.{limit_kind, number_kind, stock_kind}
 use Rattle.mcf_period_reading.specs.PeriodFaults.{if_kind, told}
 use Rattle.mcf_period_reading.specs.PeriodHeads.{place_under}
 use Rattle.mcf_period_reading.specs.Spots.{spot_at}

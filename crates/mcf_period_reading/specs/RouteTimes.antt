@@ -1,6 +1,6 @@
 -- What rows of routes say about periods.
 -- Source: own
-use Rattle.std.specs.Prelude.{ℕ, ◌^◌, ◌==◌, Bool, not, ◌&&◌, List, [], ◌++◌, map, pos, int_lt, Option, Some, None, Result, Ok, Err}
+use Rattle.std.specs.Prelude.{ℕ, ◌^◌, ◌==◌, Bool, not, ◌&&◌, List, ◌++◌, map, pos, int_lt, Option, Some, Result, Ok, Err}
 use Rattle.std.specs.List.{flat_map}
 use Rattle.std.specs.Option.{is_none}
 use Rattle.mcf_decimal.specs.declared.decimal.Decimal.{Decimal}

@@ -1,4 +1,4 @@
-use Rattle.std.proofs.Common.{◌≡◌, ◌∙◌, true, false, sym, ap}
+use Rattle.std.proofs.Common.{◌≡◌, ◌∙◌, true, false, ap}
 use Rattle.std.specs.HashMap.{get}
 use Rattle.std.specs.Option.{is_some}
 use Rattle.mcf_period_reading.specs.Spots.{same_key}
