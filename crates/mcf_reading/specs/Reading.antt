@@ -47,21 +47,35 @@ cell_faults mark places routes =
     ++ all_route_faults mark (route_columns routes) (all_step_columns routes) (names places) routes
 
 -- these faults, or what is said if there are none
-abbrev pub unless : List Fault → Result Entries (List Fault) → Result Entries (List Fault)
+abbrev pub unless : {A : Type 0} → List Fault → Result A (List Fault) → Result A (List Fault)
 unless [] said = said
 unless (fault ∷ faults) said = Err (fault ∷ faults)
 
--- what the rows say under the mark that was settled
-abbrev pub read_settled : Result (Option Mark) Fault → List Record → List Record → Result Entries (List Fault)
-read_settled (Ok mark) places routes = unless (cell_faults mark places routes) (Ok (entries mark places routes))
-read_settled (Err fault) places routes = Err (fault ∷ [])
+-- the mark that was settled, or the fault of a second one alone
+abbrev pub mark_or_fault : Result (Option Mark) Fault → Result (Option Mark) (List Fault)
+mark_or_fault (Ok mark) = Ok mark
+mark_or_fault (Err fault) = Err (fault ∷ [])
+
+-- The mark before decimals that is named, or else the one that cells show, if one does; or the
+-- faults of heads, if there are some; or else the fault of a second mark, if cells show both.
+abbrev pub read_heads : Option Mark → List Record → List Record → Result (Option Mark) (List Fault)
+read_heads named places routes =
+    unless (head_faults places routes) (mark_or_fault (settled_mark named (number_cells places routes)))
+
+-- what the rows say under a mark; or the faults of cells, if there are some
+abbrev pub read_rows : Option Mark → List Record → List Record → Result Entries (List Fault)
+read_rows mark places routes = unless (cell_faults mark places routes) (Ok (entries mark places routes))
+
+-- what the rows say under the mark that was read
+abbrev pub read_under : Result (Option Mark) (List Fault) → List Record → List Record → Result Entries (List Fault)
+read_under (Ok mark) places routes = read_rows mark places routes
+read_under (Err faults) places routes = Err faults
 
 -- What the tables say: the faults of their heads, if there are some; or the fault of a second mark,
 -- if none is named and cells show both; or the faults of cells, if there are some; or else places
 -- and routes.
 abbrev pub read_tables : Option Mark → List Record → List Record → Result Entries (List Fault)
-read_tables named places routes =
-    unless (head_faults places routes) (read_settled (settled_mark named (number_cells places routes)) places routes)
+read_tables named places routes = read_under (read_heads named places routes) places routes
 
 -- a route without steps, for places beyond the last
 abbrev pub no_route : Route

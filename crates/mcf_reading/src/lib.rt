@@ -27,6 +27,6 @@ pub use heads::{has_periods, head_text};
 pub use kinds::{Fault, FaultKind};
 pub use locations::{ColumnAt, Head, Location, Table};
 pub use place_rows::{BoundsEntry, PlaceEntry};
-pub use reading::read;
+pub use reading::{read, read_heads, read_rows};
 pub use steps::StepEntry;
 pub use tables::{Faults, RouteEntry, Tables};

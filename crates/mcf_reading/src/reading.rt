@@ -1,6 +1,6 @@
 //! Reading the two tables.
 ghost use Rattle.std.specs.Prelude.{◌≡◌, ◌∷◌, [], IfOk};
-ghost use Rattle.mcf_reading.specs.Reading.{read_settled, read_tables};
+ghost use Rattle.mcf_reading.specs.Reading.{read_heads, read_rows, read_tables};
 
 use crate::columns::{all_step_columns, place_columns, route_columns};
 use crate::head_faults::head_faults;
@@ -35,12 +35,34 @@ pub fn read(
 ) -> Result<Result<Tables, Faults>, NoMemory>
     ensures { IfOk result (λ read. read ≡ read_tables mark places.now routes.now) }
 {
+    match read_heads(alloc, places, routes, mark)? {
+        Ok(mark) => read_rows(alloc, places, routes, mark),
+        Err(faults) => Ok(Err(faults)),
+    }
+}
+
+/// The mark before decimals: the one that is named, or else the one that cells show, those of
+/// columns about periods among them; `None` if they show none. The first row of each table has its
+/// heads.
+///
+/// # Errors
+///
+/// The faults of the heads, if there are some; or else the fault of a second mark, if none is named
+/// and cells show both. `NoMemory` if an allocation is refused.
+pub fn read_heads(
+    alloc: Global,
+    places: &Records,
+    routes: &Records,
+    mark: Option<Mark>,
+) -> Result<Result<Option<Mark>, Faults>, NoMemory>
+    ensures { IfOk result (λ read. read ≡ read_heads mark places.now routes.now) }
+{
     let found = head_faults(alloc, places, routes)?;
     if !found.is_empty() {
         return Ok(Err(Faults::of(found)));
     }
     match settled_mark(alloc, places, routes, mark)? {
-        Ok(mark) => read_rows(alloc, places, routes, mark),
+        Ok(mark) => Ok(Ok(mark)),
         Err(fault) => Ok(Err(only(alloc, fault)?)),
     }
 }
@@ -54,14 +76,19 @@ fn only(alloc: Global, fault: Fault) -> Result<Faults, NoMemory>
     Ok(Faults::of(found))
 }
 
-// Reads the rows of both tables.
-fn read_rows(
+/// Reads the rows of both tables under a mark before decimals, or under none.
+///
+/// # Errors
+///
+/// All faults of cells: first those beyond the last heads, then those of the rows of places, and
+/// then those of the rows of routes. `NoMemory` if an allocation is refused.
+pub fn read_rows(
     alloc: Global,
     places: &Records,
     routes: &Records,
     mark: Option<Mark>,
 ) -> Result<Result<Tables, Faults>, NoMemory>
-    ensures { IfOk result (λ read. read ≡ read_settled (Ok mark) places.now routes.now) }
+    ensures { IfOk result (λ read. read ≡ read_rows mark places.now routes.now) }
 {
     let columns = place_columns(alloc, places)?;
     let names = Names::of(alloc, place_names(alloc, columns, places)?)?;
