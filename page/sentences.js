@@ -128,7 +128,7 @@ const TITLE = /^(nearly|not read without) (.*)$/;
 /** @type {Record<string, RegExp>} */
 const NUMBERS = {
   places: /^(supply|least|most|cost|penalty|keep (most|cost)|(first|last) stock)$/,
-  routes: /^(least|(most|cost)( [0-9]+)?)$/,
+  routes: /^(least|(most|cost)( [0-9]+)?|lead)$/,
   costs: /^cost$/,
   groups: /^(least|most)$/,
 };
@@ -190,11 +190,15 @@ export class Teller {
   }
 
   // This method returns the column and the cell of a fault. One of steps is in the first step that
-  // costs less than the one before, or whose most is below 0.
+  // costs less than the one before, or whose most is below 0; a mark may stand in a column about
+  // periods, told by its place.
   /** @type {(word: string, line: string, head: string, what: string, cell: string) => string[]} */
   located(word, line, head, what, cell) {
     const table = this.tables[word], takes = table.heads.indexOf('takes');
     if (TITLE.test(what)) return [shown(cell).slice(1, -1), cell];
+    if (what === 'both decimal marks' && word !== 'costs') {
+      return [table.heads[Number(head) - 1] || head, cell];
+    }
     if (!['falling cost', 'below 0'].includes(what)) {
       return [takes > 0 && head === String(takes + 1) ? 'takes' : head, cell];
     }

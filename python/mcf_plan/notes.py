@@ -47,7 +47,7 @@ NO_FLOW = (
 )
 # The heads of what isn't read as a number.
 WORDS = {"name", "from", "to", "both", "who", "what", "takes", "needs", "group", *SPOT_HEADS}
-WORDS |= {"period", "lead"}
+WORDS |= {"period"}
 
 
 def known_heads(word, sheet):

@@ -183,10 +183,13 @@ class Teller:
 
     def located(self, word, line, head, what, cell):
         """The column and the cell of a fault. One of steps is in the first step that costs less
-        than the one before, or whose most is below 0."""
+        than the one before, or whose most is below 0; a mark may stand in a column about periods,
+        told by its place."""
         sheet, cells = self.sheets[word], self.rows[word].get(line, [])
         if TITLE.fullmatch(what):
             return shown(cell)[1:-1], cell
+        if what == "both decimal marks" and word in ("places", "routes") and head.isdecimal():
+            return sheet.heads[int(head) - 1], cell
         if what not in ("falling cost", "below 0"):
             return "takes" if head == str((sheet.place("takes") or -1) + 1) else head, cell
         heads = [head, *(f"{head} {number}" for number in range(2, len(cells)))]

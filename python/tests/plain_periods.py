@@ -89,12 +89,6 @@ class PeriodProblem:
     def moves(self):
         return [*self.stores(), *self.departures()]
 
-    def stock_has_decimals(self):
-        """Whether a number about stock isn't whole: such numbers alone show no decimal mark."""
-        numbers = [number for row in self.places for number in (row.first, row.last)]
-        numbers += [number for row in self.places for number in row.keep or () if number]
-        return any(number % 1 for number in numbers)
-
     def late_rows(self):
         """The numbers of the rows of routes whose departures all arrive too late."""
         last = len(self.periods) - 1

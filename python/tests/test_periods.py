@@ -92,7 +92,6 @@ class Periods(Answering):
         tables = [rows_of(notation, *pair) for pair in zip(texts, ("name", "from"))]
         policy = problem.policy
         says_mark = notation.says_mark or (policy.penalty or 0) % 1 != 0
-        says_mark = says_mark or problem.stock_has_decimals()
         words = ["--decimal", notation.mark] if says_mark else []
         words += ["--unused", "allow"] * policy.unused + ["--short", "allow"] * policy.short
         if policy.penalty is not None:
@@ -147,6 +146,17 @@ class Periods(Answering):
                 status, rows = self.answered(["flow", "--decimal", "."], [places, routes])
                 found = [tuple(cells[:4]) for cells in rows.by_word["fault"]]
                 self.assertEqual((status, found), (2, wanted))
+
+    def test_marks(self):
+        """Columns about periods show the mark before decimals, too; one that differs is a fault."""
+        routes = "from;to;most;cost;lead\nA;B;;1;1\n"
+        for supply, wanted in (("1", (0, [","], [])), ("1.5", (2, [""], ["2", "4"]))):
+            places = f"name;supply;period;keep cost\nA;{supply};W1;1,5\nB;-1;W2;\n"
+            with self.subTest(places=places):
+                status, rows = self.answered(["flow"], [places, routes])
+                faults = [cells[1:3] for cells in rows.by_word["fault"]]
+                marks = [cells[0] for cells in rows.by_word["mark"]]
+                self.assertEqual((status, marks, sum(faults, [])), wanted)
 
     def test_random_figures(self):
         rng, seen = random.Random(3), collections.Counter()

@@ -12,7 +12,7 @@ use Rattle.mcf_decimal.specs.declared.mark.Mark.{Mark}
 use Rattle.mcf_decimal.specs.declared.mark.Mark.TheVariants.{Point, Comma}
 use Rattle.mcf_reading.specs.Private.Found.{none_shown, settled_by, with_cell, with_cells}
 use Rattle.mcf_table.specs.Texts.{Record}
-use Rattle.mcf_reading.specs.ShownMarks.{Located, first_mark, first_other, number_cell, number_cells, number_column, place_number_heads, route_number_heads, row_numbers, settled_mark, shown_mark, table_numbers}
+use Rattle.mcf_reading.specs.ShownMarks.{Located, first_mark, first_other, number_cell, number_cells, place_number_columns, route_number_columns, row_numbers, settled_mark, shown_mark, table_numbers}
 use Rattle.mcf_reading.specs.declared.columns.NumberColumn.{NumberColumn}
 use Rattle.mcf_reading.specs.declared.locations.Table.{Table}
 use Rattle.mcf_reading.specs.declared.locations.Table.TheVariants.{Places, Routes}
@@ -130,12 +130,12 @@ table_next before shown shown2 table records columns place is last =
 pub both_tables : (before shown last : Shown) (places routes : List Record) (place_columns route_columns : List NumberColumn)
     → shown ≡ with_cells before (table_numbers Places places place_columns)
     → last ≡ with_cells shown (table_numbers Routes routes route_columns)
-    → place_columns ≡ map (number_column places) place_number_heads → route_columns ≡ map (number_column routes) (route_number_heads routes)
+    → place_columns ≡ place_number_columns places → route_columns ≡ route_number_columns routes
     → last ≡ with_cells before (number_cells places routes)
 unfolding number_cells
 both_tables before shown last places routes place_columns route_columns first second p r =
-    let a = table_numbers Places places (map (number_column places) place_number_heads) in
-    let b = table_numbers Routes routes (map (number_column routes) (route_number_heads routes)) in
+    let a = table_numbers Places places (place_number_columns places) in
+    let b = table_numbers Routes routes (route_number_columns routes) in
     second
     ∙ ap₂ (λ (s : Shown) (cs : List NumberColumn). with_cells s (table_numbers Routes routes cs))
     (first ∙ ap (λ (cs : List NumberColumn). with_cells before (table_numbers Places places cs)) p) r

@@ -1,10 +1,12 @@
 //! The columns that are read, by their heads.
-ghost use Rattle.std.specs.Prelude.{◌≡◌, ◌+◌, IfOk, map};
+ghost use Rattle.std.specs.Prelude.{◌≡◌, ◌+◌, ◌++◌, IfOk, OnOk, map};
+ghost use Rattle.std.specs.List.{flat_map};
 ghost use Rattle.mcf_reading.specs.Columns.{all_step_columns, place_columns, place_under, route_columns, step_columns};
-ghost use Rattle.mcf_reading.specs.ShownMarks.{number_column};
+ghost use Rattle.mcf_reading.specs.ShownMarks.{number_column, placed_column};
+ghost use Rattle.mcf_table.specs.Heads.{column_of, only_place};
 
 use crate::heads::{column_under, further_count, has_periods};
-use crate::locations::Head;
+use crate::locations::{ColumnAt, Head};
 use mcf_table::{Column, Records};
 use mcf_text::NoMemory;
 use std::alloc::Global;
@@ -39,10 +41,10 @@ pub(crate) struct StepColumns {
     pub(crate) cost: Option<usize>,
 }
 
-// A column of numbers: its head, and its place, from 0; `None` if the table lacks it.
+// A column of numbers, and its place, from 0; `None` if the table lacks it.
 #[derive(Clone, Copy)]
 pub(crate) struct NumberColumn {
-    pub(crate) head: Head,
+    pub(crate) column: ColumnAt,
     pub(crate) place: Option<usize>,
 }
 
@@ -130,7 +132,39 @@ pub(crate) fn number_columns(
     let mut made = Vec::new(alloc);
     for head in heads {
         let place = place_under(alloc, records, *head)?;
-        made.push(NumberColumn { head: *head, place })?;
+        made.push(NumberColumn {
+            column: ColumnAt::Under(*head),
+            place,
+        })?;
     }
     Ok(made)
+}
+
+// Appends a column of numbers about periods, by its place, if there is one.
+fn push_placed(columns: &mut Vec<NumberColumn>, place: Option<usize>) -> Result<(), NoMemory>
+    ensures { OnOk result (columns.new.items ≡ columns.old.items ++ placed_column place) }
+{
+    if let Some(place) = place {
+        columns.push(NumberColumn {
+            column: ColumnAt::Placed(place),
+            place: Some(place),
+        })?;
+    }
+    Ok(())
+}
+
+// Appends the columns of numbers about periods with these heads.
+pub(crate) fn push_period_columns(
+    columns: &mut Vec<NumberColumn>,
+    records: &Records,
+    heads: &[&[u8]],
+) -> Result<(), NoMemory>
+    ensures { OnOk result (columns.new.items ≡ columns.old.items
+        ++ flat_map (λ head. placed_column (only_place (column_of head.now records.now))) heads.now) }
+{
+    for head in heads {
+        let column = records.column_of(head);
+        push_placed(columns, column.only_place())?;
+    }
+    Ok(())
 }

@@ -2,14 +2,13 @@
 ghost use Rattle.std.specs.Prelude.{◌≡◌, ◌<◌, IfOk, length};
 ghost use Rattle.mcf_decimal.specs.Settled.{is_the};
 ghost use Rattle.mcf_reading.specs.Private.Found.{none_shown, other_at, settled_by, with_cells, with_mark};
-ghost use Rattle.mcf_reading.specs.ShownMarks.{number_cells, row_numbers, settled_mark, table_numbers};
+ghost use Rattle.mcf_reading.specs.ShownMarks.{number_cells, place_number_columns, route_number_columns, row_numbers, settled_mark, table_numbers};
 
 use crate::cells::{cell_at, row_count};
-use crate::columns::{NumberColumn, number_columns};
+use crate::columns::{NumberColumn, number_columns, push_period_columns};
 use crate::heads::route_number_heads;
 use crate::kinds::{Fault, FaultKind};
 use crate::locations::{Head, Location, Table};
-use crate::told::under;
 use mcf_decimal::{Mark, mark_in};
 use mcf_table::Records;
 use mcf_text::NoMemory;
@@ -41,20 +40,40 @@ pub(crate) fn settled_mark(
     Ok(settled_by(shown.mark, shown.other))
 }
 
-// The marks that the cells of both tables show.
-fn shown_marks(alloc: Global, places: &Records, routes: &Records) -> Result<Shown, NoMemory>
-    ensures { IfOk result (λ shown. shown ≡ with_cells none_shown (number_cells places.now routes.now)) }
+// The columns of numbers in the table of places, those about periods last.
+fn place_number_columns(alloc: Global, places: &Records) -> Result<Vec<NumberColumn>, NoMemory>
+    ensures { IfOk result (λ made. made.items ≡ place_number_columns places.now) }
 {
-    let place_heads = [
+    let heads = [
         Head::Supply,
         Head::Least,
         Head::Most(1),
         Head::Cost(1),
         Head::Penalty,
     ];
-    let place_columns = number_columns(alloc, places, &place_heads)?;
-    let route_heads = route_number_heads(alloc, routes)?;
-    let route_columns = number_columns(alloc, routes, &route_heads)?;
+    let texts: [&[u8]; 4] = [b"keep most", b"keep cost", b"first stock", b"last stock"];
+    let mut columns = number_columns(alloc, places, &heads)?;
+    push_period_columns(&mut columns, places, &texts)?;
+    Ok(columns)
+}
+
+// The columns of numbers in the table of routes, those about periods last.
+fn route_number_columns(alloc: Global, routes: &Records) -> Result<Vec<NumberColumn>, NoMemory>
+    ensures { IfOk result (λ made. made.items ≡ route_number_columns routes.now) }
+{
+    let heads = route_number_heads(alloc, routes)?;
+    let texts: [&[u8]; 1] = [b"lead"];
+    let mut columns = number_columns(alloc, routes, &heads)?;
+    push_period_columns(&mut columns, routes, &texts)?;
+    Ok(columns)
+}
+
+// The marks that the cells of both tables show.
+fn shown_marks(alloc: Global, places: &Records, routes: &Records) -> Result<Shown, NoMemory>
+    ensures { IfOk result (λ shown. shown ≡ with_cells none_shown (number_cells places.now routes.now)) }
+{
+    let place_columns = place_number_columns(alloc, places)?;
+    let route_columns = route_number_columns(alloc, routes)?;
     let none = Shown {
         mark: None,
         other: None,
@@ -88,7 +107,12 @@ fn with_row(
     let mut shown = shown;
     for column in columns {
         let cell = cell_at(records, row, column.place);
-        shown = with_mark(shown, under(table, row, column.head), mark_in(cell));
+        let at = Location {
+            table,
+            row,
+            column: column.column,
+        };
+        shown = with_mark(shown, at, mark_in(cell));
     }
     shown
 }

@@ -15,7 +15,7 @@ type FaultRow = (
     FaultKind,
 );
 
-static ROWS: [FaultRow; 17] = [
+static ROWS: [FaultRow; 19] = [
     (
         b"name\nA\n",
         b"from;to;most;cost\n",
@@ -38,6 +38,22 @@ static ROWS: [FaultRow; 17] = [
         Table::Routes,
         1,
         ColumnAt::Under(Head::Most(1)),
+        FaultKind::BothMarks,
+    ),
+    (
+        b"name;keep cost;supply;last stock\nA;12,50;1;\nB;;1;2.5\n",
+        b"from;to;most;cost\n",
+        Table::Places,
+        2,
+        ColumnAt::Placed(3),
+        FaultKind::BothMarks,
+    ),
+    (
+        b"name;supply\nA;12,50\n",
+        b"from;to;most;cost;lead\nA;A;1;1;1.5\n",
+        Table::Routes,
+        1,
+        ColumnAt::Placed(4),
         FaultKind::BothMarks,
     ),
     (

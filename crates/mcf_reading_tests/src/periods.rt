@@ -1,11 +1,11 @@
 //! What tables say about periods.
-use mcf_decimal::{Decimal, NumberFault};
+use mcf_decimal::{Decimal, Mark, NumberFault};
 use mcf_names::NameFault;
 use mcf_period_reading::{
     KeepEntry, PeriodFault, PeriodHead, PeriodKind, PeriodTables, PlaceTime, RouteTime, Spot,
     first_rows, periods_in, read_periods, row_in, tells_periods,
 };
-use mcf_reading::{Table, has_periods, read};
+use mcf_reading::{Table, has_periods, read, read_heads, read_rows};
 use mcf_table::records_of;
 use mcf_text::NoMemory;
 use std::alloc::Global;
@@ -262,5 +262,30 @@ fn places_have_rows_for_periods(rt: HostRuntime) -> Result<(), Fail> {
     assert!(rt; tells_over && !tells_plain);
     assert!(rt; periods.len() == 2);
     assert!(rt; over.is_ok() && once.is_err());
+    Ok(())
+}
+
+// The mark before decimals may be shown by columns about periods alone.
+#[test]
+fn stock_shows_the_mark(rt: HostRuntime) -> Result<(), Fail> {
+    let (Ok(places), Ok(routes)) = (
+        records_of(
+            rt.alloc(),
+            b"name;supply;period;keep cost\nA;1;W1;1,5\n",
+            b';',
+        )?,
+        records_of(rt.alloc(), b"from;to;most;cost\nA;A;;2\n", b';')?,
+    ) else {
+        assert!(rt; false);
+        return Ok(());
+    };
+    let mark = match read_heads(rt.alloc(), &places, &routes, None)? {
+        Ok(mark) => mark,
+        Err(_) => None,
+    };
+    let rows = read_rows(rt.alloc(), &places, &routes, mark)?;
+    let times = read_periods(rt.alloc(), &places, &routes, mark)?;
+    assert!(rt; mark == Some(Mark::Comma));
+    assert!(rt; rows.is_ok() && times.is_ok());
     Ok(())
 }

@@ -1,8 +1,6 @@
-use Rattle.std.proofs.Common.{◌∙◌, Option, sym, ap, ap₂}
+use Rattle.std.proofs.Common.{◌∙◌, sym, ap}
 use Rattle.mcf_decimal.specs.Numbers.{mark_in}
-use Rattle.mcf_decimal.specs.declared.mark.Mark.{Mark}
 use Rattle.mcf_reading.specs.Private.Found.{with_mark}
-use Rattle.mcf_reading.specs.declared.locations.Location.{Location}
 use Rattle.mcf_reading.proofs.MarkLemmas.{cells_none, row_next}
 use Rattle.mcf_reading.proofs.marks.with_row.Goals as goal
 
@@ -15,5 +13,4 @@ loop-column-preserved c =
     row_next c.args.shown shown c.with_mark-shown.result c.args.table c.args.records.now c.args.columns.now c.args.row c.loop-column.column-index _
     c.loop-column-test.true c.loop-column.invariant
     (c.with_mark-shown.ensures
-    ∙ ap₂ (λ (at : Location) (mark : Option Mark). with_mark shown.mark shown.other at mark) c.under.ensures
-    (c.mark_in.ensures ∙ ap mark_in c.cell_at-cell.ensures))
+    ∙ ap (with_mark shown.mark shown.other _) (c.mark_in.ensures ∙ ap mark_in c.cell_at-cell.ensures))
