@@ -135,7 +135,9 @@ export class Roster {
     const [mine, yours] = ['person', 'thing'].map((word) =>
       new Map(answer.rows(word).map(([, name, number]) => [name, BigInt(number)]))
     );
-    const groups = answer.rows('group').map(([, name, , owner]) => [name, owner]);
+    const groups = answer.rows('group').map(([, group, , name, number, word]) => (
+      { group, name, number: BigInt(number), isLeast: word === 'least' }
+    ));
     if (groups.length) return [this.within(side, mine, yours, groups)];
     /** @type {Record<string, Rivals[]>} */
     const choices = { [side]: this.parts(side, mine, yours) };
@@ -159,12 +161,22 @@ export class Roster {
    * @param {SendOrTake} side
    * @param {Map<string, bigint>} persons
    * @param {Map<string, bigint>} things
-   * @param {string[][]} groups
+   * @param {RivalGroup[]} groups
    * @returns {Rivals}
    */
   within(side, persons, things, groups) {
     const all = [...persons, ...things], every = new Set(all.map((_, k) => k + 1));
-    return { ...this.rivalry(side, all, persons.size, every), pairs: this.pairs, groups };
+    const found = this.rivalry(side, all, persons.size, every);
+    const sum = (/** @type {Rival[]} */ rivals) =>
+      rivals.reduce((total, { number }) => total + number, 0n);
+    return {
+      ...found,
+      pairs: this.pairs,
+      groups,
+      must: found.must + sum(groups.filter(({ isLeast }) => isLeast)),
+      can: sum(found.cans) + BigInt(this.pairs.length)
+        + sum(groups.filter(({ isLeast }) => !isLeast)),
+    };
   }
 
   // This method returns the competitions among persons and things, which come with their numbers.
@@ -225,6 +237,24 @@ function limiting({ side, cans, pairs }) {
   return { rivals, pairs: alone };
 }
 
+// This function says that persons, things and groups allow no choice together.
+/** @type {(found: Rivals) => string} */
+function groupsSentence(found) {
+  const { musts, groups, must, can } = found, { rivals, pairs } = limiting(found);
+  /** @type {(isLeast: boolean) => Rival[]} */
+  const bounds = (isLeast) => groups
+    .filter((one) => one.isLeast === isLeast)
+    .map(({ group, name, number }) => ({ name: `${group} of ${name}`, number }));
+  const told = (/** @type {Rival[]} */ all) => all.map(({ name, number }) => `${name} (${number})`);
+  const cans = [
+    ...told([...rivals, ...bounds(false)]),
+    ...pairs.map(({ who, what }) => `${who} with ${what}`),
+  ];
+  return `No choice keeps to these together: at least ${must} for `
+    + `${listed(told([...musts, ...bounds(true)]))}; at most ${can}`
+    + `${cans.length ? ` by ${listed(cans)}` : ''}. Short by ${must - can}.`;
+}
+
 // This function says that persons compete for too few things, or that things compete for too few
 // persons.
 /** @type {(found: Rivals) => string} */
@@ -232,13 +262,7 @@ export function rivalsSentence(found) {
   const { side, musts, must, can } = found, { rivals, pairs } = limiting(found);
   const names = musts.map(({ name }) => name), others = rivals.map(({ name }) => name);
   const isSend = side === 'send';
-  if (found.groups.length) {
-    const within = listed(found.groups.map(([group, name]) => `${group} of ${name}`));
-    const sides = (isSend ? [names, others] : [others, names])
-      .map((side_, k) => (side_.length ? `${['persons', 'things'][k]} ${listed(side_)}` : ''));
-    const all = [...sides, `groups ${within}`].filter(Boolean);
-    return `No choice keeps to these together: ${all.join('; ')}.`;
-  }
+  if (found.groups.length) return groupsSentence(found);
   if (!rivals.length && !pairs.length) {
     return isSend ? `${listed(names)} can get nothing.` : `Nobody may do ${listed(names)}.`;
   }
@@ -271,7 +295,10 @@ export function rivalsTable(roster, rivals) {
       ...found.musts.map(({ name, number }) => [count, kinds[0], name, number, '']),
       ...limits.rivals.map(({ name, number }) => [count, kinds[1], name, '', number]),
       ...limits.pairs.map(({ who, what }) => [count, 'pair', `${who}, ${what}`, '', '1']),
-      ...found.groups.map(([group, name]) => [count, 'group', `${group}, ${name}`, '', '']),
+      ...found.groups.map(({ group, name, number, isLeast }) => [
+        ...[count, 'group', `${group}, ${name}`],
+        ...(isLeast ? [String(number), ''] : ['', String(number)]),
+      ]),
     ];
   });
   return {

@@ -494,7 +494,7 @@ export function pairsBlocked(roster) {
     lead: () => [...lines.filter((line, k) => k && !line.startsWith(' ')), ...roster.told()],
     facts: [],
     findings: rivals.map((found) => ({
-      figures: found.groups.length ? [] : shortfallOf(found),
+      figures: shortfallOf(found),
       sentence: rivalsSentence(found),
       cure: '',
     })),

@@ -135,16 +135,19 @@ interface Rival {
   number: bigint;
 }
 
-/**
- * Those that compete: who must, who can, pairs, which count one each, and groups with those that have
- * their members.
- */
+/** What counts of a group for one that has its members: the least of its range, or its most. */
+interface RivalGroup extends Rival {
+  group: string;
+  isLeast: boolean;
+}
+
+/** Those that compete: who must, who can, pairs, which count one each, and groups. */
 interface Rivals {
   side: SendOrTake;
   musts: Rival[];
   cans: Rival[];
   pairs: ChosenPair[];
-  groups: string[][];
+  groups: RivalGroup[];
   must: bigint;
   can: bigint;
 }

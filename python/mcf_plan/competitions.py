@@ -9,7 +9,8 @@ class Competition:
     """Persons who must take more than they can (the side is send), or things that need more than
     they can get: these with their least numbers, those of the other side with their greatest
     numbers, and the pairs beside them, each of which counts one more. Several pairs of one name
-    count as its number."""
+    count as its number. Of groups, the leasts count with the former, and the mosts with the latter:
+    each comes as a group, the one that has its members, a number, and whether it is the least."""
 
     def __init__(self, side, must, can, pairs, groups=()):
         self.side, self.can, self.pairs, self.groups = side, list(can), [], list(groups)
@@ -22,15 +23,20 @@ class Competition:
                 self.can.append((name, len(found)))
             else:
                 self.pairs += found
-        self.needs = sum(number for _, number in self.must)
-        self.gets = sum(number for _, number in self.can) + len(self.pairs)
+        self.needs = sum(number for _, number in self.must + self.bounds(True))
+        self.gets = sum(number for _, number in self.can + self.bounds(False)) + len(self.pairs)
+
+    def bounds(self, least):
+        """The leasts of groups, or their mosts, as names and numbers."""
+        found = [one for one in self.groups if one[3] == least]
+        return [(f"{group} of {name}", number) for group, name, number, _ in found]
 
     def sentence(self):
         """The sentence that these persons compete for too few things, or that these things can get
         too few persons."""
         names, others = (listed([name for name, _ in side]) for side in (self.must, self.can))
         if self.groups:
-            return self.with_groups(names, others)
+            return self.with_groups()
         is_send, count = self.side == "send", len(self.must)
         if not self.can and not self.pairs:
             return f"{names} can get nothing." if is_send else f"Nobody may do {names}."
@@ -40,8 +46,7 @@ class Competition:
                 return f"{count} persons compete for {things}: {names} can only get {others}."
             persons = count_of(len(self.can), "person", "persons")
             return f"{count} things compete for {persons}: only {others} may do {names}."
-        parts = [f"{name} ({number})" for name, number in self.can]
-        parts += [" with ".join(pair) for pair in self.pairs]
+        parts = self.parts(self.can)
         verb = "must take" if is_send else "need" if count > 1 else "needs"
         return (
             f"{names} {verb} {self.needs}{' together' if count > 1 else ''}, and can"
@@ -49,12 +54,20 @@ class Competition:
             f" {self.needs - self.gets}."
         )
 
-    def with_groups(self, names, others):
+    def parts(self, can):
+        """Names with their numbers, and the pairs beside them."""
+        numbers = [f"{name} ({number})" for name, number in can]
+        return numbers + [" with ".join(pair) for pair in self.pairs]
+
+    def with_groups(self):
         """The sentence that these persons, things and groups allow no choice together."""
-        sides = (names, others)[:: 1 if self.side == "send" else -1]
-        kinds = [f"{word} {found}" for word, found in zip(("persons", "things"), sides) if found]
-        within = listed([f"{group} of {name}" for group, name in self.groups])
-        return f"No choice keeps to these together: {'; '.join([*kinds, f'groups {within}'])}."
+        musts = [f"{name} ({number})" for name, number in self.must + self.bounds(True)]
+        cans = self.parts(self.can + self.bounds(False))
+        by = f" by {listed(cans)}" if cans else ""
+        return (
+            f"No choice keeps to these together: at least {self.needs} for {listed(musts)}; at most"
+            f" {self.gets}{by}. Short by {self.needs - self.gets}."
+        )
 
 
 def competitions_of(roster):
@@ -68,7 +81,10 @@ def competitions_of(roster):
         {name: int(number) for _, name, number in roster.answer.rows[word]}
         for word in ("person", "thing")
     )
-    groups = [(name, owner) for _, name, _, owner in roster.answer.rows["group"]]
+    groups = [
+        (name, owner, int(number), word == "least")
+        for _, name, _, owner, number, word in roster.answer.rows["group"]
+    ]
     if groups:
         sides = persons.items(), things.items()
         must, can = sides[:: 1 if side == "send" else -1]

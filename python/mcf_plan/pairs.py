@@ -92,13 +92,16 @@ def each_hint(roster):
 
 def write_bottlenecks(results, roster):
     """Writes bottleneck.csv. For each competition, the column `must` sums to the number that its
-    persons must take (or its things need), and the column `can` to the number that is possible."""
+    persons must take (or its things need), with the leasts of groups, and the column `can` to the
+    number that is possible."""
     rows = []
     for count, found in enumerate(competitions_of(roster), 1):
         begin, kinds = Figure(count), ("person", "thing")[:: 1 if found.side == "send" else -1]
         rows += [[begin, kinds[0], name, Figure(number), ""] for name, number in found.must]
         rows += [[begin, kinds[1], name, "", Figure(number)] for name, number in found.can]
         rows += [[begin, "pair", ", ".join(pair), "", Figure(1)] for pair in found.pairs]
-        rows += [[begin, "group", ", ".join(one), "", ""] for one in found.groups]
+        for group, name, number, is_least in found.groups:
+            ends = (Figure(number), "") if is_least else ("", Figure(number))
+            rows.append([begin, "group", f"{group}, {name}", *ends])
     heads = ["bottleneck", "kind", "name", "must", "can"]
     results.table("bottleneck", roster.table, roster.sheet, heads, rows)

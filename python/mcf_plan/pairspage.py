@@ -37,14 +37,13 @@ def blocked_page(roster, options):
     """The page for a roster without such pairs."""
     findings, shorts = [], []
     for one in competitions_of(roster):
-        short, figures = one.needs - one.gets, []
-        if not one.groups:
-            shorts.append(f"short by {short}")
-            figures = [("must", one.needs), ("can", one.gets), ("short by", short)]
+        short = one.needs - one.gets
+        shorts.append(f"short by {short}")
+        figures = [("must", one.needs), ("can", one.gets), ("short by", short)]
         findings.append(finding(one.sentence(), figures, ""))
     return Page(
         options.title or "No such pairs exist",
-        f"No such pairs exist{': ' * bool(shorts)}{', '.join(shorts[:3])}",
+        f"No such pairs exist: {', '.join(shorts[:3])}",
         False,
         groups.left_out_lines(roster) + pairs.each_hint(roster) + pairs.notes_of(roster),
         [],

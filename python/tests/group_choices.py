@@ -135,13 +135,37 @@ def may_count(group, owner, pair):
     return pair[1 - place] == owner and pair[place] in group.members
 
 
+def blocks(rows, ranges, groups):
+    """Whether rows on those that compete tell why there is no choice: each row has a number of its
+    own range, and the leasts add up to more than the mosts and the number of pairs."""
+    side = next(row[1] for row in rows if row[0] == "side")
+    leasts, mosts = 0, sum(row[0] == "pair" for row in rows)
+    for word, asked in (("person", side == "send"), ("thing", side == "take")):
+        for _, _, name, number in (row for row in rows if row[0] == word):
+            if int(number) != ranges[word][name][0 if asked else 1]:
+                return False
+            leasts, mosts = leasts + asked * int(number), mosts + (not asked) * int(number)
+    for _, _, name, kind, owner, number, word in (row for row in rows if row[0] == "group"):
+        group = groups[name]
+        is_least = word == "least"
+        known = owner in group.owners() and kind == kind_of(group)
+        if not known or int(number) != (group.least if is_least else group.most):
+            return False
+        leasts, mosts = leasts + is_least * int(number), mosts + (not is_least) * int(number)
+    return leasts > mosts
+
+
 def wrong(status, rows, roster, left):
     """What is wrong with an answer, or None."""
     costs, takes, needs, groups = roster
     kept = [group for group in groups if all(group is not other for other, _ in left)]
     best = least(costs, takes, needs, kept)
     if best is None:
-        return None if status == 1 and rows[0] == ["answer", "no plan"] else "there is no choice"
+        if status != 1 or rows[0] != ["answer", "no plan"]:
+            return "there is no choice"
+        ranges = {"person": takes, "thing": needs}
+        told = blocks(rows, ranges, {group.name: group for group in kept})
+        return None if told else "the leasts are not more than the mosts"
     if status != 0 or ["cost", str(best)] not in rows:
         return f"a least choice costs {best}"
     chosen = [tuple(row[3:5]) for row in rows if row[0] == "pair"]

@@ -38,7 +38,14 @@ class Groups(WithFolder):
     def test_no_choice(self):
         status, said, _ = self.grouped("group,what,least\nearly,Mo,1\nearly,Tu,\n")
         self.assertEqual(status, 1)
-        self.assertIn("No choice keeps to these together: ", said)
+        self.assertIn(
+            "No choice keeps to these together: at least 3 for early of Ada (1), early of Ben (1),"
+            " early of Cy (1); at most 2 by Mo (1), Tu (1). Short by 1.",
+            said,
+        )
+        rows = rows_of(self.out / "bottleneck.csv")
+        sums = [sum(int(row[head] or 0) for row in rows) for head in ("must", "can")]
+        self.assertEqual(sums, [3, 2])
 
     def test_a_wrong_call(self):
         status, _, told = self.pairs(COSTS, "--crossing", "check")

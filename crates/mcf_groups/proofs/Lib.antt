@@ -12,3 +12,6 @@ pub mod CutGroups
 mod Listing
 mod Orderings
 mod Tallies
+mod CutSums
+mod MoreTold
+mod BoundLists

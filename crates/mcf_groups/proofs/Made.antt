@@ -1,16 +1,17 @@
 -- The model that is made of groups without faults.
-use Rattle.std.proofs.Common.{◌≡◌, ◌≤◌, List, [], length, ap, sym, ◌∙◌, subst, arith, ℤ, pos}
-use Rattle.std.specs.Prelude.{Option, None, replicate}
+use Rattle.std.proofs.Common.{◌≡◌, ◌≤◌, List, [], length, refl, ap, sym, ◌∙◌, subst, arith, ℤ, pos}
+use Rattle.std.specs.Prelude.{Option, Some, None, replicate}
 use Rattle.mcf_model.specs.declared.rows.RouteRow.{RouteRow}
 use Rattle.mcf_roster.specs.RosterFaults.{IsSoundRoster}
 use Rattle.mcf_roster.specs.Rosters.{Roster}
 use Rattle.mcf_groups.specs.declared.faults.GroupFault.{GroupFault}
 use Rattle.mcf_groups.specs.declared.faults.TheConstants.{PLACE_LIMIT}
 use Rattle.mcf_groups.specs.declared.groups.Group.{Group}
-use Rattle.mcf_groups.specs.GroupFaults.{group_fault}
+use Rattle.mcf_groups.specs.declared.grown.Grown.{Grown}
+use Rattle.mcf_groups.specs.GroupFaults.{fault_from, group_fault}
 use Rattle.mcf_groups.specs.GroupModels.{group_model}
-use Rattle.mcf_groups.specs.LinkRows.{IsGrown, all_links, group_rows, rows_with}
-use Rattle.mcf_groups.specs.Nests.{IsSoundNest, Nest, nest_of, start_of}
+use Rattle.mcf_groups.specs.LinkRows.{IsGrown, IsGrownBy, all_links, group_rows, rows_with}
+use Rattle.mcf_groups.specs.Nests.{IsSoundNest, Nest, nest_in, nest_of, start_of}
 use Rattle.mcf_groups.proofs.Models.{nest_few, nest_sound, places_are}
 use Rattle.mcf_groups.proofs.Stages.{start_sound}
 
@@ -49,3 +50,21 @@ module _ (R : Roster) (gs : List Group) (ends : IsSoundRoster R) (S T : Nest) (l
 
   pub supplies_grown : (supplies : List ℤ) → supplies ≡ replicate T.places (pos 0) → supplies ≡ replicate (nest_of R (start_of R) gs).places (pos 0)
   supplies_grown supplies is = is ∙ ap (λ (x : Nest). replicate x.places (pos 0)) nest_grown
+
+-- groups without faults grow
+none_grown : (R : Roster) (gs : List Group) (S T : Nest) (l m : List RouteRow) (o : Option GroupFault) → S ≡ start_of R → group_fault R gs ≡ None
+    → IsGrown R gs S l T m o → o ≡ None
+none_grown R gs S T l m None S_is fine grown = refl
+none_grown R gs S T l m (Some fault) S_is fine grown =
+    cc (sym fine ∙ sym (ap (λ s. fault_from R s 1 gs) S_is) ∙ grown)
+
+pub all_grown : (R : Roster) (gs : List Group) (ends : IsSoundRoster R) (made : Grown) (S : Nest) (l m : List RouteRow) (o : Option GroupFault)
+    → S ≡ start_of R → l ≡ [] → group_fault R gs ≡ None → IsGrown R gs S l (nest_in made.nest) m o → made.links.items ≡ m → IsGrownBy R gs made
+all_grown R gs ends made S l m o S_is l_is fine grown links_are =
+    let none = none_grown R gs S (nest_in made.nest) l m o S_is fine grown in
+    record {
+      nest = nest_grown R gs ends S (nest_in made.nest) l m o S_is l_is none grown;
+      links = links_are ∙ (grown_none R gs ends S (nest_in made.nest) l m o S_is l_is none grown).2;
+      sound = sound_grown R gs ends S (nest_in made.nest) l m o S_is l_is none grown;
+      few = few_grown R gs ends S (nest_in made.nest) l m o S_is l_is none grown;
+    }

@@ -1,6 +1,6 @@
 -- The answers for a roster with groups.
 -- Source: own
-use Rattle.std.specs.Prelude.{◌≡◌, Bool, List, length, Some, None, Result, Ok, Err}
+use Rattle.std.specs.Prelude.{◌≡◌, Bool, false, List, length, Some, None, Result, Ok, Err}
 use Rattle.mcf_flows.specs.Blocking.{in_table}
 use Rattle.mcf_flows.specs.Limits.{limits}
 use Rattle.mcf_instance.specs.Arrays.{array_fault}
@@ -12,6 +12,7 @@ use Rattle.mcf_groups.specs.declared.groups.Group.{Group}
 use Rattle.mcf_model.specs.Arcs.{network_of, reach_of}
 use Rattle.mcf_model.specs.Bottlenecks.{IsBottleneck}
 use Rattle.mcf_roster.specs.declared.answering.LeastChoice.{LeastChoice}
+use Rattle.mcf_roster.specs.Models.{hub_of}
 use Rattle.mcf_roster.specs.Rosters.{Roster, value}
 use Rattle.mcf_groups.specs.GroupFaults.{group_fault}
 use Rattle.mcf_groups.specs.GroupModels.{group_model}
@@ -22,8 +23,10 @@ pub record IsBestGroupChoice (R : Roster) (groups : List Group) (c : LeastChoice
   pub least : IsLeastGroupChoice R groups c.chosen.items
   pub value_is : c.value ≡ value R c.chosen.items
 
--- marked places of the model that must send, or take, more than they can, and so no choice
+-- marked places of the model, without the hub, that must send, or take, more than they can, and so
+-- no choice
 pub record HasNoGroupChoice (R : Roster) (groups : List Group) (c : GroupCompetition) : Type 0 where
+  pub without_hub : in_table c.places.items (hub_of R) ≡ false
   pub one_by_place : length c.places.items ≡ length (group_model R groups).supplies
   pub is_bottleneck : IsBottleneck (group_model R groups) (in_table c.places.items) c.side
   pub none : (chosen : List Bool) → ¬ IsGroupChoice R groups chosen

@@ -2,6 +2,7 @@ pub use Rattle.mcf_roster.specs.Amounts
 pub use Rattle.mcf_roster.specs.Rosters
 pub use Rattle.mcf_roster.specs.Models
 pub use Rattle.mcf_roster.specs.RosterFaults
+pub use Rattle.mcf_roster.specs.ToldSums
 pub use Rattle.mcf_roster.specs.TableRows
 pub use Rattle.mcf_model.specs.Bottlenecks
 pub use Rattle.mcf_model.specs.Complements
@@ -25,3 +26,4 @@ pub mod Crossings
 pub mod Orders
 pub mod Counts
 pub mod MarkedPlaces
+pub mod BoundSums

@@ -1,9 +1,11 @@
 -- The routes of the model of a roster with groups, as rows.
 -- Source: own
-use Rattle.std.specs.Prelude.{◌≡◌, ℕ, ◌+◌, Bool, true, false, List, [], ◌∷◌, ◌++◌, length, map, pos, Option, Some, None}
+use Rattle.std.specs.Prelude.{◌≡◌, ◌≤◌, ℕ, ◌+◌, Bool, true, false, List, [], ◌∷◌, ◌++◌, length, map, pos, Option, Some, None}
 use Rattle.std.specs.List.{range_with_len}
 use Rattle.mcf_groups.specs.declared.faults.GroupFault.{GroupFault}
+use Rattle.mcf_groups.specs.declared.faults.TheConstants.{PLACE_LIMIT}
 use Rattle.mcf_groups.specs.declared.groups.Group.{Group}
+use Rattle.mcf_groups.specs.declared.grown.Grown.{Grown}
 use Rattle.mcf_model.specs.declared.rows.RouteRow.{RouteRow}
 use Rattle.mcf_roster.specs.declared.pairs.Pair.{Pair}
 use Rattle.mcf_roster.specs.declared.pairs.Range.{Range}
@@ -12,7 +14,7 @@ use Rattle.mcf_roster.specs.Rosters.{Roster}
 use Rattle.mcf_roster.specs.TableRows.{person_row, plain_row, thing_row}
 use Rattle.mcf_groups.specs.GroupFaults.{fault_from}
 use Rattle.mcf_groups.specs.Groups.{owner_count}
-use Rattle.mcf_groups.specs.Nests.{Nest, after, entry, leaves, nest_of, old_before, start_of}
+use Rattle.mcf_groups.specs.Nests.{IsSoundNest, Nest, after, entry, leaves, nest_in, nest_of, old_before, start_of}
 
 -- the row of a pair, where pairs stand as a nest says
 abbrev pub nested_row : Nest → Pair → RouteRow
@@ -55,3 +57,10 @@ group_rows R groups = rows_with R (nest_of R (start_of R) groups) (all_links R (
 abbrev pub IsGrown : Roster → List Group → Nest → List RouteRow → Nest → List RouteRow → Option GroupFault → Type 0
 IsGrown R groups S links T more (Some fault) = fault_from R S 1 groups ≡ Some fault
 IsGrown R groups S links T more None = (fault_from R S 1 groups ≡ None) × (T ≡ nest_of R S groups) × (more ≡ links ++ all_links R S groups)
+
+-- the nest and the links after all groups, with at most as many places as there may be
+pub record IsGrownBy (R : Roster) (groups : List Group) (made : Grown) : Type 0 where
+  pub nest : nest_in made.nest ≡ nest_of R (start_of R) groups
+  pub links : made.links.items ≡ all_links R (start_of R) groups
+  pub sound : IsSoundNest R (nest_in made.nest)
+  pub few : made.nest.places ≤ PLACE_LIMIT

@@ -1,10 +1,12 @@
 //! The least choice of a roster with groups, or the reason why it has no choice.
 ghost use Rattle.std.specs.Prelude.{◌≡◌, ◌≤◌, IfOk, None, map, length};
+ghost use Rattle.mcf_flows.specs.Blocking.{in_table};
 ghost use Rattle.mcf_groups.specs.GroupAnswers.{HasNoGroupChoice, IsGroupAnswer, IsGroupResult};
 ghost use Rattle.mcf_groups.specs.GroupFaults.{group_fault};
 ghost use Rattle.mcf_groups.specs.GroupModels.{group_model};
 ghost use Rattle.mcf_model.specs.Complements.{turned_if};
 ghost use Rattle.mcf_model.specs.Planning.{HasNoPlan};
+ghost use Rattle.mcf_roster.specs.Models.{hub_of};
 ghost use Rattle.mcf_roster.specs.RosterFaults.{IsSoundRoster};
 
 use crate::faults::GroupFault;
@@ -49,7 +51,9 @@ fn turn_all(turned: bool, table: &mut [bool])
 }
 
 // Returns whether a table marks the hub.
-fn marks_hub(roster: &Roster, table: &[bool]) -> bool {
+fn marks_hub(roster: &Roster, table: &[bool]) -> bool
+    ensures { result ≡ in_table table.now (hub_of roster.now) }
+{
     match table.get(roster.takes().len() + roster.needs().len()) {
         Some(mark) => *mark,
         None => false,

@@ -1,4 +1,5 @@
 //! Laws. Each is the contract of a function with an empty body.
+ghost use Rattle.mcf_groups.specs.BoundSums.{GroupsAddToMore};
 ghost use Rattle.mcf_groups.specs.Counts.{CountsAreOfChoices};
 ghost use Rattle.mcf_groups.specs.Crossings.{CrossingsAreCut};
 ghost use Rattle.mcf_groups.specs.GroupLaws.{GroupsAreModels, LeastPlansAreLeastGroupChoices};
@@ -41,4 +42,10 @@ pub fn orders_keep_choices()
 /// The numbers that are told with groups are those that their ranges are about.
 pub fn counts_are_of_choices()
     ensures { CountsAreOfChoices }
+{}
+
+/// Where there is no choice, the leasts that are told add up to more than the mosts and the number
+/// of pairs that count one more.
+pub fn groups_add_to_more()
+    ensures { GroupsAddToMore }
 {}

@@ -12,13 +12,15 @@
 //! `GroupModels` the models, `GroupLaws` the laws between both, `GroupFaults` the faults,
 //! `Crossings` which group a group crosses, `Orders` which order puts outer groups first and which
 //! groups cross then, `GroupAnswers` the answers, `MarkedPlaces` what marked places are told by,
-//! and `Counts` how many members of a group anyone has.
+//! `BoundSums` what that adds up to, and `Counts` how many members of a group anyone has.
 
 mod answering;
+mod bounds;
 mod counting;
 mod crossings;
 mod faults;
 mod groups;
+mod grown;
 mod laws;
 mod linking;
 mod making;
@@ -28,14 +30,15 @@ mod ordering;
 mod telling;
 
 pub use answering::{GroupAnswer, GroupCompetition, least};
+pub use bounds::GroupBound;
 pub use counting::{GroupCount, broken_of, counts_of};
 pub use crossings::crossed_by;
 pub use faults::{GroupFault, GroupFaultKind, PLACE_LIMIT};
 pub use groups::{Group, Members};
 pub use laws::{
-    counts_are_of_choices, crossings_are_cut, groups_are_models,
+    counts_are_of_choices, crossings_are_cut, groups_add_to_more, groups_are_models,
     least_plans_are_least_group_choices, orders_have_all, orders_keep_choices, splits_keep_plans,
 };
 pub use making::group_model;
 pub use ordering::{Arrangement, Crossing, arranged, order_of};
-pub use telling::{GroupPlace, competition_of, marked_places};
+pub use telling::{ToldGroups, competition_of};

@@ -17,7 +17,7 @@ use mcf_text::{NoMemory, copies};
 use std::alloc::Global;
 
 // Returns the route of a pair, where pairs stand as a nest says.
-fn nested_row(roster: &Roster, nest: &NestTables, pair: Pair) -> RouteRow
+pub(crate) fn nested_row(roster: &Roster, nest: &NestTables, pair: Pair) -> RouteRow
     requires sound { IsSoundNest roster.now (nest_in nest.now) }
     requires few { nest.now.places ≤ PLACE_LIMIT }
     requires ends { HasBothEnds (length roster.now.takes) (length roster.now.needs) pair }

@@ -1,38 +1,32 @@
-//! Marked places of a model with groups, told of groups and of routes.
-ghost use Rattle.std.specs.Prelude.{◌≡◌, ◌++◌, IfOk, None, OnOk, drop, map, take};
-ghost use Rattle.mcf_flows.specs.Blocking.{in_table};
+//! Marked places of a model with groups, told of persons, things, pairs and groups.
+ghost use Rattle.std.specs.Prelude.{◌≡◌, ◌≤◌, IfOk, None, drop, length, map, take};
+ghost use Rattle.std.specs.List.{All};
 ghost use Rattle.mcf_groups.specs.GroupFaults.{group_fault};
+ghost use Rattle.mcf_groups.specs.MarkedPlaces.{IsToldOf, counts_pair};
+ghost use Rattle.mcf_groups.specs.Nests.{IsSoundNest, nest_in};
 ghost use Rattle.mcf_roster.specs.Amounts.{asks_persons, bound};
-ghost use Rattle.mcf_groups.specs.MarkedPlaces.{IsToldOf, counted_routes, counts_ends, counts_one, marked_from, marked_in, marked_place, marked_places};
-ghost use Rattle.mcf_roster.specs.RosterFaults.{IsSoundRoster};
+ghost use Rattle.mcf_roster.specs.RosterFaults.{HasBothEnds, IsSoundRoster};
 
 use crate::answering::GroupCompetition;
+use crate::bounds::{Cut, GroupBound, bounds_of, counts_ends};
+use crate::faults::PLACE_LIMIT;
 use crate::groups::Group;
-use crate::making::group_model;
-use crate::nests::owner_count;
+use crate::grown::grown_by;
+use crate::making::nested_row;
+use crate::nests::NestTables;
 use mcf_flows::Side;
-use mcf_model::PlanModel;
-use mcf_roster::{Amounts, Competition, Range, Roster};
+use mcf_roster::{Amounts, Competition, Pair, Range, Roster};
 use mcf_text::NoMemory;
 use std::alloc::Global;
 
-/// The place of a group for one of those for which its members are counted.
-#[derive(Clone, Copy, Debug, PartialEq, Eq)]
-pub struct GroupPlace {
-    /// The number of the group, from 1.
-    pub group: usize,
-    /// The number of the person, for a group of things, or of the thing, from 1.
-    pub owner: usize,
-}
-
-// Returns whether a table marks the place with a number.
-fn is_marked(marks: &[bool], number: usize) -> bool
-    ensures { result ≡ in_table marks.now number }
-{
-    match marks.get(number.saturating_sub(1)) {
-        Some(mark) => *mark,
-        None => false,
-    }
+/// Persons, things, pairs and groups that allow no choice together. The leasts of those who must
+/// have more, with the leasts of groups, add up to more than the mosts of the others, with the mosts
+/// of groups and the number of pairs that count one more.
+#[derive(Drop)]
+pub struct ToldGroups {
+    pub found: Competition,
+    /// What counts of groups: for each person, or each thing, the most or the least of a range.
+    pub bounds: Vec<GroupBound>,
 }
 
 // Returns the marks after so many.
@@ -46,125 +40,6 @@ fn marks_after(marks: &[bool], count: usize) -> &[bool]
     }
 }
 
-// Appends the place of one for which members of a group are counted, if it is marked.
-fn push_place(
-    marks: &[bool],
-    number: usize,
-    owner: usize,
-    found: &mut Vec<GroupPlace>,
-) -> Result<(), NoMemory>
-    ensures { OnOk result (found.new.items ≡ found.old.items ++ marked_place marks.now number owner) }
-{
-    if is_marked(marks, owner) {
-        found.push(GroupPlace {
-            group: number,
-            owner,
-        })?;
-    }
-    Ok(())
-}
-
-// Appends the marked places of a group, which has so many.
-fn push_marked(
-    marks: &[bool],
-    number: usize,
-    count: usize,
-    found: &mut Vec<GroupPlace>,
-) -> Result<(), NoMemory>
-    ensures { OnOk result (found.new.items ≡ found.old.items ++ marked_in marks.now number count) }
-{
-    for place in 0..count {
-        push_place(marks, number, place + 1, found)?;
-    }
-    Ok(())
-}
-
-// Appends the marked places of groups, whose marks come in turn.
-fn push_all_marked(
-    roster: &Roster,
-    groups: &[Group],
-    marks: &[bool],
-    found: &mut Vec<GroupPlace>,
-) -> Result<(), NoMemory>
-    ensures { OnOk result (found.new.items ≡ found.old.items ++ marked_from roster.now marks.now 1 groups.now) }
-{
-    let mut rest = marks;
-    for place in 0..groups.len() {
-        let count = owner_count(roster, groups[place].of) as usize;
-        push_marked(rest, place + 1, count, found)?;
-        rest = marks_after(rest, count);
-    }
-    Ok(())
-}
-
-/// Returns the places of groups that are marked, where these are the marks of all places of the
-/// model.
-///
-/// # Errors
-/// `NoMemory` if an allocation is refused.
-pub fn marked_places(
-    alloc: Global,
-    roster: &Roster,
-    groups: &[Group],
-    marks: &[bool],
-) -> Result<Vec<GroupPlace>, NoMemory>
-    ensures { IfOk result (λ made. made.items ≡ marked_places roster.now groups.now marks.now) }
-{
-    let hub = roster.takes().len() + roster.needs().len() + 1;
-    let mut found = Vec::new(alloc);
-    push_all_marked(roster, groups, marks_after(marks, hub), &mut found)?;
-    Ok(found)
-}
-
-// Returns whether a route with these ends leads out of the marked places, where those must send, or
-// to them, where they must take.
-fn counts_ends(marks: &[bool], side: Side, tail: u32, head: u32) -> bool
-    ensures { result ≡ counts_ends marks.now side tail head }
-{
-    let from = is_marked(marks, tail as usize);
-    let to = is_marked(marks, head as usize);
-    match side {
-        Side::Send => from && !to,
-        Side::Take => to && !from,
-    }
-}
-
-// Returns which routes of a model do.
-fn counted_in(
-    alloc: Global,
-    model: &PlanModel,
-    marks: &[bool],
-    side: Side,
-) -> Result<Vec<bool>, NoMemory>
-    ensures { IfOk result (λ made. made.items ≡ map (counts_one marks.now side) model.now.routes) }
-{
-    let mut made = Vec::new(alloc);
-    for place in 0..model.route_count() {
-        let row = model.route(place).row;
-        made.push(counts_ends(marks, side, row.tail, row.head))?;
-    }
-    Ok(made)
-}
-
-// Returns for each route of the model, of which those of the pairs come first, whether it leads
-// from marked places to others, where those must send, or from others to them, where they must
-// take: such a pair counts one more.
-fn counted_routes(
-    alloc: Global,
-    roster: &Roster,
-    groups: &[Group],
-    marks: &[bool],
-    side: Side,
-) -> Result<Vec<bool>, NoMemory>
-    requires fine { group_fault roster.now groups.now ≡ None }
-    ensures { IfOk result (λ made. made.items ≡ counted_routes roster.now groups.now marks.now side) }
-{
-    match group_model(alloc, roster, groups)? {
-        Ok(model) => counted_in(alloc, &model, marks, side),
-        Err(_) => Ok(Vec::new(alloc)),
-    }
-}
-
 // Returns a copy of the first so many marks.
 fn first_marks(alloc: Global, marks: &[bool], count: usize) -> Result<Vec<bool>, NoMemory>
     ensures { IfOk result (λ made. made.items ≡ take count marks.now) }
@@ -172,6 +47,38 @@ fn first_marks(alloc: Global, marks: &[bool], count: usize) -> Result<Vec<bool>,
     let mut made = Vec::new(alloc);
     let inside = count.min(marks.len());
     made.extend_from_slice(&marks[..inside])?;
+    Ok(made)
+}
+
+// Returns whether the route of a pair counts one more.
+fn counts_pair(cut: Cut<'_>, roster: &Roster, nest: &NestTables, pair: Pair) -> bool
+    requires sound { IsSoundNest roster.now (nest_in nest.now) }
+    requires few { nest.now.places ≤ PLACE_LIMIT }
+    requires ends { HasBothEnds (length roster.now.takes) (length roster.now.needs) pair }
+    ensures { result ≡ counts_pair cut.entry.marks.now cut.entry.side (nest_in nest.now) pair }
+{
+    let row = nested_row(roster, nest, pair);
+    counts_ends(cut, row.tail, row.head)
+}
+
+// Returns for each pair whether its route counts one more.
+fn counted_pairs(
+    alloc: Global,
+    cut: Cut<'_>,
+    roster: &Roster,
+    nest: &NestTables,
+    pairs: &[Pair],
+) -> Result<Vec<bool>, NoMemory>
+    requires sound { IsSoundNest roster.now (nest_in nest.now) }
+    requires few { nest.now.places ≤ PLACE_LIMIT }
+    requires ends { All (HasBothEnds (length roster.now.takes) (length roster.now.needs)) pairs.now }
+    ensures { IfOk result (λ made. made.items
+        ≡ map (counts_pair cut.entry.marks.now cut.entry.side (nest_in nest.now)) pairs.now) }
+{
+    let mut made = Vec::new(alloc);
+    for place in 0..pairs.len() {
+        made.push(counts_pair(cut, roster, nest, pairs[place]))?;
+    }
     Ok(made)
 }
 
@@ -203,10 +110,11 @@ fn bounds(alloc: Global, least: bool, ranges: &[Range]) -> Result<Vec<u32>, NoMe
     Ok(made)
 }
 
-/// Returns the persons and the things among places that compete, with the numbers by which they do:
-/// the least that a person takes, and the most that a thing gives, if those must have more; and
-/// otherwise the other way round. A pair counts one more if its route leads from these places to
-/// others, or to them.
+/// Returns what places that compete are told by: the persons and the things among them, with the
+/// numbers by which they do: the least that a person takes, and the most that a thing gives, if
+/// those must have more; and otherwise the other way round. A pair counts one more if its route
+/// leads from these places to others, or to them. The link of a group for one counts its most if it
+/// leads that way, and its least if it leads back.
 ///
 /// # Errors
 /// `NoMemory` if an allocation is refused.
@@ -215,26 +123,34 @@ pub fn competition_of(
     roster: &Roster,
     groups: &[Group],
     found: &GroupCompetition,
-) -> Result<Competition, NoMemory>
+) -> Result<ToldGroups, NoMemory>
     requires fine { group_fault roster.now groups.now ≡ None }
     ensures { IfOk result (IsToldOf roster.now groups.now found.now) }
 {
-    let marks = &found.places;
-    let persons = first_marks(alloc, marks, roster.takes().len())?;
-    let others = marks_after(marks, roster.takes().len());
+    let cut = Cut {
+        marks: &found.places,
+        side: found.side,
+    };
+    let grown = grown_by(alloc, roster, groups)?;
+    let pairs = counted_pairs(alloc, cut, roster, &grown.nest, roster.pairs())?;
+    let bounds_told = bounds_of(alloc, cut, roster, groups, &grown.links)?;
+    let persons = first_marks(alloc, cut.marks, roster.takes().len())?;
+    let others = marks_after(cut.marks, roster.takes().len());
     let things = first_marks(alloc, others, roster.needs().len())?;
-    let asked = asks_persons(found.side);
+    let asked = asks_persons(cut.side);
     let leasts = bounds(alloc, asked, roster.takes())?;
     let mosts = bounds(alloc, !asked, roster.needs())?;
-    let pairs = counted_routes(alloc, roster, groups, marks, found.side)?;
-    Ok(Competition {
-        persons,
-        things,
-        side: found.side,
-        amounts: Amounts {
-            persons: leasts,
-            things: mosts,
-            pairs,
+    Ok(ToldGroups {
+        found: Competition {
+            persons,
+            things,
+            side: cut.side,
+            amounts: Amounts {
+                persons: leasts,
+                things: mosts,
+                pairs,
+            },
         },
+        bounds: bounds_told,
     })
 }

@@ -8,12 +8,13 @@ use Rattle.mcf_group_reading.specs.GroupRows.{Rosters}
 use Rattle.mcf_groups.specs.Counts.{broken_of, counts_of}
 use Rattle.mcf_groups.specs.GroupAnswers.{HasNoGroupChoice, IsBestGroupChoice, IsGroupAnswer}
 use Rattle.mcf_groups.specs.GroupFaults.{group_fault}
-use Rattle.mcf_groups.specs.MarkedPlaces.{IsToldOf, marked_places}
+use Rattle.mcf_groups.specs.MarkedPlaces.{IsToldOf}
 use Rattle.mcf_groups.specs.declared.answering.GroupAnswer.TheVariants.{Beyond as BeyondLimits}
 use Rattle.mcf_groups.specs.declared.answering.GroupCompetition.{GroupCompetition}
+use Rattle.mcf_groups.specs.declared.bounds.GroupBound.{GroupBound}
 use Rattle.mcf_groups.specs.declared.faults.GroupFault.{GroupFault}
 use Rattle.mcf_groups.specs.declared.ordering.Crossing.{Crossing}
-use Rattle.mcf_groups.specs.declared.telling.GroupPlace.{GroupPlace}
+use Rattle.mcf_groups.specs.declared.telling.ToldGroups.{ToldGroups}
 use Rattle.mcf_roster.specs.Origins.{origin_of}
 use Rattle.mcf_roster.specs.RosterFaults.{IsSoundRoster}
 use Rattle.mcf_roster.specs.Rosters.{Roster}
@@ -45,13 +46,13 @@ use Rattle.mcf_pair_tables.specs.declared.grouped.SolvedGroups.TheVariants.{Beyo
 abbrev pub number_at : List ℕ → ℕ → ℕ
 number_at numbers place = slice_index_or numbers (place - 1) 0
 
--- the place of a group by the number of the group in the table, where these groups are kept
-abbrev pub named_place : List ℕ → GroupPlace → GroupPlace
-named_place kept at = record { group = number_at kept at.group; owner = at.owner }
+-- what counts of a group, by the number of the group in the table, where these groups are kept
+abbrev pub named_bound : List ℕ → GroupBound → GroupBound
+named_bound kept b = record { group = number_at kept b.group; owner = b.owner; is_least = b.is_least; amount = b.amount }
 
--- all of them
-abbrev pub named_places : List ℕ → List GroupPlace → List GroupPlace
-named_places kept places = map (named_place kept) places
+-- all of that
+abbrev pub named_bounds : List ℕ → List GroupBound → List GroupBound
+named_bounds kept bounds = map (named_bound kept) bounds
 
 -- the fault of a group by its number in the table
 abbrev pub named_fault : List ℕ → GroupFault → GroupFault
@@ -69,8 +70,10 @@ pub record IsCountedChoice (R : Roster) (s : GroupSets) (c : ChosenGroups) : Typ
 pub record IsCompeting (R : Roster) (s : GroupSets) (c : CompetingGroups) : Type 0 where
   pub marked : GroupCompetition
   pub none : HasNoGroupChoice R s.groups.items marked
-  pub told : IsToldOf R s.groups.items marked c.found
-  pub places_are : c.places.items ≡ named_places s.kept.items (marked_places R s.groups.items marked.places.items)
+  pub told : ToldGroups
+  pub is_told : IsToldOf R s.groups.items marked told
+  pub found_is : c.found ≡ told.found
+  pub bounds_are : c.bounds.items ≡ named_bounds s.kept.items told.bounds.items
 
 -- a least choice; or places that compete; or the first number beyond the limits, and where it comes
 -- from

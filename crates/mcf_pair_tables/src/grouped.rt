@@ -3,7 +3,7 @@ ghost use Rattle.std.specs.Prelude.{◌≡◌, IfOk, None, map};
 ghost use Rattle.mcf_groups.specs.GroupAnswers.{HasNoGroupChoice, IsBestGroupChoice, IsGroupAnswer};
 ghost use Rattle.mcf_groups.specs.GroupFaults.{group_fault};
 ghost use Rattle.mcf_roster.specs.Origins.{origin_of};
-ghost use Rattle.mcf_pair_tables.specs.GroupedAnswers.{IsCountedChoice, IsCompeting, IsGroupTableAnswer, IsGroupedChoice, IsGroupsAnswer, IsGroupedRoster, IsSetsAnswer, IsSolvedGroups, named_fault, named_places, number_at, refuses};
+ghost use Rattle.mcf_pair_tables.specs.GroupedAnswers.{IsCountedChoice, IsCompeting, IsGroupTableAnswer, IsGroupedChoice, IsGroupsAnswer, IsGroupedRoster, IsSetsAnswer, IsSolvedGroups, named_bound, named_bounds, named_fault, number_at, refuses};
 
 use crate::costs::{great_cells, scale_of};
 use crate::group_options::AtCrossing;
@@ -12,8 +12,8 @@ use crate::options::Options;
 use crate::rosters::roster_of;
 use mcf_group_reading::{Faults as GroupFaults, GroupTable, Known, read as read_groups};
 use mcf_groups::{
-    Crossing, GroupAnswer, GroupCompetition, GroupCount, GroupFault, GroupPlace, broken_of,
-    competition_of, counts_of, least, marked_places,
+    Crossing, GroupAnswer, GroupBound, GroupCompetition, GroupCount, GroupFault, broken_of,
+    competition_of, counts_of, least,
 };
 use mcf_instance::ArrayFault;
 use mcf_model::Solves;
@@ -33,12 +33,12 @@ pub struct ChosenGroups {
     pub broken: Vec<GroupCount>,
 }
 
-/// Persons, things and places of groups that compete.
+/// Persons, things and groups that allow no choice together.
 #[derive(Drop)]
 pub struct CompetingGroups {
     pub found: Competition,
-    /// The places of groups among those that compete; groups have their numbers in the table.
-    pub places: Vec<GroupPlace>,
+    /// What counts of groups; these have their numbers in the table.
+    pub bounds: Vec<GroupBound>,
 }
 
 /// A number beyond the limits, and what it comes from.
@@ -109,20 +109,29 @@ fn number_at(numbers: &[usize], place: usize) -> usize
     }
 }
 
-// The places of groups, which have these numbers in the table.
-fn named_places(
+// What counts of a group, which has this number in the table.
+fn named_bound(kept: &[usize], bound: GroupBound) -> GroupBound
+    ensures { result ≡ named_bound kept.now bound }
+{
+    GroupBound {
+        group: number_at(kept, bound.group),
+        owner: bound.owner,
+        is_least: bound.is_least,
+        amount: bound.amount,
+    }
+}
+
+// What counts of groups, which have these numbers in the table.
+fn named_bounds(
     alloc: Global,
     kept: &[usize],
-    places: &[GroupPlace],
-) -> Result<Vec<GroupPlace>, NoMemory>
-    ensures { IfOk result (λ made. made.items ≡ named_places kept.now places.now) }
+    bounds: &[GroupBound],
+) -> Result<Vec<GroupBound>, NoMemory>
+    ensures { IfOk result (λ made. made.items ≡ named_bounds kept.now bounds.now) }
 {
     let mut made = Vec::new(alloc);
-    for at in 0..places.len() {
-        made.push(GroupPlace {
-            group: number_at(kept, places[at].group),
-            owner: places[at].owner,
-        })?;
+    for at in 0..bounds.len() {
+        made.push(named_bound(kept, bounds[at]))?;
     }
     Ok(made)
 }
@@ -149,11 +158,10 @@ fn competing(
     ensures { IfOk result (IsCompeting roster.now sets.now) }
 {
     let told = competition_of(alloc, roster, &sets.groups, found)?;
-    let marked = marked_places(alloc, roster, &sets.groups, &found.places)?;
-    let places = named_places(alloc, &sets.kept, &marked)?;
+    let bounds = named_bounds(alloc, &sets.kept, &told.bounds)?;
     Ok(CompetingGroups {
-        found: told,
-        places,
+        found: told.found,
+        bounds,
     })
 }
 

@@ -4,9 +4,9 @@ use Rattle.std.specs.Prelude.{ℕ, ◌-◌, Bool, true, false, if◌then◌else�
 use Rattle.mcf_answer_rows.specs.AnswerRows.{line_at}
 use Rattle.mcf_group_reading.specs.GroupReading.{Entries as Groups}
 use Rattle.mcf_group_reading.specs.declared.tables.GroupEntry.{GroupEntry}
+use Rattle.mcf_groups.specs.declared.bounds.GroupBound.{GroupBound}
 use Rattle.mcf_groups.specs.declared.counting.GroupCount.{GroupCount}
 use Rattle.mcf_groups.specs.declared.ordering.Crossing.{Crossing}
-use Rattle.mcf_groups.specs.declared.telling.GroupPlace.{GroupPlace}
 use Rattle.mcf_roster_reading.specs.Reading.{Entries}
 use Rattle.mcf_table.specs.Texts.{Record}
 use Rattle.mcf_pair_text.specs.PairPlaces.{Sheet, numbered, sheet_in}
@@ -66,11 +66,17 @@ count_row b word at =
     word ∷ group_line b at.group ∷ group_name b at.group ∷ kind_word (of_things b at.group)
     ∷ owner_name b (of_things b at.group) at.owner ∷ decimal at.count ∷ []
 
--- the place of a group among those that compete: the same without a number
-abbrev pub place_row : Book → GroupPlace → List (List ℕ)
-place_row b at =
+-- the word for which number of a range it is
+abbrev pub end_word : Bool → List ℕ
+end_word true = codes "least"
+end_word false = codes "most"
+
+-- what counts of a group where there is no choice: the same, with a number of its range in place of
+-- how many one has, and which number that is
+abbrev pub bound_row : Book → GroupBound → List (List ℕ)
+bound_row b at =
     codes "group" ∷ group_line b at.group ∷ group_name b at.group ∷ kind_word (of_things b at.group)
-    ∷ owner_name b (of_things b at.group) at.owner ∷ []
+    ∷ owner_name b (of_things b at.group) at.owner ∷ decimal at.amount ∷ end_word at.is_least ∷ []
 
 -- a group that crosses another: `crossing`, its line, its name, and the name of the other
 abbrev pub crossing_row : Book → Crossing → List (List ℕ)

@@ -32,7 +32,7 @@ use Rattle.mcf_roster_reading.specs.declared.kinds.Fault.{Fault}
 use Rattle.mcf_table.specs.Texts.{Record}
 use Rattle.mcf_table.specs.Written.{table_text}
 use Rattle.mcf_pair_text.specs.GroupFaultRows as faulty
-use Rattle.mcf_pair_text.specs.GroupRows.{Book, count_row, crossing_row, place_row}
+use Rattle.mcf_pair_text.specs.GroupRows.{Book, bound_row, count_row, crossing_row}
 use Rattle.mcf_pair_text.specs.PairFaultRows.{beyond_row, cell_fault_row, costs_word, great_row, improper_row}
 use Rattle.mcf_pair_text.specs.PairPlaces.{Sheet, sheet_of}
 use Rattle.mcf_pair_text.specs.PairRows.{choice_rows, competition_rows}
@@ -55,13 +55,13 @@ group_choice_rows maximise b scale crossings c = choice_rows maximise b.sheet b.
 
 -- ---- those that compete
 
--- the places of groups among those that compete, and the groups that are left out
-abbrev pub competing_places : Book → List Crossing → CompetingGroups → List (List (List ℕ))
-competing_places b crossings c = map (place_row b) c.places.items ++ map (crossing_row b) crossings
+-- what counts of groups, and the groups that are left out
+abbrev pub competing_bounds : Book → List Crossing → CompetingGroups → List (List (List ℕ))
+competing_bounds b crossings c = map (bound_row b) c.bounds.items ++ map (crossing_row b) crossings
 
--- persons and things that compete, and the places of groups among them
+-- persons and things that compete, and what counts of groups
 abbrev pub competing_groups : Book → List Crossing → CompetingGroups → List (List (List ℕ))
-competing_groups b crossings c = competition_rows b.sheet b.said c.found ++ competing_places b crossings c
+competing_groups b crossings c = competition_rows b.sheet b.said c.found ++ competing_bounds b crossings c
 
 -- ---- the answer for a roster
 

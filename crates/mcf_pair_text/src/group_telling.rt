@@ -6,7 +6,7 @@ ghost use Rattle.mcf_pair_tables.specs.GroupedAnswers.{known_in};
 ghost use Rattle.mcf_roster_reading.specs.Reading.{read_roster};
 ghost use Rattle.mcf_pair_text.specs.GroupRows.{book_in};
 ghost use Rattle.mcf_pair_text.specs.GroupFaultRows.{group_row};
-ghost use Rattle.mcf_pair_text.specs.GroupTexts.{IsGroupText, answer_kind, answer_rows, book_rows, both_broken, both_tables, chosen_groups, closing_rows, competing_groups, competing_places, crossings_told, group_choice_rows, grouped_kind, grouped_rows, read_both, read_costs, refused_rows, sets_kind, sets_rows, solved_kind, solved_rows, table_kind, table_rows};
+ghost use Rattle.mcf_pair_text.specs.GroupTexts.{IsGroupText, answer_kind, answer_rows, book_rows, both_broken, both_tables, chosen_groups, closing_rows, competing_bounds, competing_groups, crossings_told, group_choice_rows, grouped_kind, grouped_rows, read_both, read_costs, refused_rows, sets_kind, sets_rows, solved_kind, solved_rows, table_kind, table_rows};
 ghost use Rattle.mcf_pair_text.specs.PairFaultRows.{cell_fault_row};
 ghost use Rattle.mcf_pair_text.specs.PairPlaces.{sheet_in};
 ghost use Rattle.mcf_pair_text.specs.PairTexts.{faults_row};
@@ -15,7 +15,7 @@ use crate::fault_rows::{put_beyond, put_cell_faults, put_greats, put_improper};
 use crate::group_faults::{
     groups_word, put_broken, put_crossing_faults, put_group_faults, put_improper_group,
 };
-use crate::groups::{Tables, put_counts, put_crossings, put_places};
+use crate::groups::{Tables, put_bounds, put_counts, put_crossings};
 use crate::pages::{Page, page_of};
 use crate::rows::{Unit, put_choice, put_competition};
 use crate::words::costs_word;
@@ -78,21 +78,21 @@ fn put_group_choice(
     put_group_counts(alloc, out, tables, crossings, found)
 }
 
-// Appends the places of groups among those that compete, and the groups that cross.
-fn put_group_places(
+// Appends what counts of groups, and the groups that cross.
+fn put_group_bounds(
     alloc: Global,
     out: &mut Vec<u8>,
     tables: Tables<'_>,
     crossings: &[Crossing],
     found: &CompetingGroups,
 ) -> Result<(), NoMemory>
-    ensures { OnOk result (out.new.items ≡ out.old.items ++ rows_text (competing_places (book_in tables.entry) crossings.now found.now)) }
+    ensures { OnOk result (out.new.items ≡ out.old.items ++ rows_text (competing_bounds (book_in tables.entry) crossings.now found.now)) }
 {
-    put_places(alloc, out, tables, &found.places)?;
+    put_bounds(alloc, out, tables, &found.bounds)?;
     put_crossings(alloc, out, tables, crossings)
 }
 
-// Appends persons, things and places of groups that compete.
+// Appends persons and things that compete, and what counts of groups.
 fn put_competing_groups(
     alloc: Global,
     out: &mut Vec<u8>,
@@ -103,7 +103,7 @@ fn put_competing_groups(
     ensures { OnOk result (out.new.items ≡ out.old.items ++ rows_text (competing_groups (book_in tables.entry) crossings.now found.now)) }
 {
     put_competition(alloc, out, tables.page, tables.said, &found.found)?;
-    put_group_places(alloc, out, tables, crossings, found)
+    put_group_bounds(alloc, out, tables, crossings, found)
 }
 
 // Appends the answer for a roster with groups.
@@ -470,8 +470,8 @@ fn text_of(alloc: Global, options: Options, answer: &GroupsAnswer) -> Result<Pla
 /// many members it has; and if groups that cross others were left out, `crossing` for each, its
 /// line, its name and the name of the group that it crosses, and `broken`, as `group`, for each
 /// person or thing that has fewer or more members of it than its range says. Of persons and things
-/// that compete, `group` for each person or thing that competes with its members of a group, and
-/// `crossing`. Faults of the table of groups have `groups` for `costs`; those of groups that cross
+/// that compete, `group` for each person or thing for which a number of a group's range counts, the
+/// same with that number, and `least` or `most`, which number it is; and `crossing`. Faults of the table of groups have `groups` for `costs`; those of groups that cross
 /// others have rows `crossing` after them. At the end both tables stand.
 ///
 /// # Errors

@@ -1,12 +1,12 @@
 //! Groups as rows of a table: how many of their members anyone has, and which groups cross.
 ghost use Rattle.std.specs.Prelude.{◌≡◌, ◌∷◌, [], ◌++◌, IfOk, OnOk, codes, map, option_map};
 ghost use Rattle.mcf_answer_rows.specs.Lines.{row_line, rows_text};
-ghost use Rattle.mcf_pair_text.specs.GroupRows.{Book, book_in, count_row, crossing_row, entry_at, group_line, group_name, kind_word, of_things, owner_name, place_row, row_of_entry, things_of_entry};
+ghost use Rattle.mcf_pair_text.specs.GroupRows.{Book, book_in, bound_row, count_row, crossing_row, end_word, entry_at, group_line, group_name, kind_word, of_things, owner_name, row_of_entry, things_of_entry};
 
 use crate::pages::{Page, numbered};
 use mcf_answer_rows::{line_cell, number_cell, put_line};
 use mcf_group_reading::{GroupEntry, GroupTable};
-use mcf_groups::{Crossing, GroupCount, GroupPlace};
+use mcf_groups::{Crossing, GroupBound, GroupCount};
 use mcf_roster_reading::RosterTable;
 use mcf_table::Records;
 use mcf_text::NoMemory;
@@ -117,17 +117,43 @@ fn put_count_row(
     put_line(out, &[word, line, name, owner.kind, owner.name, count])
 }
 
-// The same without a number.
-fn put_place_row(
+// A number of a group's range, and the word for which it is.
+#[derive(Clone, Copy)]
+struct End<'e> {
+    number: &'e [u8],
+    word: &'e [u8],
+}
+
+// Appends a row of a group and of one for which its members are counted, with what counts.
+fn put_bound_row(
     out: &mut Vec<u8>,
     line: &[u8],
     name: &[u8],
     owner: Owner<'_>,
+    end: End<'_>,
 ) -> Result<(), NoMemory>
     ensures { OnOk result (out.new.items ≡ out.old.items
-        ++ row_line (codes "group" ∷ line.now ∷ name.now ∷ owner.entry.kind.now ∷ owner.entry.name.now ∷ [])) }
+        ++ row_line (codes "group" ∷ line.now ∷ name.now ∷ owner.entry.kind.now ∷ owner.entry.name.now ∷ end.entry.number.now ∷ end.entry.word.now ∷ [])) }
 {
-    put_line(out, &[b"group", line, name, owner.kind, owner.name])
+    put_line(
+        out,
+        &[
+            b"group",
+            line,
+            name,
+            owner.kind,
+            owner.name,
+            end.number,
+            end.word,
+        ],
+    )
+}
+
+// The word for which number of a range it is.
+fn end_word(is_least: bool) -> &'static [u8]
+    ensures { result.now ≡ end_word is_least }
+{
+    if is_least { b"least" } else { b"most" }
 }
 
 // Appends how many members of a group one has.
@@ -173,35 +199,40 @@ pub(crate) fn put_counts(
     Ok(())
 }
 
-// Appends the place of a group among those that compete.
-fn put_place(
+// Appends what counts of a group.
+fn put_bound(
     alloc: Global,
     out: &mut Vec<u8>,
     tables: Tables<'_>,
-    at: GroupPlace,
+    bound: GroupBound,
 ) -> Result<(), NoMemory>
-    ensures { OnOk result (out.new.items ≡ out.old.items ++ row_line (place_row (book_in tables.entry) at)) }
+    ensures { OnOk result (out.new.items ≡ out.old.items ++ row_line (bound_row (book_in tables.entry) bound)) }
 {
-    let line = group_line(alloc, tables, at.group)?;
-    let things = of_things(tables, at.group);
+    let line = group_line(alloc, tables, bound.group)?;
+    let number = number_cell(alloc, bound.amount as usize)?;
+    let things = of_things(tables, bound.group);
     let owner = Owner {
         kind: kind_word(things),
-        name: owner_name(tables, things, at.owner),
+        name: owner_name(tables, things, bound.owner),
     };
-    put_place_row(out, &line, group_name(tables, at.group), owner)
+    let end = End {
+        number: &number,
+        word: end_word(bound.is_least),
+    };
+    put_bound_row(out, &line, group_name(tables, bound.group), owner, end)
 }
 
-// Appends the places of groups among those that compete.
-pub(crate) fn put_places(
+// Appends what counts of groups.
+pub(crate) fn put_bounds(
     alloc: Global,
     out: &mut Vec<u8>,
     tables: Tables<'_>,
-    places: &[GroupPlace],
+    bounds: &[GroupBound],
 ) -> Result<(), NoMemory>
-    ensures { OnOk result (out.new.items ≡ out.old.items ++ rows_text (map (place_row (book_in tables.entry)) places.now)) }
+    ensures { OnOk result (out.new.items ≡ out.old.items ++ rows_text (map (bound_row (book_in tables.entry)) bounds.now)) }
 {
-    for place in 0..places.len() {
-        put_place(alloc, out, tables, places[place])?;
+    for place in 0..bounds.len() {
+        put_bound(alloc, out, tables, bounds[place])?;
     }
     Ok(())
 }

@@ -1,8 +1,8 @@
 //! The order of groups, those that cross, and what is told of choices and of those that compete.
 use mcf_flows::Side;
 use mcf_groups::{
-    Crossing, Group, GroupCompetition, GroupCount, GroupPlace, Members, arranged, broken_of,
-    competition_of, counts_of, group_model, marked_places, order_of,
+    Crossing, Group, GroupBound, GroupCompetition, GroupCount, Members, arranged, broken_of,
+    competition_of, counts_of, group_model, order_of,
 };
 use mcf_roster::{Pair, Range, Roster};
 use mcf_text::{NoMemory, copies};
@@ -90,6 +90,41 @@ fn members_are_counted(rt: HostRuntime) -> Result<(), Fail> {
     Ok(())
 }
 
+// Returns a bound of the first group.
+fn bound(owner: usize, is_least: bool, amount: u32) -> GroupBound {
+    GroupBound {
+        group: 1,
+        owner,
+        is_least,
+        amount,
+    }
+}
+
+// The model has two persons, four things, the hub, and a place for each person, which lies after
+// it. The first person is marked and its place isn't; it is the other way round with the second.
+#[test]
+fn numbers_of_groups_are_told(rt: HostRuntime) -> Result<(), Fail> {
+    let alloc = rt.alloc();
+    let groups = vec![in alloc; group(alloc, &[1, 2, 4], 1, 2)?]?;
+    let Some(roster) = roster(alloc)? else {
+        assert!(rt; false);
+        return Ok(());
+    };
+    let Ok(_model) = group_model(alloc, &roster, &groups)? else {
+        assert!(rt; false);
+        return Ok(());
+    };
+    let marks = [true, false, false, false, false, false, false, false, true];
+    let found = GroupCompetition {
+        places: marks.iter().copied().collect(alloc)?,
+        side: Side::Send,
+    };
+    let told = competition_of(alloc, &roster, &groups, &found)?;
+    assert!(rt; told.bounds.as_slice() == [bound(1, false, 2), bound(2, true, 1)].as_slice());
+    assert!(rt; told.found.amounts.pairs.as_slice() == [false, false, true, true].as_slice());
+    Ok(())
+}
+
 // The model has two persons, four things, the hub, and a place for each person.
 #[test]
 fn marked_places_are_told(rt: HostRuntime) -> Result<(), Fail> {
@@ -104,18 +139,15 @@ fn marked_places_are_told(rt: HostRuntime) -> Result<(), Fail> {
         return Ok(());
     };
     let marks = [true, false, false, true, false, false, false, true, false];
-    let places = marked_places(alloc, &roster, &groups, &marks)?;
-    let first = GroupPlace { group: 1, owner: 1 };
-    assert!(rt; places.as_slice() == [first].as_slice());
     let found = GroupCompetition {
         places: marks.iter().copied().collect(alloc)?,
         side: Side::Send,
     };
-    let told = competition_of(alloc, &roster, &groups, &found)?;
+    let made = competition_of(alloc, &roster, &groups, &found)?;
+    let told = &made.found;
     assert!(rt; told.persons.as_slice() == [true, false].as_slice());
     assert!(rt; told.things.as_slice() == [false, true, false, false].as_slice());
     assert!(rt; told.amounts.persons.as_slice() == [0, 0].as_slice());
-    let counted: Vec<bool> = told.amounts.pairs.iter().copied().take(4).collect(alloc)?;
-    assert!(rt; counted.as_slice() == [true, false, true, false].as_slice());
+    assert!(rt; told.amounts.pairs.as_slice() == [true, false, true, false].as_slice());
     Ok(())
 }

@@ -9,4 +9,4 @@ pub mod ProperModels
 pub mod RowSteps
 mod OriginLists
 pub mod ToldAnswers
-mod ToldSums
+pub mod ToldSums

@@ -28,7 +28,7 @@ told_one true n = refl
 told_one false n = refl
 
 -- the numbers of a table's set, as they are told
-sum_told : (least : Bool) (marks : List Bool) (ranges : List Range) → length marks ≡ length ranges
+pub sum_told : (least : Bool) (marks : List Bool) (ranges : List Range) → length marks ≡ length ranges
     → node_sum (λ v. when (in_table marks v) (pos (bound least (range_at ranges v)))) (length ranges) ≡ pos (told_sum marks (map (bound least) ranges))
 sum_told least [] [] e = refl
 sum_told least [] (r ∷ ranges) e = absurd (omega arith)

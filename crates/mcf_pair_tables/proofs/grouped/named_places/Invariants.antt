@@ -1,8 +1,0 @@
-use Rattle.std.proofs.Common.{◌≡◌, ◌++◌, drop, map, take}
-use Rattle.std.specs.Prelude.{filter}
-use Rattle.std.specs.List.{flat_map, range_with_len}
-use Rattle.mcf_pair_tables.specs.GroupedAnswers.{named_place}
-use Rattle.mcf_pair_tables.proofs.grouped.named_places.Given as goal
-
-abbrev pub invariant-loop-at : goal.invariant-loop-at
-invariant-loop-at l = l.made.items ≡ map (named_place l.kept) (take l.at l.places)
