@@ -1,5 +1,5 @@
 -- How often numbers stand in lists.
-use Rattle.std.proofs.Common.{◌≡◌, ℕ, zero, suc, ◌+◌, ◌-◌, ◌<◌, ◌≤◌, eqb, Bool, true, false, ◌&&◌, List, [], ◌∷◌, ◌++◌, length, map, filter, take, set, refl, replicate, ap, ap₂, sym, ◌∙◌, arith, ℤ, pos, ◌+ℤ◌}
+use Rattle.std.proofs.Common.{◌≡◌, ℕ, zero, suc, ◌+◌, ◌-◌, ◌<◌, ◌≤◌, eqb, Bool, true, false, ◌&&◌, ◌||◌, List, [], ◌∷◌, length, map, filter, take, set, refl, replicate, ap, ap₂, sym, ◌∙◌, arith, ℤ, pos, ◌+ℤ◌}
 use Rattle.std.specs.Prelude.{if◌then◌else◌, ◌==◌, cond, nat_lt, slice_index_or}
 use Rattle.std.specs.List.{All, range_with_len}
 use Rattle.std.proofs.lemmas.Bool.{and_parts, eq-eqb, lt-ltb, ltb-true, ne_eqb, true≢false}
@@ -11,10 +11,10 @@ use Rattle.std.proofs.lemmas.Int.{ints}
 use Rattle.mcf_flows.specs.Blocking.{in_list}
 use Rattle.mcf_flows.specs.Network.{when}
 use Rattle.mcf_groups.specs.declared.groups.Group.{Group}
-use Rattle.mcf_groups.specs.Counts.{CountsAreOfChoices, chosen_pairs, counted_once, has_member, members_by, owners_by, times_in}
-use Rattle.mcf_groups.specs.Groups.{count_in, is_of, member_of, owner_of}
+use Rattle.mcf_groups.specs.Counts.{CountsAreOfChoices, chosen_pairs, counted_once, has_member, members_by, times_in}
+use Rattle.mcf_groups.specs.Groups.{is_of, owner_of}
 use Rattle.mcf_roster.specs.declared.pairs.Pair.{Pair}
-use Rattle.mcf_roster.specs.Rosters.{Roster, chosen_sum}
+use Rattle.mcf_roster.specs.Rosters.{chosen_sum}
 
 -- ---- counts are sums over choices
 
@@ -131,3 +131,26 @@ tallies_none n = go 1 n
     go : (a n : ℕ) → replicate n 0 ≡ map (times_in []) (range_with_len a n)
     go a zero = refl
     go a (suc n) = ap (λ (xs : List ℕ). 0 ∷ xs) (go (a + 1) n)
+
+-- ---- whether numbers stand in lists
+
+-- a number stands in a list if it stands there some times
+some_times : (ms : List ℕ) (v : ℕ) → nat_lt 0 (times_in ms v) ≡ in_list ms v
+some_times [] v = refl
+some_times (m ∷ ms) v = go (m == v) (some_times ms v)
+  where
+    go : (b : Bool) → nat_lt 0 (times_in ms v) ≡ in_list ms v
+        → nat_lt 0 (length (if b then m ∷ filter (λ (n : ℕ). n == v) ms else filter (λ (n : ℕ). n == v) ms)) ≡ (b || in_list ms v)
+    go true later = lt-ltb 0 (length (m ∷ filter (λ (n : ℕ). n == v) ms)) (omega arith)
+    go false later = later
+
+pub stands_by_times : (ms times : List ℕ) (v : ℕ) → times ≡ map (times_in ms) (range_with_len 1 (length times)) → 0 < v → v ≤ length times
+    → nat_lt 0 (slice_index_or times (v - 1) 0) ≡ in_list ms v
+stands_by_times ms times v e low high =
+    let here : 1 + (v - 1) ≡ v = omega (arith, low) in
+    ap (λ xs. nat_lt 0 (slice_index_or xs (v - 1) 0)) e
+    ∙ ap (nat_lt 0) (get_or-map-range_with_len (times_in ms) 1 (length times) (v - 1) v 0 (omega (arith, low, high)) here)
+    ∙ some_times ms v
+
+pub times_long : (f : ℕ → ℕ) (n : ℕ) (times : List ℕ) → times ≡ map f (range_with_len 1 n) → times ≡ map f (range_with_len 1 (length times))
+times_long f n times e = e ∙ ap (λ k. map f (range_with_len 1 k)) (sym (ap length e ∙ length-map-range_with_len f 1 n))

@@ -2,12 +2,13 @@
 ghost use Rattle.std.specs.Prelude.{◌≡◌, ◌<◌, ◌++◌, IfOk, OnOk, length, map, option_map, slice_index_or, false};
 ghost use Rattle.std.specs.List.{All, flat_map, range_with_len};
 ghost use Rattle.std.specs.Option.{option_to_list};
+ghost use Rattle.mcf_flows.specs.Blocking.{in_list};
 ghost use Rattle.mcf_groups.specs.Counts.{broken_of, broken_rows, chosen_at, chosen_pairs, count_row, count_rows, counted_once, counts_of, group_broken, group_counts, has_member, is_outside, owners_by, tallies, times_in};
 ghost use Rattle.mcf_groups.specs.Groups.{member_of, owner_of};
 
 use crate::crossings::is_in;
 use crate::groups::{Group, Members};
-use crate::nests::owner_count;
+use crate::nests::{member_count, owner_count};
 use crate::ordering::{Crossing, group_at};
 use mcf_roster::{Pair, Range, Roster};
 use mcf_text::{NoMemory, copies};
@@ -90,20 +91,39 @@ fn owner_of(of: Members, pair: Pair) -> u32
     }
 }
 
-// Returns whether the pair is one of a member of the group.
-fn has_member(group: &Group, pair: Pair) -> bool
+// Returns whether a number is in a list, in which the first numbers stand so often.
+fn stands_in(list: &[u32], times: &[usize], number: u32) -> bool
+    requires times { times.now ≡ map (times_in list.now) (range_with_len 1 (length times.now)) }
+    ensures { result ≡ in_list list.now number }
+{
+    let place = number as usize;
+    if place == 0 || times.len() < place {
+        return is_in(list, number);
+    }
+    0 < times[place - 1]
+}
+
+// Returns whether the pair is one of a member of the group, whose members stand so often in it.
+fn has_member(group: &Group, times: &[usize], pair: Pair) -> bool
+    requires times { times.now ≡ map (times_in group.now.members.items) (range_with_len 1 (length times.now)) }
     ensures { result ≡ has_member group.now pair }
 {
-    is_in(&group.members, member_of(group.of, pair))
+    stands_in(&group.members, times, member_of(group.of, pair))
 }
 
 // Returns those that have members of the group by some pairs.
-fn owners_by(alloc: Global, group: &Group, pairs: &[Pair]) -> Result<Vec<u32>, NoMemory>
+fn owners_by(
+    alloc: Global,
+    group: &Group,
+    times: &[usize],
+    pairs: &[Pair],
+) -> Result<Vec<u32>, NoMemory>
+    requires times { times.now ≡ map (times_in group.now.members.items) (range_with_len 1 (length times.now)) }
     ensures { IfOk result (λ made. made.items ≡ owners_by group.now pairs.now) }
 {
     let mut made = Vec::new(alloc);
     for place in 0..pairs.len() {
-        if has_member(group, pairs[place]) {
+        if has_member(group, times, pairs[place]) {
             made.push(owner_of(group.of, pairs[place]))?;
         }
     }
@@ -140,7 +160,8 @@ fn tallies(
 ) -> Result<Vec<usize>, NoMemory>
     ensures { IfOk result (λ made. made.items ≡ tallies roster.now group.now pairs.now) }
 {
-    let owners = owners_by(alloc, group, pairs)?;
+    let times = tally(alloc, member_count(roster, group.of), &group.members)?;
+    let owners = owners_by(alloc, group, &times, pairs)?;
     tally(alloc, owner_count(roster, group.of) as usize, &owners)
 }
 
