@@ -1,0 +1,38 @@
+-- A column that is filled down.
+-- Source: own
+use Rattle.std.specs.Prelude.{ℕ, zero, suc, ◌+◌, ◌==◌, max, Bool, not, ◌&&◌, if◌then◌else◌, List, [], length, count_by, map, slice_index_or}
+use Rattle.std.specs.List.{range_with_len}
+use Rattle.mcf_table.specs.Heads.{cells_of}
+use Rattle.mcf_table.specs.Texts.{Record, is_filled, no_record}
+use Rattle.mcf_forms.specs.Cells.{cell_at}
+
+-- What a row below the heads has in a column: its cell, or what the row above has if that is empty.
+-- The heads have nothing.
+unfoldable pub value_at : List Record → ℕ → ℕ → List ℕ
+value_at records place zero = []
+value_at records place (suc row) =
+    if is_filled (cell_at records (suc row) place) then cell_at records (suc row) place else value_at records place row
+
+-- the row takes a cell from above: its own is empty, and one above isn't
+unfoldable pub takes : List Record → ℕ → ℕ → Bool
+takes records place row = not (is_filled (cell_at records row place)) && is_filled (value_at records place row)
+
+-- the cells with this one at the place, after empty cells if they are fewer
+unfoldable pub with_cell : ℕ → List ℕ → List (List ℕ) → List (List ℕ)
+with_cell place cell cells =
+    map (λ other. if other == place then cell else slice_index_or cells other []) (range_with_len 0 (max (length cells) (place + 1)))
+
+-- the row with the cell that it takes, if it takes one
+unfoldable pub filled_row : List Record → ℕ → ℕ → Record
+filled_row records place row =
+    if takes records place row
+    then record { line = (slice_index_or records row no_record).line; cells = with_cell place (value_at records place row) (cells_of records row) }
+    else slice_index_or records row no_record
+
+-- the rows, each with the cell that it takes
+abbrev pub filled_down : ℕ → List Record → List Record
+filled_down place records = map (filled_row records place) (range_with_len 0 (length records))
+
+-- how many cells are taken
+abbrev pub taken_count : ℕ → List Record → ℕ
+taken_count place records = count_by (takes records place) (range_with_len 0 (length records))

@@ -1,0 +1,10 @@
+pub use Rattle.mcf_decimal.specs.Decimals
+pub use Rattle.mcf_decimal.specs.Numbers
+pub use Rattle.mcf_names.specs.Names
+pub use Rattle.mcf_table.specs.Heads
+pub use Rattle.mcf_table.specs.Texts
+pub mod Cells
+pub mod Filled
+pub mod Matrices
+pub mod Sums
+pub mod Totals
