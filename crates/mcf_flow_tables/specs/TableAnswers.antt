@@ -20,8 +20,10 @@ use Rattle.mcf_flow_tables.specs.declared.answering.TableAnswer.{TableAnswer}
 use Rattle.mcf_flow_tables.specs.declared.answering.TableAnswer.TheVariants.{Faults, Periods, Problem}
 use Rattle.mcf_flow_tables.specs.declared.flow_answer.FlowAnswer.{FlowAnswer}
 use Rattle.mcf_flow_tables.specs.declared.flow_answer.FlowAnswer.TheVariants.{NoTables, Tables}
+use Rattle.mcf_flow_tables.specs.declared.flow_answer.SaidTables.{SaidTables}
 use Rattle.mcf_flow_tables.specs.declared.options.Options.{Options}
 use Rattle.mcf_flow_tables.specs.PeriodTableAnswers.{IsPeriodTableAnswer}
+use Rattle.mcf_flow_tables.specs.Prepared.{done_to, prepared_places, prepared_routes}
 use Rattle.mcf_flow_tables.specs.PlannerOrigins.{origin_in}
 use Rattle.mcf_flow_tables.specs.TableTexts.{IsBrokenText, IsTableOf, place_wanted, route_wanted}
 
@@ -51,12 +53,18 @@ abbrev pub IsBrokenBy : List (List ℕ) → List ℕ → Option TextFault → Ty
 IsBrokenBy wanted text None = (records : List Record) × IsTableOf wanted text records
 IsBrokenBy wanted text (Some fault) = IsBrokenText wanted text fault
 
--- The answer to two texts: why one is no table, or both aren't; or their rows, and the answer to
--- these.
+-- the rows of two tables as they are read, what was done to them, and the answer to them
+abbrev pub IsSaidOf : List Record → List Record → Options → SaidTables → Type 0
+IsSaidOf places routes options said =
+    (said.places ≡ prepared_places places) × (said.routes ≡ prepared_routes places routes) × (said.done ≡ done_to places routes)
+    × IsTableAnswer said.places said.routes options said.answer
+
+-- The answer to two texts: why one is no table, or both aren't; or their rows as they are read, and
+-- the answer to these.
 abbrev pub IsFlowAnswer : List ℕ → List ℕ → Options → FlowAnswer → Type 0
 IsFlowAnswer places routes options (NoTables broken) =
     IsBrokenBy place_wanted places broken.places × IsBrokenBy route_wanted routes broken.routes
     × ((is_none broken.places && is_none broken.routes) ≡ false)
 IsFlowAnswer places routes options (Tables said) =
-    IsTableOf place_wanted places said.places × IsTableOf route_wanted routes said.routes
-    × IsTableAnswer said.places said.routes options said.answer
+    (P : List Record) × (R : List Record) × IsTableOf place_wanted places P × IsTableOf route_wanted routes R
+    × IsSaidOf P R options said

@@ -1,9 +1,10 @@
 //! The answer to two texts.
 ghost use Rattle.std.specs.Prelude.{◌≡◌, IfOk};
-ghost use Rattle.mcf_flow_tables.specs.TableAnswers.{IsFlowAnswer};
+ghost use Rattle.mcf_flow_tables.specs.TableAnswers.{IsFlowAnswer, IsSaidOf};
 
 use crate::answering::{TableAnswer, table_answer};
 use crate::options::{Options, Texts};
+use crate::prepared::{Done, prepared};
 use crate::table_texts::table_of;
 use mcf_model::Solves;
 use mcf_table::{Records, TextFault};
@@ -19,14 +20,17 @@ pub struct Broken {
     pub routes: Option<TextFault>,
 }
 
-/// The rows of two tables, from those of their heads on, and the answer to them.
+/// The rows of two tables as they are read, from those of their heads on, and the answer to them.
 #[derive(Drop)]
 pub struct SaidTables {
     /// The rows of the table of places. Answers count rows from 0, the row of the heads; a row
     /// knows its line.
     pub places: Records,
-    /// The rows of the table of routes.
+    /// The rows of the table of routes. Those of a list that a matrix became have the lines of the
+    /// matrix.
     pub routes: Records,
+    /// What was done to the rows before they were read.
+    pub done: Done,
     /// The answer.
     pub answer: TableAnswer,
 }
@@ -40,9 +44,30 @@ pub enum FlowAnswer {
     Tables(SaidTables),
 }
 
+// The rows of two tables as they are read, and the answer to them.
+fn said_tables<S: Solves>(
+    alloc: Global,
+    solver: &mut S,
+    places: Records,
+    routes: Records,
+    options: Options,
+) -> Result<SaidTables, NoMemory>
+    ensures { IfOk result (IsSaidOf places routes options) }
+{
+    let made = prepared(alloc, places, routes)?;
+    let answer = table_answer(alloc, solver, &made.places, &made.routes, options)?;
+    Ok(SaidTables {
+        places: made.places,
+        routes: made.routes,
+        done: made.done,
+        answer,
+    })
+}
+
 /// Plans the flow of two tables: the least plan of all, in any units, with its exact cost; or
 /// places that are a bottleneck, if no plan exists; or all faults of the tables; or the first
-/// number that is beyond the limits. The solver may be any that solves flow problems.
+/// number that is beyond the limits. A matrix of the costs of routes is read as a list, and a last
+/// row of totals isn't read. The solver may be any that solves flow problems.
 ///
 /// # Errors
 ///
@@ -59,12 +84,8 @@ pub fn plan_tables<S: Solves>(
     let routes = table_of(alloc, texts.routes, &[b"from", b"to", b"most", b"cost"])?;
     match (places, routes) {
         (Ok(places), Ok(routes)) => {
-            let answer = table_answer(alloc, solver, &places, &routes, options)?;
-            Ok(FlowAnswer::Tables(SaidTables {
-                places,
-                routes,
-                answer,
-            }))
+            let said = said_tables(alloc, solver, places, routes, options)?;
+            Ok(FlowAnswer::Tables(said))
         }
         (places, routes) => Ok(FlowAnswer::NoTables(Broken {
             places: places.err(),

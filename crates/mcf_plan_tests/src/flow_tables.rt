@@ -2,7 +2,7 @@
 use mcf_choice::Choice;
 use mcf_decimal::Mark;
 use mcf_flow_tables::{
-    Broken, FlowAnswer, Options, ProblemAnswer, SaidTables, TableAnswer, Texts, plan_tables,
+    Broken, Done, FlowAnswer, Options, ProblemAnswer, SaidTables, TableAnswer, Texts, plan_tables,
 };
 use mcf_places::{LeastPlannerPlan, Origin, PlannerAnswer};
 use mcf_planner::Planner as Engine;
@@ -74,6 +74,42 @@ fn is_planned(answer: &FlowAnswer) -> bool {
 fn tables_have_a_least_plan(rt: HostRuntime) -> Result<(), Fail> {
     let answer = answer_to(rt.alloc(), PLACES, ROUTES)?;
     assert!(rt; is_planned(&answer));
+    Ok(())
+}
+
+const TOTALLED: &[u8] = b"name;supply\nMill;12,5\nWien;-12,5\nTotal;0\n";
+
+const MATRIX: &[u8] = b"to;Mill;Wien\nMill;-;1,5\n\nWien;2;\n";
+
+// Whether the tables have a plan of this cost, in hundredths, whose last route stands on this line.
+fn is_planned_at(said: &SaidTables, cost: i128, line: usize) -> bool {
+    let count = said.routes.len();
+    if count == 0 || said.routes.line(count - 1) != line {
+        return false;
+    }
+    match &said.answer {
+        TableAnswer::Problem(ProblemAnswer::Solved(solved)) => match &solved.answer {
+            PlannerAnswer::Least(found) => found.cost == cost,
+            _ => false,
+        },
+        _ => false,
+    }
+}
+
+#[test]
+fn a_matrix_is_a_list_and_totals_are_left_out(rt: HostRuntime) -> Result<(), Fail> {
+    match answer_to(rt.alloc(), TOTALLED, MATRIX)? {
+        FlowAnswer::Tables(said) => {
+            let done = Done {
+                list: Some(2),
+                place_total: Some(4),
+                route_total: None,
+            };
+            assert!(rt; said.done == done);
+            assert!(rt; is_planned_at(&said, 125 * 15, 4));
+        }
+        FlowAnswer::NoTables(_) => assert!(rt; false),
+    }
     Ok(())
 }
 

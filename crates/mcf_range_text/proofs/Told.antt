@@ -42,7 +42,7 @@ solved_table places routes options (Periods answer) h = tt
 
 pub solved_answer : (places routes : List ℕ) (options : Options) (answer : FlowAnswer) → IsFlowAnswer places routes options answer → IsSolvedAnswer answer
 solved_answer places routes options (NoTables broken) h = tt
-solved_answer places routes options (Tables said) h = solved_table said.places said.routes options said.answer h.2
+solved_answer places routes options (Tables said) h = solved_table said.places said.routes options said.answer h.4.3
 
 -- ---- what is told of a row
 
