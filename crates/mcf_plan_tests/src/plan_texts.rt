@@ -337,3 +337,18 @@ fn a_penalty_beyond_the_limits_is_told(rt: HostRuntime) -> Result<(), Fail> {
     assert!(rt; told.kind == TextKind::Faults && has_faults(&told.text, want));
     Ok(())
 }
+
+// The end of the answer to a matrix of one route, and to places whose total stands below them.
+const DONE: &[u8] = b"\"list\",\"routes\",\"1\"\n\"left out\",\"places\",\"4\"\n\"mark\",\".\"\n\
+\"heads\",\"places\",\"1\",\"name\",\"supply\"\n\"row\",\"places\",\"2\",\"A\",\"1\"\n\
+\"row\",\"places\",\"3\",\"B\",\"-1\"\n\"heads\",\"routes\",\"1\",\"from\",\"to\",\"most\",\"cost\"\n\
+\"row\",\"routes\",\"2\",\"A\",\"B\",\"\",\"2\"\n";
+
+#[test]
+fn what_was_done_to_tables_is_told(rt: HostRuntime) -> Result<(), Fail> {
+    let places = b"name,supply\nA,1\nB,-1\nTotal,0\n";
+    let told = text_for(rt.alloc(), places, b"to,A,B\nA,-,2\nB,x,0\n")?;
+    assert!(rt; told.kind == TextKind::Plan);
+    assert!(rt; told.text.ends_with(DONE));
+    Ok(())
+}

@@ -20,6 +20,8 @@ use Rattle.mcf_flow_tables.specs.declared.flow_answer.SaidTables.{SaidTables}
 use Rattle.mcf_flow_tables.specs.declared.options.Options.{Options}
 use Rattle.mcf_flow_tables.specs.declared.period_answer.PeriodAnswer.{PeriodAnswer}
 use Rattle.mcf_flow_tables.specs.declared.period_answer.PeriodAnswer.TheVariants as period
+use Rattle.mcf_flow_tables.specs.declared.prepared.Done.{Done}
+use Rattle.mcf_form_rows.specs.FormRows.{left_out_rows, list_rows}
 use Rattle.mcf_period_text.specs.PeriodAnswerRows.{period_answer_rows, period_mark}
 use Rattle.mcf_places.specs.declared.answering.PlannerAnswer.{PlannerAnswer}
 use Rattle.mcf_places.specs.declared.answering.PlannerAnswer.TheVariants.{Beyond, Least, NoPlan}
@@ -34,6 +36,13 @@ use Rattle.mcf_plan_rows.specs.PlanRows.{plan_rows}
 -- the end of an answer: the mark before decimals, and both tables
 abbrev pub closing_rows : TwoTables → Option Mark → List (List (List ℕ))
 closing_rows two mark = mark_row mark ∷ (repeated_rows (table_word Places) two.places ++ repeated_rows (table_word Routes) two.routes)
+
+-- What was done to the tables: how many routes the matrix has that became a list, and the rows of
+-- totals that were left out.
+abbrev pub done_rows : Done → List (List (List ℕ))
+done_rows done =
+    list_rows (table_word Routes) done.list
+    ++ (left_out_rows (table_word Places) done.place_total ++ left_out_rows (table_word Routes) done.route_total)
 
 -- a least plan, or a bottleneck, or the first number beyond the limits
 abbrev pub solved_rows : TwoTables → SolvedProblem → PlannerAnswer → List (List (List ℕ))
@@ -69,10 +78,12 @@ table_mark (Periods answer) = period_mark answer
 abbrev pub said_tables : SaidTables → TwoTables
 said_tables said = record { places = said.places; routes = said.routes }
 
--- the answer to two texts; if both are tables, it ends with these
+-- the answer to two texts; if both are tables, it ends with what was done to them, and with their
+-- rows as they were read
 abbrev pub answer_rows : FlowAnswer → List (List (List ℕ))
 answer_rows (NoTables broken) = faults_row ∷ (text_rows Places broken.places ++ text_rows Routes broken.routes)
-answer_rows (Tables said) = table_rows (said_tables said) said.answer ++ closing_rows (said_tables said) (table_mark said.answer)
+answer_rows (Tables said) =
+    table_rows (said_tables said) said.answer ++ (done_rows said.done ++ closing_rows (said_tables said) (table_mark said.answer))
 
 -- ---- its kind
 

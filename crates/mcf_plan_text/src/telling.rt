@@ -1,15 +1,18 @@
 //! The answer to two tables as text.
 ghost use Rattle.std.specs.Prelude.{◌≡◌, ◌++◌, ◌∷◌, [], IfOk, OnOk};
 ghost use Rattle.mcf_answer_rows.specs.Lines.{rows_text};
-ghost use Rattle.mcf_plan_rows.specs.FaultRows.{tables_in};
-ghost use Rattle.mcf_plan_text.specs.PlanTexts.{IsPlanText, answer_kind, answer_rows, closing_rows, period_kind, problem_kind, problem_mark, problem_rows, solved_kind, solved_rows, table_kind, table_mark, table_rows};
+ghost use Rattle.mcf_form_rows.specs.FormRows.{left_out_rows};
+ghost use Rattle.mcf_plan_rows.specs.FaultRows.{table_word, tables_in};
+ghost use Rattle.mcf_reading.specs.declared.locations.Table.TheVariants.{Places, Routes};
+ghost use Rattle.mcf_plan_text.specs.PlanTexts.{IsPlanText, answer_kind, answer_rows, closing_rows, done_rows, period_kind, problem_kind, problem_mark, problem_rows, solved_kind, solved_rows, table_kind, table_mark, table_rows};
 
 use mcf_answer_rows::{PlanText, TextKind, put_answer, put_mark, put_table};
 use mcf_decimal::Mark;
 use mcf_flow_tables::{
-    FlowAnswer, Options, PeriodAnswer, ProblemAnswer, SolvedProblem, TableAnswer, Texts,
+    Done, FlowAnswer, Options, PeriodAnswer, ProblemAnswer, SolvedProblem, TableAnswer, Texts,
     plan_tables,
 };
+use mcf_form_rows::put_told;
 use mcf_model::Solves;
 use mcf_period_text::{period_mark, put_period_answer};
 use mcf_places::PlannerAnswer;
@@ -30,6 +33,35 @@ fn solved_kind(answer: &PlannerAnswer) -> TextKind
         PlannerAnswer::NoPlan(_) => TextKind::NoPlan,
         PlannerAnswer::Beyond(_) => TextKind::Faults,
     }
+}
+
+// Appends the rows of totals that were left out.
+fn put_totals(alloc: Global, out: &mut Vec<u8>, done: Done) -> Result<(), NoMemory>
+    ensures { OnOk result (out.new.items ≡ out.old.items
+        ++ rows_text (left_out_rows (table_word Places) done.place_total ++ left_out_rows (table_word Routes) done.route_total)) }
+{
+    put_told(
+        alloc,
+        out,
+        b"left out",
+        table_word(Table::Places),
+        done.place_total,
+    )?;
+    put_told(
+        alloc,
+        out,
+        b"left out",
+        table_word(Table::Routes),
+        done.route_total,
+    )
+}
+
+// Appends what was done to the tables.
+fn put_done(alloc: Global, out: &mut Vec<u8>, done: Done) -> Result<(), NoMemory>
+    ensures { OnOk result (out.new.items ≡ out.old.items ++ rows_text (done_rows done)) }
+{
+    put_told(alloc, out, b"list", table_word(Table::Routes), done.list)?;
+    put_totals(alloc, out, done)
 }
 
 // Appends the mark before decimals, and the rows of both tables.
@@ -168,18 +200,33 @@ fn table_mark(answer: &TableAnswer) -> Option<Mark>
     }
 }
 
-// Appends the answer to the rows of two tables, and these.
+// Appends what was done to the tables, and the end of an answer.
+fn put_end(
+    alloc: Global,
+    out: &mut Vec<u8>,
+    two: Two<'_>,
+    done: Done,
+    mark: Option<Mark>,
+) -> Result<(), NoMemory>
+    ensures { OnOk result (out.new.items ≡ out.old.items ++ rows_text (done_rows done ++ closing_rows (tables_in two.entry) mark)) }
+{
+    put_done(alloc, out, done)?;
+    put_closing(alloc, out, two, mark)
+}
+
+// Appends the answer to the rows of two tables, what was done to these, and their rows.
 fn put_said(
     alloc: Global,
     out: &mut Vec<u8>,
     two: Two<'_>,
+    done: Done,
     answer: &TableAnswer,
 ) -> Result<(), NoMemory>
     ensures { OnOk result (out.new.items ≡ out.old.items
-        ++ rows_text (table_rows (tables_in two.entry) answer.now ++ closing_rows (tables_in two.entry) (table_mark answer.now))) }
+        ++ rows_text (table_rows (tables_in two.entry) answer.now ++ (done_rows done ++ closing_rows (tables_in two.entry) (table_mark answer.now)))) }
 {
     put_table_answer(alloc, out, two, answer)?;
-    put_closing(alloc, out, two, table_mark(answer))
+    put_end(alloc, out, two, done, table_mark(answer))
 }
 
 /// Returns the text of an answer, as `plan_text` does.
@@ -207,7 +254,7 @@ pub fn answer_text(alloc: Global, answer: &FlowAnswer) -> Result<PlanText, NoMem
                 places: &said.places,
                 routes: &said.routes,
             };
-            put_said(alloc, &mut text, two, &said.answer)?;
+            put_said(alloc, &mut text, two, said.done, &said.answer)?;
             Ok(PlanText {
                 text,
                 kind: table_kind(&said.answer),
@@ -227,8 +274,10 @@ pub fn answer_text(alloc: Global, answer: &FlowAnswer) -> Result<PlanText, NoMem
 /// there, its group, and what passes, with the figures of a route. Of a bottleneck, `side`, its
 /// places, and the routes that lead out of it or into it, with the amounts that count. For each
 /// fault `fault`, the table, the line, the column, what is wrong, and the cell. At the end, unless
-/// a text is no table, `mark` with the mark before decimals that was settled, and both tables:
-/// `heads` the row of the heads and `row` each further one, with the table, the line and all cells.
+/// a text is no table, `list` with the table of routes and the number of them, if that was a matrix
+/// of costs; `left out` with the table and the line of a row of totals; `mark` with the mark before
+/// decimals that was settled; and both tables as they were read: `heads` the row of the heads and
+/// `row` each further one, with the table, the line and all cells. Lines are those of the texts.
 /// Over periods, `keep` for what each place keeps from a period to the next, and rows with their
 /// periods at the end. The manual page `mcfplan(1)` has all rows.
 ///

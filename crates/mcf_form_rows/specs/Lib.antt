@@ -1,0 +1,2 @@
+pub use Rattle.mcf_answer_rows.specs.Lines
+pub mod FormRows
