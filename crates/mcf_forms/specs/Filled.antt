@@ -1,10 +1,10 @@
--- A column that is filled down.
+-- Columns that are filled down.
 -- Source: own
-use Rattle.std.specs.Prelude.{ℕ, zero, suc, ◌+◌, ◌==◌, max, Bool, not, ◌&&◌, if◌then◌else◌, List, [], length, count_by, map, slice_index_or}
+use Rattle.std.specs.Prelude.{ℕ, zero, suc, ◌+◌, ◌==◌, max, Bool, not, ◌&&◌, if◌then◌else◌, List, [], ◌∷◌, length, count_by, map, slice_index_or, Option, Some, None, option_map}
 use Rattle.std.specs.List.{range_with_len}
 use Rattle.mcf_table.specs.Heads.{cells_of}
 use Rattle.mcf_table.specs.Texts.{Record, is_filled, no_record}
-use Rattle.mcf_forms.specs.Cells.{cell_at}
+use Rattle.mcf_forms.specs.Cells.{cell_at, first_column}
 
 -- What a row below the heads has in a column: its cell, or what the row above has if that is empty.
 -- The heads have nothing.
@@ -36,3 +36,26 @@ filled_down place records = map (filled_row records place) (range_with_len 0 (le
 -- how many cells are taken
 abbrev pub taken_count : ℕ → List Record → ℕ
 taken_count place records = count_by (takes records place) (range_with_len 0 (length records))
+
+-- the rows with the column at this place filled down, if there is one
+abbrev pub filled_at : Option ℕ → List Record → List Record
+filled_at None records = records
+filled_at (Some place) records = filled_down place records
+
+-- the rows with the first column of this head filled down
+abbrev pub filled_under : List ℕ → List Record → List Record
+filled_under head records = filled_at (first_column head records) records
+
+-- the rows with the columns of these heads filled down, one after another
+abbrev pub filled_columns : List (List ℕ) → List Record → List Record
+filled_columns [] records = records
+filled_columns (head ∷ heads) records = filled_columns heads (filled_under head records)
+
+-- how many cells are taken in the column of this head; none if there is no such column
+abbrev pub count_under : List ℕ → List Record → Option ℕ
+count_under head records = option_map (λ place. taken_count place records) (first_column head records)
+
+-- how many in each of the columns of these heads
+abbrev pub column_counts : List (List ℕ) → List Record → List (Option ℕ)
+column_counts [] records = []
+column_counts (head ∷ heads) records = count_under head records ∷ column_counts heads (filled_under head records)

@@ -1,5 +1,5 @@
 //! Tables in other forms than those that are read.
-use mcf_forms::{filled_down, first_column, routes_of, without_total};
+use mcf_forms::{filled_columns, filled_down, first_column, routes_of, without_total};
 use mcf_table::{Records, records_of};
 use mcf_text::NoMemory;
 use std::alloc::Global;
@@ -139,5 +139,22 @@ fn fills_a_column_down(rt: HostRuntime) -> Result<(), Fail> {
     ];
     assert!(rt; has_rows(&made.rows, rows.as_slice()));
     assert_eq!(rt; made.count, 3);
+    Ok(())
+}
+
+#[test]
+fn fills_columns_down(rt: HostRuntime) -> Result<(), Fail> {
+    let alloc = rt.alloc();
+    let table = rows_of(alloc, b"from;to;to\nA;X;1\n;;2\n;Y;3\n")?;
+    let made = filled_columns(alloc, table, &[b"TO", b"via", b"from"])?;
+    let rows: [Row; 4] = [
+        (1, &[b"from", b"to", b"to"]),
+        (2, &[b"A", b"X", b"1"]),
+        (3, &[b"A", b"X", b"2"]),
+        (4, &[b"A", b"Y", b"3"]),
+    ];
+    assert!(rt; has_rows(&made.rows, rows.as_slice()));
+    let counts = [Some(1), None, Some(2)];
+    assert!(rt; made.counts.as_slice() == counts.as_slice());
     Ok(())
 }
