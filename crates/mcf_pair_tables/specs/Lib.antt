@@ -4,14 +4,17 @@ pub use Rattle.mcf_groups.specs.Counts
 pub use Rattle.mcf_groups.specs.MarkedPlaces
 pub use Rattle.mcf_groups.specs.Orders
 pub use Rattle.mcf_flow_tables.specs.TableTexts
+pub use Rattle.mcf_forms.specs.Totals
 pub use Rattle.mcf_roster.specs.Origins
 pub use Rattle.mcf_roster.specs.RosterAnswers
 pub use Rattle.mcf_roster.specs.RosterFaults
 pub use Rattle.mcf_roster.specs.Rosters
+pub use Rattle.mcf_roster_reading.specs.Columns
 pub use Rattle.mcf_roster_reading.specs.Reading
 pub use Rattle.mcf_table.specs.Texts
 pub use Rattle.mcf_units.specs.Scales
 pub use Rattle.mcf_units.specs.Wholes
+pub mod PairForms
 pub mod PairAnswers
 pub mod PairCosts
 pub mod PairRanges

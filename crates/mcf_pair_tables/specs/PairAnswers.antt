@@ -13,6 +13,7 @@ use Rattle.mcf_roster_reading.specs.Reading.{Entries, read_roster}
 use Rattle.mcf_table.specs.Texts.{Record}
 use Rattle.mcf_table.specs.declared.heads.CellPlace.{CellPlace}
 use Rattle.mcf_pair_tables.specs.PairCosts.{great_cells, scale_of_pairs}
+use Rattle.mcf_pair_tables.specs.PairForms.{cost_total, prepared_costs}
 use Rattle.mcf_pair_tables.specs.PairRosters.{made_in}
 use Rattle.mcf_pair_tables.specs.declared.answering.ChoiceAnswer.{ChoiceAnswer}
 use Rattle.mcf_pair_tables.specs.declared.answering.ChoiceAnswer.TheVariants.{Improper, Solved, TooGreat}
@@ -55,7 +56,9 @@ IsTableAnswer records options (Choice answer) =
 abbrev pub pair_wanted : List (List ℕ)
 pair_wanted = codes "who" ∷ codes "what" ∷ codes "cost" ∷ []
 
--- the answer to a text: why it is no table; or its rows, and the answer to these
+-- the answer to a text: why it is no table; or its rows as they are read, and the answer to these
 abbrev pub IsPairAnswer : List ℕ → Options → PairAnswer → Type 0
 IsPairAnswer text options (NoTable fault) = IsBrokenText pair_wanted text fault
-IsPairAnswer text options (Table said) = IsTableOf pair_wanted text said.rows × IsTableAnswer said.rows options said.answer
+IsPairAnswer text options (Table said) =
+    (records : List Record) × IsTableOf pair_wanted text records
+    × (said.rows ≡ prepared_costs records) × (said.total ≡ cost_total records) × IsTableAnswer said.rows options said.answer

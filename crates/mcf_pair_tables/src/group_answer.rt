@@ -4,6 +4,7 @@ ghost use Rattle.mcf_pair_tables.specs.GroupAnswers.{IsGroupsText};
 
 use crate::group_options::{AtCrossing, GroupTexts};
 use crate::grouped::{Asked, GroupTableAnswer, group_table_answer};
+use crate::lists::prepared_costs;
 use crate::options::Options;
 use mcf_flow_tables::table_of;
 use mcf_model::Solves;
@@ -20,12 +21,15 @@ pub struct BrokenTexts {
     pub groups: Option<TextFault>,
 }
 
-/// The rows of two tables, from those of their heads on, and the answer to them.
+/// The rows of two tables as they are read, from those of their heads on, and the answer to them.
 #[derive(Drop)]
 pub struct SaidGroups {
     /// The rows of the table of persons and things. Answers count rows from 0, the row of the
     /// heads; a row knows its line.
     pub costs: Records,
+    /// The line of the row of totals that a list of costs had and that isn't read, if there was
+    /// one.
+    pub total: Option<usize>,
     /// The rows of the table of groups.
     pub groups: Records,
     /// The answer.
@@ -64,9 +68,11 @@ pub fn plan_groups<S: Solves>(
     match (costs, groups) {
         (Ok(costs), Ok(groups)) => {
             let asked = Asked { options, crossing };
-            let answer = group_table_answer(alloc, solver, &costs, &groups, asked)?;
+            let made = prepared_costs(alloc, costs)?;
+            let answer = group_table_answer(alloc, solver, &made.rows, &groups, asked)?;
             Ok(GroupsAnswer::Tables(SaidGroups {
-                costs,
+                costs: made.rows,
+                total: made.line,
                 groups,
                 answer,
             }))

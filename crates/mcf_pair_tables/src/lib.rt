@@ -7,8 +7,9 @@
 //! `mcf_group_reading` and `mcf_groups`, and uses any solver that
 //! `mcf_model` takes. The definitions are in `specs/`: `PairRanges` says how many each may have,
 //! `PairCosts` what pairs cost in whole units, `PairRosters` which roster a table is,
-//! `PairAnswers` what is answered, `PairGroups` which groups a second table has, `GroupSets` which
-//! of them a choice keeps to, and `GroupedAnswers` and `GroupAnswers` what is answered then.
+//! `PairForms` which rows of a table are read, `PairAnswers` what is answered, `PairGroups` which
+//! groups a second table has, `GroupSets` which of them a choice keeps to, and `GroupedAnswers` and
+//! `GroupAnswers` what is answered then.
 
 mod answering;
 mod costs;
@@ -17,6 +18,7 @@ mod group_options;
 mod group_sets;
 mod grouped;
 mod grouping;
+mod lists;
 mod options;
 mod pair_answer;
 mod ranges;
@@ -29,5 +31,6 @@ pub use grouped::{
     Asked, BeyondNumber, ChosenGroups, CompetingGroups, GroupTableAnswer, GroupedChoice,
     GroupedRoster, SetsAnswer, SolvedGroups,
 };
+pub use lists::is_list;
 pub use options::{Each, Options};
 pub use pair_answer::{PairAnswer, SaidTable, plan_pairs};

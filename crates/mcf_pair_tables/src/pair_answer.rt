@@ -3,6 +3,7 @@ ghost use Rattle.std.specs.Prelude.{◌≡◌, IfOk};
 ghost use Rattle.mcf_pair_tables.specs.PairAnswers.{IsPairAnswer};
 
 use crate::answering::{TableAnswer, table_answer};
+use crate::lists::prepared_costs;
 use crate::options::Options;
 use mcf_flow_tables::table_of;
 use mcf_model::Solves;
@@ -10,11 +11,13 @@ use mcf_table::{Records, TextFault};
 use mcf_text::NoMemory;
 use std::alloc::Global;
 
-/// The rows of a table, from that of its heads on, and the answer to them.
+/// The rows of a table as they are read, from that of its heads on, and the answer to them.
 #[derive(Drop)]
 pub struct SaidTable {
     /// The rows. Answers count rows from 0, the row of the heads; a row knows its line.
     pub rows: Records,
+    /// The line of the row of totals that a list had and that isn't read, if there was one.
+    pub total: Option<usize>,
     /// The answer.
     pub answer: TableAnswer,
 }
@@ -46,8 +49,13 @@ pub fn plan_pairs<S: Solves>(
 {
     match table_of(alloc, text, &[b"who", b"what", b"cost"])? {
         Ok(rows) => {
-            let answer = table_answer(alloc, solver, &rows, options)?;
-            Ok(PairAnswer::Table(SaidTable { rows, answer }))
+            let made = prepared_costs(alloc, rows)?;
+            let answer = table_answer(alloc, solver, &made.rows, options)?;
+            Ok(PairAnswer::Table(SaidTable {
+                rows: made.rows,
+                total: made.line,
+                answer,
+            }))
         }
         Err(fault) => Ok(PairAnswer::NoTable(fault)),
     }

@@ -10,6 +10,7 @@ use Rattle.mcf_decimal.specs.declared.mark.Mark.{Mark}
 use Rattle.mcf_group_reading.specs.GroupReading.{Entries as Groups, read_groups}
 use Rattle.mcf_group_reading.specs.declared.kinds.Fault.{Fault as GroupFault}
 use Rattle.mcf_groups.specs.declared.ordering.Crossing.{Crossing}
+use Rattle.mcf_form_rows.specs.FormRows.{left_out_rows}
 use Rattle.mcf_pair_tables.specs.GroupAnswers.{IsGroupsText}
 use Rattle.mcf_pair_tables.specs.GroupedAnswers.{known_in}
 use Rattle.mcf_pair_tables.specs.declared.group_answer.BrokenTexts.{BrokenTexts}
@@ -123,10 +124,11 @@ table_rows options costs rows (Choice answer) =
 abbrev pub both_broken : BrokenTexts → List (List (List ℕ))
 both_broken broken = faulty.broken_rows costs_word broken.costs ++ faulty.broken_rows faulty.groups_word broken.groups
 
--- the answer to two texts
+-- the answer to two texts, and the row of totals that was left out
 abbrev pub answer_rows : Options → GroupsAnswer → List (List (List ℕ))
 answer_rows options (NoTables broken) = faults_row ∷ both_broken broken
-answer_rows options (Tables said) = table_rows options said.costs said.groups said.answer
+answer_rows options (Tables said) =
+    table_rows options said.costs said.groups said.answer ++ left_out_rows costs_word said.total
 
 -- ---- its kind
 

@@ -9,6 +9,7 @@ use Rattle.mcf_answer_rows.specs.declared.texts.PlanText.{PlanText}
 use Rattle.mcf_answer_rows.specs.declared.texts.TextKind.{TextKind}
 use Rattle.mcf_answer_rows.specs.declared.texts.TextKind.TheVariants as told
 use Rattle.mcf_decimal.specs.declared.mark.Mark.{Mark}
+use Rattle.mcf_form_rows.specs.FormRows.{left_out_rows}
 use Rattle.mcf_pair_tables.specs.PairAnswers.{IsPairAnswer}
 use Rattle.mcf_pair_tables.specs.declared.answering.ChoiceAnswer.{ChoiceAnswer}
 use Rattle.mcf_pair_tables.specs.declared.answering.ChoiceAnswer.TheVariants.{Improper, Solved, TooGreat}
@@ -61,10 +62,10 @@ abbrev pub table_rows : Options → List Record → TableAnswer → List (List (
 table_rows options records (Faults faults) = (faults_row ∷ map (cell_fault_row (sheet_of records)) faults) ++ closing_rows (sheet_of records) None
 table_rows options records (Choice answer) = read_rows options.maximise (sheet_of records) (read_roster options.mark records) answer
 
--- the answer to a text
+-- the answer to a text, and the row of totals that was left out
 abbrev pub answer_rows : Options → PairAnswer → List (List (List ℕ))
 answer_rows options (NoTable fault) = faults_row ∷ text_row fault ∷ []
-answer_rows options (Table said) = table_rows options said.rows said.answer
+answer_rows options (Table said) = table_rows options said.rows said.answer ++ left_out_rows costs_word said.total
 
 -- ---- its kind
 

@@ -1,13 +1,14 @@
 //! The answer to a table of persons and things and a table of groups as text.
 ghost use Rattle.std.specs.Prelude.{◌≡◌, ◌++◌, ◌∷◌, IfOk, None, OnOk, map};
 ghost use Rattle.mcf_answer_rows.specs.Lines.{rows_text};
+ghost use Rattle.mcf_form_rows.specs.FormRows.{left_out_rows};
 ghost use Rattle.mcf_group_reading.specs.GroupReading.{read_groups};
 ghost use Rattle.mcf_pair_tables.specs.GroupedAnswers.{known_in};
 ghost use Rattle.mcf_roster_reading.specs.Reading.{read_roster};
 ghost use Rattle.mcf_pair_text.specs.GroupRows.{book_in};
 ghost use Rattle.mcf_pair_text.specs.GroupFaultRows.{group_row};
 ghost use Rattle.mcf_pair_text.specs.GroupTexts.{IsGroupText, answer_kind, answer_rows, book_rows, both_broken, both_tables, chosen_groups, closing_rows, competing_bounds, competing_groups, crossings_told, group_choice_rows, grouped_kind, grouped_rows, read_both, read_costs, refused_rows, sets_kind, sets_rows, solved_kind, solved_rows, table_kind, table_rows};
-ghost use Rattle.mcf_pair_text.specs.PairFaultRows.{cell_fault_row};
+ghost use Rattle.mcf_pair_text.specs.PairFaultRows.{cell_fault_row, costs_word as the_costs_word};
 ghost use Rattle.mcf_pair_text.specs.PairPlaces.{sheet_in};
 ghost use Rattle.mcf_pair_text.specs.PairTexts.{faults_row};
 
@@ -21,6 +22,7 @@ use crate::rows::{Unit, put_choice, put_competition};
 use crate::words::costs_word;
 use mcf_answer_rows::{PlanText, TextKind, put_answer, put_mark, put_table};
 use mcf_decimal::Mark;
+use mcf_form_rows::put_told;
 use mcf_group_reading::{Fault as GroupFault, Known, read as read_groups};
 use mcf_groups::Crossing;
 use mcf_model::Solves;
@@ -439,6 +441,20 @@ fn table_kind(answer: &GroupTableAnswer) -> TextKind
     }
 }
 
+// Appends the answer to the rows of two tables, these, and the row of totals that was left out.
+fn put_said_tables(
+    alloc: Global,
+    out: &mut Vec<u8>,
+    said: &SaidGroups,
+    options: Options,
+) -> Result<(), NoMemory>
+    ensures { OnOk result (out.new.items ≡ out.old.items
+        ++ rows_text (table_rows options said.now.costs said.now.groups said.now.answer ++ left_out_rows the_costs_word said.now.total)) }
+{
+    put_table_answer(alloc, out, said, options)?;
+    put_told(alloc, out, b"left out", costs_word(), said.total)
+}
+
 // The text of an answer.
 fn text_of(alloc: Global, options: Options, answer: &GroupsAnswer) -> Result<PlanText, NoMemory>
     ensures text { IfOk result (λ told. told.text.items ≡ rows_text (answer_rows options answer.now)) }
@@ -454,7 +470,7 @@ fn text_of(alloc: Global, options: Options, answer: &GroupsAnswer) -> Result<Pla
             })
         }
         GroupsAnswer::Tables(said) => {
-            put_table_answer(alloc, &mut text, said, options)?;
+            put_said_tables(alloc, &mut text, said, options)?;
             Ok(PlanText {
                 text,
                 kind: table_kind(&said.answer),
@@ -471,8 +487,10 @@ fn text_of(alloc: Global, options: Options, answer: &GroupsAnswer) -> Result<Pla
 /// line, its name and the name of the group that it crosses, and `broken`, as `group`, for each
 /// person or thing that has fewer or more members of it than its range says. Of persons and things
 /// that compete, `group` for each person or thing for which a number of a group's range counts, the
-/// same with that number, and `least` or `most`, which number it is; and `crossing`. Faults of the table of groups have `groups` for `costs`; those of groups that cross
-/// others have rows `crossing` after them. At the end both tables stand.
+/// same with that number, and `least` or `most`, which number it is; and `crossing`. Faults of the
+/// table of groups have `groups` for `costs`; those of groups that cross others have rows `crossing`
+/// after them. At the end both tables stand, and then the row of totals of the costs that isn't
+/// read.
 ///
 /// # Errors
 ///

@@ -2,11 +2,11 @@
 ghost use Rattle.std.specs.Prelude.{◌≡◌, IfOk, drop, map};
 ghost use Rattle.mcf_names.specs.Names.{name_at};
 ghost use Rattle.mcf_roster_reading.specs.Cells.{cell_in};
-ghost use Rattle.mcf_roster_reading.specs.Columns.{at_least_two, is_list};
 ghost use Rattle.mcf_pair_text.specs.PairPlaces.{cell_of, column_text, head_over, line_in, name_line, names_under, numbered, pair_column, person_column, place_or_first, row_of, sheet_in, sheet_of, thing_column};
 
 use mcf_answer_rows::{cell_at, line_cell, next_cell, place_of};
 use mcf_names::Names;
+use mcf_pair_tables::is_list;
 use mcf_table::{CellPlace, Records};
 use mcf_text::NoMemory;
 use std::alloc::Global;
@@ -16,23 +16,6 @@ use std::alloc::Global;
 pub(crate) struct Page<'t> {
     pub(crate) records: &'t Records,
     pub(crate) listed: bool,
-}
-
-// Whether two tests hold, at least.
-fn at_least_two(first: bool, second: bool, third: bool) -> bool
-    ensures { result ≡ at_least_two first second third }
-{
-    (first && second) || (first && third) || (second && third)
-}
-
-// Whether the table is a list.
-fn is_list(records: &Records) -> bool
-    ensures { result ≡ is_list records.now }
-{
-    let who = records.column_of(b"who").is_there();
-    let what = records.column_of(b"what").is_there();
-    let cost = records.column_of(b"cost").is_there();
-    at_least_two(who, what, cost)
 }
 
 // The table of these rows.

@@ -1,8 +1,9 @@
 //! The answer to a table of persons and things as text.
 ghost use Rattle.std.specs.Prelude.{◌≡◌, ◌++◌, ◌∷◌, IfOk, None, OnOk, map};
 ghost use Rattle.mcf_answer_rows.specs.Lines.{rows_text};
+ghost use Rattle.mcf_form_rows.specs.FormRows.{left_out_rows};
 ghost use Rattle.mcf_roster_reading.specs.Reading.{read_roster};
-ghost use Rattle.mcf_pair_text.specs.PairFaultRows.{cell_fault_row};
+ghost use Rattle.mcf_pair_text.specs.PairFaultRows.{cell_fault_row, costs_word as the_costs_word};
 ghost use Rattle.mcf_pair_text.specs.PairPlaces.{sheet_in};
 ghost use Rattle.mcf_pair_text.specs.PairTexts.{IsPairText, answer_kind, answer_rows, choice_kind, closing_rows, faults_row, read_rows, roster_kind, roster_rows, said_rows, table_kind, table_rows};
 
@@ -12,8 +13,11 @@ use crate::rows::{Unit, put_choice, put_competition};
 use crate::words::costs_word;
 use mcf_answer_rows::{PlanText, TextKind, put_answer, put_mark, put_table};
 use mcf_decimal::Mark;
+use mcf_form_rows::put_told;
 use mcf_model::Solves;
-use mcf_pair_tables::{ChoiceAnswer, Options, PairAnswer, SolvedPairs, TableAnswer, plan_pairs};
+use mcf_pair_tables::{
+    ChoiceAnswer, Options, PairAnswer, SaidTable, SolvedPairs, TableAnswer, plan_pairs,
+};
 use mcf_roster::RosterAnswer;
 use mcf_roster_reading::{Fault, RosterTable, read};
 use mcf_table::Records;
@@ -196,6 +200,20 @@ fn put_table_answer(
     }
 }
 
+// Appends the answer to the rows of a table, these, and the row of totals that was left out.
+fn put_said_table(
+    alloc: Global,
+    out: &mut Vec<u8>,
+    said: &SaidTable,
+    options: Options,
+) -> Result<(), NoMemory>
+    ensures { OnOk result (out.new.items ≡ out.old.items
+        ++ rows_text (table_rows options said.now.rows said.now.answer ++ left_out_rows the_costs_word said.now.total)) }
+{
+    put_table_answer(alloc, out, &said.rows, options, &said.answer)?;
+    put_told(alloc, out, b"left out", costs_word(), said.total)
+}
+
 // The text of an answer.
 fn text_of(alloc: Global, options: Options, answer: &PairAnswer) -> Result<PlanText, NoMemory>
     ensures text { IfOk result (λ told. told.text.items ≡ rows_text (answer_rows options answer.now)) }
@@ -212,7 +230,7 @@ fn text_of(alloc: Global, options: Options, answer: &PairAnswer) -> Result<PlanT
             })
         }
         PairAnswer::Table(said) => {
-            put_table_answer(alloc, &mut text, &said.rows, options, &said.answer)?;
+            put_said_table(alloc, &mut text, said, options)?;
             Ok(PlanText {
                 text,
                 kind: table_kind(&said.answer),
@@ -232,7 +250,8 @@ fn text_of(alloc: Global, options: Options, answer: &PairAnswer) -> Result<PlanT
 /// and `pair`, as for a choice, for each pair that counts one more. For each fault `fault`,
 /// `costs`, the line, the column, what is wrong, and the cell. At the end, unless the text is no
 /// table, `mark` with the mark before decimals that was settled, and the table: `heads` the row of
-/// the heads and `row` each further one, with `costs`, the line and all cells.
+/// the heads and `row` each further one, with `costs`, the line and all cells; and if a last row of
+/// totals of a list isn't read, `left out` with `costs` and its line.
 ///
 /// # Errors
 ///

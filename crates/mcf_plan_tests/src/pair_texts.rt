@@ -174,3 +174,18 @@ fn texts_that_are_no_table_are_told(rt: HostRuntime) -> Result<(), Fail> {
     assert!(rt; told.text.as_slice() == want.as_slice());
     Ok(())
 }
+
+#[test]
+fn totals_of_pairs_are_left_out(rt: HostRuntime) -> Result<(), Fail> {
+    let told = text_for(
+        rt.alloc(),
+        b"who,what,cost\nA,X,1\nB,Y,2\nTotal,,3\n",
+        PLAIN,
+    )?;
+    assert!(rt; told.kind == TextKind::Plan);
+    assert!(rt;
+        told.text
+            .ends_with(b"\"2\"\n\"left out\",\"costs\",\"4\"\n")
+    );
+    Ok(())
+}
