@@ -3,9 +3,9 @@
 //! The plan for a table of places and a table of routes, from their texts: a least plan, or why
 //! there is none, or all faults of the tables.
 //!
-//! It builds on `mcf_table`, `mcf_forms`, `mcf_reading`, `mcf_units` and `mcf_places`, and uses any solver that
-//! `mcf_model` takes. The definitions are in `specs/`: `TableTexts` says which rows a text is,
-//! `Prepared` which of them are read, and `TableAnswers` what is answered.
+//! It builds on `mcf_table`, `mcf_forms`, `mcf_reading`, `mcf_units` and `mcf_places`, and uses any
+//! solver that `mcf_model` takes. The definitions are in `specs/`: `TableTexts` says which rows a
+//! text is, `Prepared` which of them are read, and `TableAnswers` what is answered.
 
 mod answering;
 mod flow_answer;

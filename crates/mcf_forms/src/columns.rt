@@ -46,8 +46,8 @@ fn filled_under(alloc: Global, records: Records, head: &[u8]) -> Result<FilledUn
     }
 }
 
-/// Fills the columns of these heads down, as `filled_down` does, one after another: of each head the
-/// first column, with ASCII letters in either case. It says of each how many cells took one.
+/// Fills the columns of these heads down, as `filled_down` does, one after another: of each head
+/// the first column, with ASCII letters in either case. It says of each how many cells took one.
 ///
 /// # Errors
 ///

@@ -4,8 +4,9 @@
 //! of costs of routes that becomes a list, columns that are filled down.
 //!
 //! It builds on `mcf_table`, `mcf_decimal` and `mcf_names`. The definitions are in `specs/`:
-//! `Cells` names cells and columns, `Totals` says what a row of totals is, and `Sums` which numbers add up; `Matrices` which table is
-//! a matrix, and its routes; `Filled` which cells take the one above them.
+//! `Cells` names cells and columns; `Totals` says what a row of totals is, and `Sums` which numbers
+//! add up; `Matrices` says which table is a matrix, and its routes; `Filled` which cells take the
+//! one above them.
 
 mod cells;
 mod columns;
