@@ -1,5 +1,5 @@
--- What artificial arcs carry at a last basis: nothing where some flow is feasible. Where one carries
--- something, the nodes of price above 0 can't send what they must.
+-- What artificial arcs carry at a last basis: nothing where some flow is feasible. Where one
+-- carries something, the nodes of price above 0 can't send what they must.
 use Rattle.std.proofs.Common.{◌≡◌, ◌≢◌, ℕ, zero, suc, ◌+◌, ◌-◌, ◌*◌, ◌<◌, ◌≤◌, inl, inr, Bool, true, false, not, List, length, map, drop, sum, set, ◌&&◌}
 use Rattle.std.proofs.Common.{get_or, refl, sym, ap, ◌∙◌, subst, arith, ℤ, pos, neg_ℤ, ◌+ℤ◌, ◌-ℤ◌, ◌≤ℤ◌, ◌<ℤ◌, length-set, [], ◌∷◌, negsuc, ◌*ℤ◌}
 use Rattle.std.specs.Prelude.{int_lt, max, unsigned_abs}

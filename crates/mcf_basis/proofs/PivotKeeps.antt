@@ -1,5 +1,5 @@
--- A pivot keeps a basis a basis, and lowers the pair of cost and prices. Its amounts are within their
--- bounds, and at a bound outside the new tree.
+-- A pivot keeps a basis a basis, and lowers the pair of cost and prices. Its amounts are within
+-- their bounds, and at a bound outside the new tree.
 use Rattle.std.proofs.Common.{◌≡◌, length, List, refl, sym, ap, ◌∙◌, subst, ℕ, ℤ, ◌≢◌, ◌<◌, ◌≤◌, ◌⊎◌, inl, inr, true, false, not, arith, pos, ◌+ℤ◌, ◌≤ℤ◌, Bool}
 use Rattle.std.proofs.Common.{◌-ℤ◌, ◌<ℤ◌}
 use Rattle.std.specs.Prelude.{int_lt}

@@ -3,8 +3,8 @@
 //! A fast search for a least state of a large net, about which nothing is proved but that it is
 //! safe and ends, and a proved judge of what it finds.
 //!
-//! It builds on `mcf_network`, `mcf_engine` and `mcf_columns`. The numbers that tune its speed stand
-//! in `tuning`.
+//! It builds on `mcf_network`, `mcf_engine` and `mcf_columns`. The numbers that tune its speed
+//! stand in `tuning`.
 
 mod finish;
 mod judging;

@@ -8,16 +8,16 @@ pub(crate) const MOST_ARCS_PER_NODE: u64 = 64;
 /// time, by 8 1.05 to 1.7, by 32 or 64 up to 1.4.
 pub(crate) const FACTOR: u32 = 4;
 
-/// The search looks for exact prices once the slack is this power of 2 below the greatest cost, even
-/// if it is more than a unit. With costs up to 10^8 the search then takes 0.7 to 0.8 of the work on
-/// 2^15 nodes (family `large`).
+/// The search looks for exact prices once the slack is this power of 2 below the greatest cost,
+/// even if it is more than a unit. With costs up to 10^8 the search then takes 0.7 to 0.8 of the
+/// work on 2^15 nodes (family `large`).
 pub(crate) const FINE: u32 = 14;
 
 /// No more phases than this are begun; 64 bits of costs need 16.
 pub(crate) const MOST_PHASES: u32 = 100;
 
-/// How many arcs a path has at most. With 2, 3 or 6 a search takes as long, with 1 1.1 to 1.3 of the
-/// time, with 8 1.1 and with 20 1.7 of it on grids.
+/// How many arcs a path has at most. With 2, 3 or 6 a search takes as long, with 1 1.1 to 1.3 of
+/// the time, with 8 1.1 and with 20 1.7 of it on grids.
 pub(crate) const MOST_ARCS: usize = 4;
 
 /// The most nodes of a path.

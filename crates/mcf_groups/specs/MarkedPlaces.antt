@@ -1,7 +1,7 @@
 -- What marked places of a model with groups are told by: the numbers of the routes between them and
 -- the other places, which are those of a cut. Where marked places must send more than they can, the
--- routes out of them count their mosts, and those into them their leasts; where they must take more,
--- it is the other way round.
+-- routes out of them count their mosts, and those into them their leasts; where they must take
+-- more, it is the other way round.
 -- Source: own, after AMO 6.7
 use Rattle.std.specs.Prelude.{◌≡◌, ℕ, suc, nat_lt, Bool, true, false, not, ◌&&◌, if◌then◌else◌, List, [], ◌∷◌, ◌++◌, drop, length, map, take}
 use Rattle.mcf_flows.specs.declared.problem.Side.{Side}

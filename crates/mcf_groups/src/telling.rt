@@ -20,8 +20,8 @@ use mcf_text::NoMemory;
 use std::alloc::Global;
 
 /// Persons, things, pairs and groups that allow no choice together. The leasts of those who must
-/// have more, with the leasts of groups, add up to more than the mosts of the others, with the mosts
-/// of groups and the number of pairs that count one more.
+/// have more, with the leasts of groups, add up to more than the mosts of the others, with the
+/// mosts of groups and the number of pairs that count one more.
 #[derive(Drop)]
 pub struct ToldGroups {
     pub found: Competition,

@@ -481,16 +481,16 @@ fn text_of(alloc: Global, options: Options, answer: &GroupsAnswer) -> Result<Pla
 
 /// Chooses pairs of persons and things that keep to groups, as `plan_groups` does, and returns the
 /// answer as the text of a table, whose rows are those of `pair_text` with further ones. Of a
-/// choice, for each group and each person or thing that may have members of it `group`, the line
-/// on which the group is named first, its name, `person` or `thing`, the name of that one, and how
+/// choice, for each group and each person or thing that may have members of it `group`, the line on
+/// which the group is named first, its name, `person` or `thing`, the name of that one, and how
 /// many members it has; and if groups that cross others were left out, `crossing` for each, its
 /// line, its name and the name of the group that it crosses, and `broken`, as `group`, for each
 /// person or thing that has fewer or more members of it than its range says. Of persons and things
 /// that compete, `group` for each person or thing for which a number of a group's range counts, the
 /// same with that number, and `least` or `most`, which number it is; and `crossing`. Faults of the
-/// table of groups have `groups` for `costs`; those of groups that cross others have rows `crossing`
-/// after them. At the end both tables stand, and then the row of totals of the costs that isn't
-/// read.
+/// table of groups have `groups` for `costs`; those of groups that cross others have rows
+/// `crossing` after them. At the end both tables stand, and then the row of totals of the costs
+/// that isn't read.
 ///
 /// # Errors
 ///

@@ -138,13 +138,7 @@ fn put_bound_row(
     put_line(
         out,
         &[
-            b"group",
-            line,
-            name,
-            owner.kind,
-            owner.name,
-            end.number,
-            end.word,
+            b"group", line, name, owner.kind, owner.name, end.number, end.word,
         ],
     )
 }
