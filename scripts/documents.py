@@ -397,7 +397,7 @@ FUNCTIONS = {
 # What PLANS names and TABLES defines, in the order in which TABLES needs it.
 TABLE_NAMES = """
 Reads named_separator front_lines SplitsBest head_row
-cells_of mcf_reading.head_faults place_columns route_columns all_step_columns
+cells_of mcf_reading.head_faults mcf_reading.read_heads place_columns route_columns all_step_columns
 mcf_reading.settled_mark number_cells
 is_filled cell_at read_number read_amount read_penalty is_no_limit read_limit is_yes way_kind
 number_of
@@ -405,6 +405,7 @@ mcf_reading.name_kind no_place_kind mcf_reading.cell_faults
 scales_of great_faults planner_faults IsProperPlanner steps_in rows_in
 numbers_of is_bounded
 IsBeyond limited shortage_of IsShownIn mcf_places.origin_of
+prepared_places prepared_routes done_to
 tells_periods IsPeriodTableAnswer
 """
 
