@@ -18,7 +18,7 @@ import {
 } from './periods.js';
 import { NEEDED, numberCells, readLine } from './sentences.js';
 import { SPOT_HEADS, spotsOf } from './spots.js';
-import { Table, cellAt, fold } from './tables.js';
+import { Table, cellAt, fold, notesOf } from './tables.js';
 import { words } from './words.js';
 
 const BOUND_HEADS = ['least', 'most', 'cost'];
@@ -43,7 +43,7 @@ export class Problem {
   constructor(answer, texts, reading, penalty = '') {
     this.mark = answer.mark;
     this.reading = reading;
-    this.notes = texts.flatMap(({ notes }) => notes);
+    this.notes = notesOf(texts);
     this.placeTable = new Table(texts[0], answer.tables.get('places'));
     this.routeTable = new Table(texts[1], answer.tables.get('routes'));
     this.periods = periodsOf(this.placeTable);

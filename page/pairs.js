@@ -5,8 +5,9 @@ import { TOLD_NAMES, countOf, listed } from './faults.js';
 import { groupLines, leftOutLines } from './groups.js';
 import { carriedLines, carriedOf } from './heads.js';
 import { partsOf } from './network.js';
-import { FORBIDDEN, NEEDED, isList, numberCells, readLine } from './sentences.js';
-import { Table, cellAt, fold } from './tables.js';
+import { FORBIDDEN } from './prepare.js';
+import { NEEDED, isList, numberCells, readLine } from './sentences.js';
+import { Table, cellAt, fold, notesOf } from './tables.js';
 import { words } from './words.js';
 
 /**
@@ -30,7 +31,7 @@ export class Roster {
     this.maximise = maximise;
     this.each = each;
     this.mark = answer.mark;
-    this.notes = [...text.notes, ...(groups ? groups.notes : [])];
+    this.notes = notesOf(groups ? [text, groups] : [text]);
     this.table = new Table(text, answer.tables.get('costs'));
     this.groupTable = groups ? new Table(groups, answer.tables.get('groups')) : null;
     this.isList = isList(this.table);

@@ -36,12 +36,12 @@ export class FlowPlan {
       kept.get(JSON.stringify([problem.places[tail - 1].name, departs]))
     );
     this.hasRanges = Boolean(policy.ranges);
-    const changes = new Map(answer.rows('range').map(([line, from, , down, up, period = '']) =>
-      [JSON.stringify([line, from, period]), [down, up]]
+    const changes = new Map(answer.rows('range').map(([line, from, to, down, up, period = '']) =>
+      [JSON.stringify([line, from, to, period]), [down, up]]
     ));
     this.ranges = problem.routes.map((route) => {
-      const from = problem.places[route.tail - 1].name;
-      const key = JSON.stringify([String(route.line), from, route.departs]);
+      const ends = [route.tail, route.head].map((end) => problem.places[end - 1].name);
+      const key = JSON.stringify([String(route.line), ...ends, route.departs]);
       return this.range(route, changes.get(key));
     });
     /** @type {Map<string, number>} */

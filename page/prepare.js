@@ -1,18 +1,17 @@
 // @ts-check
-// What becomes of the text of a table before the module reads it: cells that take the value above
-// them, a row of totals that is left out, and a matrix of costs of routes or a sheet of wishes that
-// becomes a list.
-import { decimalsOf, exactOf, isNumber, scaled } from './amounts.js';
-import { BadTable, countOf, listed, shown } from './faults.js';
+// What becomes of the text of a table before the module reads it: cells take the value above them,
+// and a sheet of wishes becomes a list.
+import { isNumber } from './amounts.js';
+import { BadTable, countOf, shown } from './faults.js';
 import { words } from './words.js';
 
 /** @typedef {import('./tables.js').TableText} TableText */
 
-// The heads of names, and the heads of numbers that a row of totals may add up.
+// The heads of names, and those of numbers.
 const NAMED_HEADS = ['name', 'from', 'to', 'who', 'what'];
-const SUMMED_HEADS = ['supply', 'least', 'most', 'cost'];
-// The cells of a matrix without a route.
-const NO_ROUTE = ['', 'x', '-', '–', '—'];
+const NUMBERED_HEADS = ['supply', 'least', 'most', 'cost'];
+// The cells that forbid a pair.
+export const FORBIDDEN = ['', 'x', '-', '–', '—'];
 // The heads of wishes: 1, 2nd, third, wish 4, 5. Wunsch, Erstwunsch and so on; and the cells that
 // are no wish.
 const ORDINALS = 'first second third fourth fifth erst zweit dritt viert fünft'.split(' ');
@@ -27,7 +26,7 @@ const TOTALS = ['', 'total', 'totals', 'sum', 'gesamt', 'gesamtsumme', 'summe', 
 // The most lines of a row of heads.
 const SPANNED = 50;
 // The heads of which tables are known.
-const WANTED = [...NAMED_HEADS, ...SUMMED_HEADS];
+const WANTED = [...NAMED_HEADS, ...NUMBERED_HEADS];
 
 /** @type {(text: string) => string} */
 const titled = (text) => text.normalize('NFC').trim().toLowerCase();
@@ -115,14 +114,15 @@ class TextRows {
       .filter((k) => wanted.includes(this.heads[k]) || wanted.includes(this.titles[k]));
   }
 
-  // This method gives empty cells of a column the value above them, and returns how many there
-  // were, or null if there is no such column.
+  // This method gives empty cells of a column the value above them, but for a last row that may
+  // have totals. It returns how many there were, or null if there is no such column.
   /** @type {(column: string) => number | null} */
   fillDown(column) {
     const [place] = this.places([titled(column)]);
     if (place === undefined) return null;
     let count = 0, above = '';
-    for (const { cells, begin, end } of this.below()) {
+    const rows = this.below();
+    for (const { cells, begin, end } of this.mayBeTotal(rows) ? rows.slice(0, -1) : rows) {
       while (cells.length <= place) cells.push('');
       if (!cells[place] && above) {
         cells[place] = above;
@@ -137,69 +137,13 @@ class TextRows {
     return count;
   }
 
-  // This method returns the last row, if it is one of totals: its names are empty or say so, and
-  // its numbers are the sums of those above, which are two at least.
-  /** @type {() => TextRow | null} */
-  total() {
-    let line = this.lines.length - 1;
-    while (line > 0 && !this.lines[line].trim()) line--;
-    const cells = this.cells(line, this.mark), names = this.places(NAMED_HEADS);
-    if (!names.length || names.some((k) => !TOTALS.includes(titled(cells[k] || '')))) return null;
-    const rows = this.below(), last = rows.pop();
-    const numbers = this.places(SUMMED_HEADS).filter((k) => cells[k]);
-    const isTotal = rows.length > 1 && last.end - last.begin === 1 && numbers.length
-      && numbers.every((k) => isSum(rows.map((row) => row.cells[k]).filter(Boolean), cells[k]));
-    return isTotal ? last : null;
+  // This method says whether all names of the last one of some rows are empty or say that it has
+  // totals.
+  /** @type {(rows: TextRow[]) => boolean} */
+  mayBeTotal(rows) {
+    const last = rows[rows.length - 1]?.cells || [];
+    return this.places(NAMED_HEADS).every((k) => TOTALS.includes(titled(last[k] || '')));
   }
-}
-
-// This function says whether cells are numbers that add up to another cell, by one mark before
-// decimals.
-/** @type {(cells: string[], total: string) => boolean} */
-const isSum = (cells, total) => [...cells, total].every(isNumber) && ['.', ','].some((mark) => {
-  const values = [...cells, total].map((cell) => exactOf(cell, mark));
-  const [whole, ...parts] = values.map((value) => scaled(value, decimalsOf(values))).reverse();
-  return parts.reduce((sum, part) => sum + part, 0n) === whole;
-});
-
-// This function returns the rows of a text that has some of these names as the titles of its
-// columns, as a matrix of costs has; or null.
-/** @type {(text: TableText, names: Set<string>) => TextRows | null} */
-function matrixOf(text, names) {
-  const rows = new TextRows(text), [line] = text.headLines();
-  for (const mark of text.separators) {
-    const titles = rows.cells(line, mark).slice(1);
-    if (titles.length > 1 && 2 * titles.filter((one) => names.has(one)).length >= titles.length) {
-      return Object.assign(rows, { begin: line, mark });
-    }
-  }
-  return null;
-}
-
-// This function turns a matrix of costs, from the places on the left to those above, into a list of
-// routes without a limit. The text gets a note that it did so.
-/** @type {(places: TableText, routes: TableText) => void} */
-function listMatrix(places, routes) {
-  const found = new TextRows(places), [column] = found.places(['name']);
-  const names = new Set(found.below().map(({ cells }) => cells[column]).filter(Boolean));
-  const isList = new TextRows(routes).heads.slice(1)
-    .some((head) => ['from', 'to', ...SUMMED_HEADS].includes(head));
-  const rows = isList ? null : matrixOf(routes, names);
-  if (!rows) return;
-  const titles = rows.cells(rows.begin, rows.mark), lines = [['from', 'to', 'most', 'cost']];
-  for (const { cells } of rows.below()) {
-    cells.slice(0, titles.length).forEach((cost, k) => {
-      if (k && !NO_ROUTE.includes(cost.toLowerCase()) && cells[0] !== titles[k]) {
-        lines.push([cells[0], titles[k], '', cost]);
-      }
-    });
-  }
-  becomeList(routes, rows.mark, lines);
-  routes.notes.push(
-    `${routes.name} is a matrix: it is read as a list of `
-      + `${countOf(lines.length - 1, 'route', 'routes')} without a limit, from the places on the `
-      + 'left to those above.'
-  );
 }
 
 // This function gives a table the text of a list.
@@ -234,7 +178,7 @@ function wishesOf(text) {
       if (!places.length) continue;
       Object.assign(rows, { begin, mark });
       const found = rows.below().flatMap(({ cells }) => places.map((place) => cells[place] || ''))
-        .filter((cell) => !NO_ROUTE.includes(cell.toLowerCase()));
+        .filter((cell) => !FORBIDDEN.includes(cell.toLowerCase()));
       return 2 * found.filter(isNumber).length < found.length ? { rows, places } : null;
     }
   }
@@ -285,24 +229,11 @@ function listWishes(costs) {
   );
 }
 
-// This function fills columns of texts down, leaves rows of totals out, and turns a matrix of costs
-// of routes into a list, a sheet of wishes into one of pairs. The texts get notes on what it did.
-// It throws a BadTable for a column that no text has.
+// This function turns a sheet of wishes into a list of pairs, and fills columns of texts down. The
+// texts get notes on what it did. It throws a BadTable for a column that no text has.
 /** @type {(texts: TableText[], columns: string[], isPairs: boolean) => void} */
 export function prepare(texts, columns, isPairs) {
   if (isPairs) listWishes(texts[0]);
-  else listMatrix(texts[0], texts[1]);
-  for (const text of texts) {
-    const last = new TextRows(text).total();
-    if (last) {
-      const cells = listed(last.cells.filter(Boolean).map(shown));
-      text.notes.push(
-        `${text.name}, line ${last.begin + 1} is left out: it has the sums of the lines above `
-          + `(${cells}).`
-      );
-      text.text = text.text.split('\n').slice(0, last.begin).join('\n');
-    }
-  }
   for (const column of columns) {
     const counts = texts.map((text) => new TextRows(text).fillDown(column));
     if (counts.every((count) => count === null)) {
@@ -313,4 +244,11 @@ export function prepare(texts, columns, isPairs) {
       if (counts[k]) notes.push(`${name}, column ${column}: ${told} the value above.`);
     });
   }
+}
+
+// This function returns the cells of the first row of a text, none if it is empty.
+/** @type {(text: string, mark: string) => string[]} */
+export function firstRow(text, mark) {
+  for (const { cells } of rowsIn(text, mark)) return cells;
+  return [];
 }

@@ -20,7 +20,7 @@ import { Roster } from './pairs.js';
 import { FlowPlan } from './plan.js';
 import { Teller } from './sentences.js';
 import { NoAnswer, bottlenecksOf, linesOf, planOf } from './solving.js';
-import { textsOf } from './tables.js';
+import { notesOf, textsOf } from './tables.js';
 import { grouped } from './view.js';
 import { CODES, words } from './words.js';
 
@@ -32,21 +32,24 @@ const PENALTY = /^[0-9]{1,18}(?:([.,])[0-9]{1,18})?$/;
 
 /** @typedef {import('./tables.js').TableText} TableText */
 
-// This function has the module answer texts.
+// This function has the module answer texts, which have these words in answers. They note what it
+// changed.
 /**
  * @param {Solver} solver
- * @param {TableText[]} texts
+ * @param {Record<string, TableText>} texts
  * @param {Reading} reading
  * @param {TableOptions} options
  * @returns {Promise<{ found: Answer, result: Result }>}
  */
 async function untold(solver, texts, reading, options) {
-  const decimal = reading.decimal || '', bytes = texts.map((text) => text.bytes());
+  const decimal = reading.decimal || '', bytes = Object.values(texts).map((text) => text.bytes());
   const result = await solver.plan(bytes, { decimal, ...options });
   if (!['flow', 'blocked', 'refused'].includes(result.status)) {
     throw new NoAnswer(result.status, result.why);
   }
-  return { found: new Answer(result.answer), result };
+  const found = new Answer(result.answer);
+  for (const [word, text] of Object.entries(texts)) text.change(word, found);
+  return { found, result };
 }
 
 // This function has the module answer texts, which have these words in answers, and throws a
@@ -60,9 +63,9 @@ async function untold(solver, texts, reading, options) {
  * @returns {Promise<{ found: Answer, result: Result }>}
  */
 async function answered(solver, texts, reading, options, faults) {
-  const answer = await untold(solver, Object.values(texts), reading, options);
+  const answer = await untold(solver, texts, reading, options);
   new Teller(texts, reading, faults, options.penalty).tell(answer.found);
-  faults.end(Object.values(texts).flatMap(({ notes }) => notes));
+  faults.end(notesOf(Object.values(texts)));
   return answer;
 }
 
@@ -111,7 +114,7 @@ export async function flowOf(solver, sources, { reading, policy }) {
   if (surplus) {
     const unused = policy.unused || surplus > 0n, short = policy.short || surplus < 0n;
     const options = { ...more, unused, short };
-    const { found: answer } = await untold(solver, [places, routes], reading, options);
+    const { found: answer } = await untold(solver, texts, reading, options);
     eased = { policy: { unused, short }, answer };
   }
   return { problem, blocked: new Blocked(problem, policy, found, eased), result };

@@ -3,6 +3,7 @@
 import { ZERO, compare, decimalText, exactOf, markIn } from './amounts.js';
 import { at, countOf, listed, shown } from './faults.js';
 import { nearTo } from './near.js';
+import { FORBIDDEN } from './prepare.js';
 import { spotsOf } from './spots.js';
 import { LOOKED, Table, cellAt, escaped, fold } from './tables.js';
 import { words } from './words.js';
@@ -21,8 +22,6 @@ export const NEEDED = {
   costs: ['who', 'what', 'cost'],
   groups: ['group'],
 };
-// The cells that forbid a pair.
-export const FORBIDDEN = ['', 'x', '-', '–', '—'];
 const WISHES =
   '; if these are wishes, call the column of the names who and those of the wishes 1, 2 and so on, '
     + 'or write a list with a line who, what, cost for each wish';

@@ -1,10 +1,11 @@
 // @ts-check
 // Tables: their texts, from files or pasted, for the module; and their rows, as an answer repeats
 // them.
-import { BadTable, at, shown } from './faults.js';
-import { prepare } from './prepare.js';
+import { BadTable, at, countOf, listed, shown } from './faults.js';
+import { firstRow, prepare } from './prepare.js';
 import { words } from './words.js';
 
+/** @typedef {import('./answer.js').Answer} Answer */
 /** @typedef {import('./faults.js').Faults} Faults */
 
 const SEPARATOR_LINE = /^"?sep=([^" \n])"?[^\S\n]*(?:\n|$)/i;
@@ -93,7 +94,8 @@ export const escaped = (text) => text.replace(/[\\^$.*+?()[\]{}|]/g, '\\$&');
 const withFeeds = (text) => text.replace(/\r\n?/g, '\n');
 
 // A text for the module, in normal form C, with a line feed at the end of each line. `own` has the
-// planner's titles by the heads that replace them in the text; `notes` say what was changed in it.
+// planner's titles by the heads that replace them in the text; `notes` say what was changed in it,
+// and `changes` what an answer changed.
 export class TableText {
   /**
    * @param {Source} source
@@ -111,6 +113,9 @@ export class TableText {
     this.own = new Map();
     /** @type {string[]} */
     this.notes = [];
+    /** @type {string[]} */
+    this.changes = [];
+    this.isMatrix = false;
     if (!this.text.trim()) {
       throw new BadTable([
         `${name}, line 1: the table is empty; its first line has the heads of the columns`,
@@ -168,9 +173,11 @@ export class TableText {
     });
   }
 
-  // This method returns the separator by which the text has these titles.
+  // This method returns the separator by which the text has these titles. That of a matrix splits
+  // its heads into most.
   /** @type {(read: AnsweredTable) => string} */
   separator({ headLine, titles }) {
+    if (this.isMatrix) return this.splitOf(headLine).mark;
     const text = this.text.split('\n').slice(headLine - 1).join('\n');
     const known = [...this.separators.slice(SEPARATORS.length) + SEPARATORS];
     return known.map(escaped).find((mark) => {
@@ -179,6 +186,35 @@ export class TableText {
         .map(([inside, plain]) => `${blanks}(?:"\\s*${inside}\\s*"|${plain})${blanks}`);
       return new RegExp(`^${heads.join(mark)}(?![^\\r\\n])`).test(text);
     })?.slice(-1) || ',';
+  }
+
+  // This method returns the cells of the row that begins in a line, by the separator that splits it
+  // into most.
+  /** @type {(line: number) => { mark: string, cells: string[] }} */
+  splitOf(line) {
+    const text = this.text.split('\n').slice(line - 1).join('\n');
+    return [...this.separators].map((mark) => ({ mark, cells: firstRow(text, mark) }))
+      .reduce((most, one) => (one.cells.length > most.cells.length ? one : most));
+  }
+
+  // This method notes what an answer changed in the table, which has this word there, before it was
+  // read: a matrix became a list, a row of totals was left out.
+  /** @type {(word: string, answer: Answer) => void} */
+  change(word, answer) {
+    const mine = (/** @type {string} */ kind) =>
+      answer.rows(kind).filter(([name]) => name === word);
+    this.isMatrix = mine('list').length > 0;
+    this.changes = [
+      ...mine('list').map(([, count]) =>
+        `${this.name} is a matrix: it is read as a list of `
+          + `${countOf(Number(count), 'route', 'routes')} without a limit, from the places on the `
+          + 'left to those above.'
+      ),
+      ...mine('left out').map(([, line]) =>
+        `${this.name}, line ${line} is left out: it has the sums of the lines above `
+          + `(${listed(this.splitOf(Number(line)).cells.filter(Boolean).map(shown))}).`
+      ),
+    ];
   }
 
   bytes() { return new TextEncoder().encode(this.text); }
@@ -205,6 +241,10 @@ export function textsOf(sources, reading, faults, isPairs = false) {
   prepare(texts, reading.fillDown || [], isPairs);
   return texts;
 }
+
+// This function returns the notes on what was changed in texts before they were read.
+/** @type {(texts: TableText[]) => string[]} */
+export const notesOf = (texts) => texts.flatMap(({ notes, changes }) => [...notes, ...changes]);
 
 // The rows of a table. `heads` are its heads in small letters, `titles` as the planner wrote them.
 export class Table {

@@ -43,9 +43,13 @@ class Asking:
         more = ["--decimal", self.decimal, *more] if self.decimal else more
         texts = {word: table.text for word, table in zip(self.words, self.tables)}
         found = answer_to(self.program, [self.command, *more], texts)
+        lists = {word for word, _ in found.rows["list"]}
         for word, table in zip(self.words, self.tables):
-            if word in found.sheets:
+            if word in lists:
+                table.become_matrix(found.sheets[word])
+            elif word in found.sheets:
                 found.sheets[word].narrow(table.width)
+            table.changes = notes.changed_lines(word, table, found)
         return found
 
     def answer(self, *more):

@@ -119,13 +119,32 @@ def number_cells(word, table, sheet):
         places = [place for place, head in enumerate(sheet.heads) if head in heads]
     for line, cells in sheet.rows:
         for place in places:
-            if (line, place) not in table.figures:
+            if table.figure(line, cells, place) is None:
                 yield table, line, cell_at(cells, place)
 
 
+def changed_lines(word, table, answer):
+    """Lines on what `mcfplan` changed in a table before it read it: a matrix became a list, a row
+    of totals was left out."""
+    lines = [
+        f"{table.name} is a matrix: it is read as a list of"
+        f" {count_of(int(count), 'route', 'routes')} without a limit, from the places on the left"
+        " to those above."
+        for name, count in answer.rows["list"]
+        if name == word
+    ]
+    lines += [
+        f"{table.name}, line {line} is left out: it has the sums of the lines above"
+        f" ({listed([shown(cell) for cell in table.fields(int(line)) if cell])})."
+        for name, line in answer.rows["left out"]
+        if name == word
+    ]
+    return lines
+
+
 def prepared_lines(tables):
-    """The notes of tables on what was changed in their texts."""
-    return [line for table in tables if table for line in table.notes]
+    """The notes of tables on what was changed before they were read."""
+    return [line for table in tables if table for line in table.notes + table.changes]
 
 
 def supply_lines(problem):

@@ -1,20 +1,17 @@
-"""What becomes of the text of a table before `mcfplan` reads it: cells that take the value above
-them, a row of totals that is left out, and a matrix of costs of routes or a sheet of wishes that
-becomes a list."""
+"""What becomes of the text of a table before `mcfplan` reads it: cells take the value above them,
+and a sheet of wishes becomes a list."""
 import csv
 import io
 import re
 import unicodedata
 
 from .faults import Stop, shown
-from .figures import MARKED, value_of
-from .words import count_of, listed
+from .figures import MARKED
+from .words import count_of
 
-ENDS = ("from", "to")
-# The heads of names, and the heads of numbers that a row of totals may add up.
+# The heads of names.
 NAMES = ("name", "from", "to", "who", "what")
-NUMBERS = ("supply", "least", "most", "cost")
-# The cells that forbid a pair, or a route of a matrix.
+# The cells that forbid a pair.
 FORBIDDEN = ("", "x", "-", "–", "—")
 # The heads of wishes: 1, 2nd, third, wish 4, 5. Wunsch, Erstwunsch and so on; and the cells that
 # are no wish.
@@ -79,12 +76,13 @@ class Rows:
         return [place for place, names in pairs if not set(names).isdisjoint(heads)]
 
     def fill_down(self, column):
-        """Gives empty cells of a column the value above them. Returns how many there were, or None
-        if there is no such column."""
+        """Gives empty cells of a column the value above them, but for a last row that may have
+        totals. Returns how many there were, or None if there is no such column."""
         places, count, above = self.places([named(column)]), 0, ""
         if not places:
             return None
-        for cells, begin, end in self.below():
+        rows = self.below()
+        for cells, begin, end in rows[:-1] if self.may_be_total(rows) else rows:
             cells += [""] * (places[0] + 1 - len(cells))
             if not cells[places[0]] and above:
                 cells[places[0]], count = above, count + 1
@@ -100,70 +98,15 @@ class Rows:
         lines = text.getvalue()[:-1].split("\n")
         return lines + [""] * (count - len(lines))
 
-    def total(self):
-        """The last row, if it is one of totals: its names are empty or say so, and its numbers are
-        the sums of those above, which are two at least."""
-        line = next((number for number, one in enumerate(reversed(self.lines)) if one.strip()), 0)
-        cells = dict(enumerate(self.cells(len(self.lines) - 1 - line, self.mark)))
-        names = self.places(NAMES)
-        if not names or any(named(cells.get(place, "")) not in TOTALS for place in names):
-            return None
-        *above, last = self.below() or [None]
-        numbers = [place for place in self.places(NUMBERS) if cells.get(place)]
-        columns = [[row[place] for row, _, _ in above if place < len(row)] for place in numbers]
-        sums = zip(columns, (cells[place] for place in numbers))
-        is_total = len(above) > 1 and last[2] - last[1] == 1 and numbers
-        return last if is_total and all(is_sum(*one) for one in sums) else None
+    def may_be_total(self, rows):
+        """Whether all names of the last one of some rows are empty or say that it has totals."""
+        names, last = self.places(NAMES), dict(enumerate(rows[-1][0] if rows else ()))
+        return all(named(last.get(place, "")) in TOTALS for place in names)
 
 
 def is_number(cell):
     """Whether a cell is a number as people write it."""
     return any(c.isdigit() for c in cell) and MARKED.fullmatch(cell) is not None
-
-
-def is_sum(cells, total):
-    """Whether cells are numbers that add up to another cell, by one mark before decimals."""
-    cells = [*filter(None, cells), total]
-    if not all(map(is_number, cells)):
-        return False
-    return any(
-        sum(value_of(cell, mark) for cell in cells[:-1]) == value_of(total, mark) for mark in ".,"
-    )
-
-
-def matrix_of(table, names):
-    """The rows of a table that has some of these names as the titles of its columns, as a matrix of
-    costs has; or None."""
-    rows, (number, _) = Rows(table, ENDS), table.head_lines()[0]
-    for mark in table.separators:
-        titles = rows.cells(number - 1, mark)[1:]
-        if len(titles) > 1 and 2 * sum(title in names for title in titles) >= len(titles):
-            rows.begin, rows.mark = number - 1, mark
-            return rows
-    return None
-
-
-def list_matrix(places, routes):
-    """Turns a matrix of costs, from the places on the left to those above, into a list of routes
-    without a limit. Notes in the table that it did so."""
-    found = Rows(places, ("name", "supply"))
-    column = found.places(["name"])
-    names = {cells[column[0]] for cells, _, _ in found.below() if column and column[0] < len(cells)}
-    is_list = {*ENDS, *NUMBERS}.intersection(Rows(routes, ENDS).heads[1:])
-    rows = None if is_list else matrix_of(routes, names)
-    if not rows:
-        return
-    titles, lines = rows.cells(rows.begin, rows.mark), []
-    for cells, begin, _ in rows.below():
-        for place, cost in list(enumerate(cells))[1 : len(titles)]:
-            if cost.lower() not in FORBIDDEN and cells[0] != titles[place]:
-                lines.append(((cells[0], titles[place], "", cost), {3: (begin + 1, place)}))
-    become_list(routes, rows.mark, ("from", "to", "most", "cost"), lines)
-    told = count_of(len(lines), "route", "routes")
-    routes.notes.append(
-        f"{routes.name} is a matrix: it is read as a list of {told} without a limit, from the"
-        " places on the left to those above."
-    )
 
 
 def become_list(table, mark, heads, lines):
@@ -255,22 +198,10 @@ def list_wishes(costs):
 
 
 def prepare(tables, wanted, columns):
-    """Fills columns of tables down, leaves rows of totals out, and turns a matrix of costs into a
-    list of routes, a sheet of wishes into one of pairs. Notes in the tables what it did; a column
-    that no table has ends the run."""
-    if "supply" in wanted[0]:
-        list_matrix(*tables)
-    else:
+    """Turns a sheet of wishes into a list of pairs, and fills columns of tables down. Notes in the
+    tables what it did; a column that no table has ends the run."""
+    if "who" in wanted[0]:
         list_wishes(tables[0])
-    for table, heads in zip(tables, wanted):
-        last = Rows(table, heads).total()
-        if last:
-            cells, begin, _ = last
-            table.notes.append(
-                f"{table.name}, line {begin + 1} is left out: it has the sums of the lines above"
-                f" ({listed([shown(cell) for cell in cells if cell])})."
-            )
-            table.text = "\n".join(table.text.split("\n")[:begin])
     for column in columns:
         counts = [Rows(table, heads).fill_down(column) for table, heads in zip(tables, wanted)]
         if not any(count is not None for count in counts):

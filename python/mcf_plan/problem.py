@@ -176,8 +176,12 @@ class Problem:
     def ranges(self):
         """The ranges of the costs of the routes, or None for one that isn't told."""
         rows = self.answer.rows["range"]
-        changes = {int(line): [*map(number_in, cells)] for line, _, _, *cells in rows}
-        return [cost_range(route, changes.get(route.line)) for route in self.routes]
+        changes = {
+            (int(line), tail, head): (number_in(down), number_in(up))
+            for line, tail, head, down, up in rows
+        }
+        keys = ((route.line, *self.ends(route)) for route in self.routes)
+        return [cost_range(route, changes.get(key)) for route, key in zip(self.routes, keys)]
 
 
 class Plan:

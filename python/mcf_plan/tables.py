@@ -8,6 +8,7 @@ import pathlib
 import re
 import unicodedata
 
+from .answer import cell_at
 from .faults import At, bad_table, shown
 from .figures import Figure
 from .preparing import prepare
@@ -28,6 +29,8 @@ BLANKS = (
 SEPARATOR_LINE = re.compile(r'"?sep=([^" \n])"?[^\S\n]*(?=\n|$)', re.IGNORECASE)
 # The separators that heads show by themselves.
 SEPARATORS = ",;\t"
+# The place of the costs in the list of a matrix, after both ends and the limit.
+MATRIX_COST = 3
 # The number of lines that aren't blank among which the heads are.
 LOOKED = 10
 # The first bytes of other kinds of files.
@@ -43,11 +46,13 @@ class Table:
     `mcfplan` reads all of them. `has_mark` says whether its file
     has a byte-order mark; `own` has the user's titles by those that replace them in the text;
     `figures` has the numbers of a sheet by their lines and places, `width` the number of its
-    columns; `sha256` is that of its file, once it was read; `notes` say what was changed in it."""
+    columns; `sha256` is that of its file, once it was read. If an answer reads it as a matrix of
+    costs, `columns` has the places of its columns by their heads. `notes` say what was changed in
+    it, and `changes` what the answer changed."""
 
     def __init__(self, name, text, has_mark=False, book=None, figures=None):
         self.name, self.has_mark, self.book, self.figures = name, has_mark, book, figures or {}
-        self.width, self.notes = None, []
+        self.width, self.columns, self.notes, self.changes = None, {}, [], []
         self.text, self.own, self.sha256 = unicodedata.normalize("NFC", with_feeds(text)), {}, None
         if not self.text.strip(BLANKS):
             raise bad_table(
@@ -99,17 +104,34 @@ class Table:
 
     def separator(self, sheet):
         """The separator by which the text has the heads of a sheet."""
-        text = self.text.split("\n", sheet.head_line - 1)[-1]
-        for mark in self.separators[len(SEPARATORS) :] + SEPARATORS:
-            rows = csv.reader(io.StringIO(text, newline=""), delimiter=mark, skipinitialspace=True)
-            if [cell.strip(BLANKS) for cell in next(rows)] == sheet.titles:
-                return mark
-        return ","
+        titles = list(self.columns) or sheet.titles
+        known = self.separators[len(SEPARATORS) :] + SEPARATORS
+        return next((m for m in known if self.fields(sheet.head_line, m) == titles), ",")
+
+    def fields(self, line, mark=None):
+        """The cells of the row that begins in a line, by a separator, or by the one that splits it
+        into most."""
+        text = self.text.split("\n", line - 1)[-1]
+        rows = (
+            next(csv.reader(io.StringIO(text, newline=""), delimiter=one, skipinitialspace=True))
+            for one in mark or self.separators
+        )
+        return max(([cell.strip(BLANKS) for cell in row] for row in rows), key=len)
+
+    def become_matrix(self, sheet):
+        """Notes that an answer reads the table as a matrix of costs, whose list it has."""
+        self.columns = {head: place for place, head in enumerate(self.fields(sheet.head_line))}
+
+    def figure(self, line, cells, place):
+        """The number that the sheet has in a cell of a row of the answer, or None."""
+        if self.columns:
+            place = self.columns.get(cells[1]) if place == MATRIX_COST else None
+        return self.figures.get((line, place))
 
     def cell(self, line, cells, place):
         """A cell of a row of the answer: a figure if the sheet has a number there."""
-        found = cells[place] if place < len(cells) else ""
-        return self.figures.get((line, place), found)
+        found = self.figure(line, cells, place)
+        return cell_at(cells, place) if found is None else found
 
     def title(self, title):
         """A title as the user has it."""
