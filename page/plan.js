@@ -10,6 +10,26 @@ import { size } from './model.js';
 
 export const STAYS = '(stays)', MISSING = '(missing)', THROUGH = '(through)';
 
+// This function returns what rows of an answer, as pairs of a key and a value, tell of keys;
+// undefined for a key that they don't. A key that stands several times, as that of routes of one
+// row of a matrix between the same places may, has its values in turn.
+/**
+ * @template T
+ * @param {[key: string[], value: T][]} rows
+ * @param {string[][]} keys
+ * @returns {T[]}
+ */
+function toldInTurn(rows, keys) {
+  /** @type {Map<string, T[]>} */
+  const found = new Map();
+  for (const [key, value] of rows) {
+    const name = JSON.stringify(key), values = found.get(name);
+    if (values) values.push(value);
+    else found.set(name, [value]);
+  }
+  return keys.map((key) => found.get(JSON.stringify(key))?.shift());
+}
+
 // The results of a plan; null where a figure is beyond what figures take. For a route, or for what
 // passes through a place: the amount, its cost, the residual capacity (null: no limit), what one
 // more unit of capacity saves, whether that saving is exact, and what it costs at least to carry
@@ -36,14 +56,13 @@ export class FlowPlan {
       kept.get(JSON.stringify([problem.places[tail - 1].name, departs]))
     );
     this.hasRanges = Boolean(policy.ranges);
-    const changes = new Map(answer.rows('range').map(([line, from, to, down, up, period = '']) =>
-      [JSON.stringify([line, from, to, period]), [down, up]]
-    ));
-    this.ranges = problem.routes.map((route) => {
-      const ends = [route.tail, route.head].map((end) => problem.places[end - 1].name);
-      const key = JSON.stringify([String(route.line), ...ends, route.departs]);
-      return this.range(route, changes.get(key));
-    });
+    const changes = toldInTurn(
+      answer.rows('range').map(([line, from, to, down, up, period = '']) =>
+        [[line, from, to, period], [down, up]]
+      ),
+      problem.routes.map((route) => this.keyOf(route))
+    );
+    this.ranges = problem.routes.map((route, k) => this.range(route, changes[k]));
     /** @type {Map<string, number>} */
     const groups = new Map();
     /** @type {PlaceResult[]} */
@@ -73,12 +92,21 @@ export class FlowPlan {
   // This method returns the results of departures.
   /** @type {(answer: Answer) => RouteResult[]} */
   departures(answer) {
-    const found = new Map(['route', 'back'].flatMap((word) => answer.rows(word).map((cells) =>
-      [JSON.stringify([cells[0], cells[9], word]), this.result(cells.slice(3))]
-    )));
-    return this.problem.routes.map(({ line, departs, isBack }) =>
-      found.get(JSON.stringify([String(line), departs, isBack ? 'back' : 'route']))
+    /** @type {(word: string) => [key: string[], value: RouteResult][]} */
+    const rowsOf = (word) => answer.rows(word).map((cells) =>
+      [[...cells.slice(0, 3), cells[9], word], this.result(cells.slice(3))]
     );
+    return toldInTurn(
+      [...rowsOf('route'), ...rowsOf('back')],
+      this.problem.routes.map((route) => [...this.keyOf(route), route.isBack ? 'back' : 'route'])
+    );
+  }
+
+  // This method returns the line of a route, the names of its ends, and its period.
+  /** @type {(route: Route) => string[]} */
+  keyOf({ line, tail, head, departs }) {
+    const ends = [tail, head].map((end) => this.problem.places[end - 1].name);
+    return [String(line), ...ends, departs];
   }
 
   /** @type {(text: string) => bigint} */

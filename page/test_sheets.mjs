@@ -39,6 +39,42 @@ async function flow(kind, places, routes, figures, policy = {}) {
   return flowOf(solver, sources, { reading: {}, policy });
 }
 
+// Routes of one row of a matrix share its line, and two of them may join the same places: each has
+// its own result in each period.
+async function matrixOverPeriods(expect) {
+  const lists = [['B', '1.5'], ['C', '2'], ['C', '3']], carried = ['1', '2', '0'];
+  const rows = [['answer', 'plan'], ['cost', '11']];
+  for (const period of ['May', 'June']) {
+    lists.forEach(([to], k) => {
+      rows.push(['route', 2, 'A', to, carried[k], '0', '', '0', 'yes', '0', period, period]);
+    });
+  }
+  for (const period of ['May', 'June']) {
+    for (const [k, name] of ['A', 'B', 'C'].entries()) {
+      rows.push(['place', k + 2, name, 0, 0, 0, 1, '', '', '', '', '', '', period]);
+    }
+  }
+  rows.push(['list', 'routes', 3], ['mark', '.']);
+  rows.push(['heads', 'places', 1, 'name', 'supply', 'period']);
+  rows.push(...[['A', 3, 'May'], ['B', -1, 'June'], ['C', -2, '']].map((cells, k) =>
+    ['row', 'places', k + 2, ...cells]
+  ));
+  rows.push(['heads', 'routes', 1, 'from', 'to', 'most', 'cost']);
+  rows.push(...lists.map(([to, cost]) => ['row', 'routes', 2, 'A', to, '', cost]));
+  const answer = rows.map((row) => `${row.map((cell) => `"${cell}"`).join(',')}\n`).join('');
+  const solver = { plan: async () => ({ status: 'flow', answer }) };
+  const texts = ['name;supply;period\nA;3;May\nB;-1;June\nC;-2;\n', ';A;B;C;C\nA;;1.5;2;3\n'];
+  const sources = texts.map((text, k) => ({ name: ['places', 'routes'][k], text }));
+  const { plan, problem } = await flowOf(solver, sources, { reading: {}, policy: {} });
+  const told = plan.routes.map(({ carries }, k) => [problem.routes[k].departs, String(carries)]);
+  expect(
+    JSON.stringify(told) === JSON.stringify(
+      carried.flatMap((amount) => [['May', amount], ['June', amount]])
+    ),
+    JSON.stringify(told)
+  );
+}
+
 // If two plans deliver different amounts, the page says so before their costs.
 async function delivered(expect) {
   const places = 'name;supply\nA;2,5\nB;-1,5\nC;-1\n';
@@ -227,5 +263,6 @@ function titled(expect) {
 
 export default async function test(expect) {
   titled(expect);
-  for (const part of [leads, totals, sums, steps, delivered, penalties]) await part(expect);
+  const parts = [leads, totals, sums, steps, delivered, penalties, matrixOverPeriods];
+  for (const part of parts) await part(expect);
 }

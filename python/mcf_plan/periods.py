@@ -2,7 +2,7 @@
 from one to the next."""
 from .answer import cell_at
 from .figures import number_in
-from .problem import ENDS, NO, Problem, Route, Step, cost_range, route_result
+from .problem import ENDS, NO, Problem, Route, Step, cost_range, route_result, told_in_turn
 
 KEEP_HEADS = ("keep most", "keep cost")
 
@@ -99,11 +99,17 @@ class PeriodProblem(Problem):
 
     def route_results(self):
         """The results of the departures of a plan."""
-        found = {}
-        for word in ("route", "back"):
-            for line, _, _, *cells in self.answer.rows[word]:
-                found[int(line), cells[6], word == "back"] = route_result(cells)
-        return [found[route.line, route.departs, route.is_back] for route in self.routes]
+        rows = (
+            ((int(line), tail, head, cells[6], word == "back"), route_result(cells))
+            for word in ("route", "back")
+            for line, tail, head, *cells in self.answer.rows[word]
+        )
+        return told_in_turn(rows, [(*self.key(route), route.is_back) for route in self.routes])
+
+    def key(self, route):
+        """The line of a departure, the names of its ends, and its period."""
+        tail, head = (self.places[end - 1].name for end in (route.tail, route.head))
+        return route.line, tail, head, route.departs
 
     def store_results(self):
         """The results of what places keep in a plan."""
@@ -113,12 +119,9 @@ class PeriodProblem(Problem):
 
     def ranges(self):
         """The ranges of the costs of the departures, or None for one that isn't told."""
-        changes = {}
-        for line, tail, _, low, high, *more in self.answer.rows["range"]:
-            changes[(int(line), tail, *more[:1])] = number_in(low), number_in(high)
-        return [
-            cost_range(
-                route, changes.get((route.line, self.places[route.tail - 1].name, route.departs))
-            )
-            for route in self.routes
-        ]
+        rows = (
+            ((int(line), tail, head, *more[:1]), (number_in(low), number_in(high)))
+            for line, tail, head, low, high, *more in self.answer.rows["range"]
+        )
+        found = told_in_turn(rows, map(self.key, self.routes))
+        return [cost_range(*one) for one in zip(self.routes, found)]

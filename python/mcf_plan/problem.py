@@ -175,13 +175,12 @@ class Problem:
 
     def ranges(self):
         """The ranges of the costs of the routes, or None for one that isn't told."""
-        rows = self.answer.rows["range"]
-        changes = {
-            (int(line), tail, head): (number_in(down), number_in(up))
-            for line, tail, head, down, up in rows
-        }
-        keys = ((route.line, *self.ends(route)) for route in self.routes)
-        return [cost_range(route, changes.get(key)) for route, key in zip(self.routes, keys)]
+        rows = (
+            ((int(line), tail, head), (number_in(down), number_in(up)))
+            for line, tail, head, down, up in self.answer.rows["range"]
+        )
+        found = told_in_turn(rows, [(route.line, *self.ends(route)) for route in self.routes])
+        return [cost_range(*one) for one in zip(self.routes, found)]
 
 
 class Plan:
@@ -220,6 +219,16 @@ def check_spots(sheet, name, faults):
                 " out)"
             )
             faults.add(At(name, line, head), "no spot", text, cell)
+
+
+def told_in_turn(rows, keys):
+    """What rows of an answer, which are pairs of a key and a value, tell of keys; None for a key
+    that they don't. A key that stands several times, as that of routes of one row of a matrix
+    between the same places may, has its values in turn."""
+    found = collections.defaultdict(collections.deque)
+    for key, value in rows:
+        found[key].append(value)
+    return [found[key].popleft() if found[key] else None for key in keys]
 
 
 def route_result(cells):

@@ -47,12 +47,13 @@ class Table:
     has a byte-order mark; `own` has the user's titles by those that replace them in the text;
     `figures` has the numbers of a sheet by their lines and places, `width` the number of its
     columns; `sha256` is that of its file, once it was read. If an answer reads it as a matrix of
-    costs, `columns` has the places of its columns by their heads. `notes` say what was changed in
-    it, and `changes` what the answer changed."""
+    costs, `matrix` has the heads of that, and `columns` the places of those that stand once.
+    `notes` say what was changed in it, and `changes` what the answer changed."""
 
     def __init__(self, name, text, has_mark=False, book=None, figures=None):
         self.name, self.has_mark, self.book, self.figures = name, has_mark, book, figures or {}
-        self.width, self.columns, self.notes, self.changes = None, {}, [], []
+        self.width, self.matrix, self.columns = None, [], {}
+        self.notes, self.changes = [], []
         self.text, self.own, self.sha256 = unicodedata.normalize("NFC", with_feeds(text)), {}, None
         if not self.text.strip(BLANKS):
             raise bad_table(
@@ -104,7 +105,7 @@ class Table:
 
     def separator(self, sheet):
         """The separator by which the text has the heads of a sheet."""
-        titles = list(self.columns) or sheet.titles
+        titles = self.matrix or sheet.titles
         known = self.separators[len(SEPARATORS) :] + SEPARATORS
         return next((m for m in known if self.fields(sheet.head_line, m) == titles), ",")
 
@@ -120,11 +121,13 @@ class Table:
 
     def become_matrix(self, sheet):
         """Notes that an answer reads the table as a matrix of costs, whose list it has."""
-        self.columns = {head: place for place, head in enumerate(self.fields(sheet.head_line))}
+        self.matrix = self.fields(sheet.head_line)
+        counts = collections.Counter(self.matrix)
+        self.columns = {head: place for place, head in enumerate(self.matrix) if counts[head] == 1}
 
     def figure(self, line, cells, place):
         """The number that the sheet has in a cell of a row of the answer, or None."""
-        if self.columns:
+        if self.matrix:
             place = self.columns.get(cells[1]) if place == MATRIX_COST else None
         return self.figures.get((line, place))
 

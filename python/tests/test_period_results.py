@@ -52,6 +52,24 @@ class Periods(WithFolder):
         self.assertEqual(self.flow(*plain)[0], 0)
         self.assertEqual(sorted(path.name for path in self.out.glob("*.svg")), ["plan.svg"])
 
+    def test_a_matrix_of_costs(self):
+        """Its routes share the lines of its rows, and two of them may join the same places."""
+        places = "name,period,supply\nA,,3\nB,May,-1\nB,June,-1\nC,,-2\n"
+        status, _, told = self.flow(places, ";A;B;C;C\nA;;1,5;2;3\n")
+        self.assertEqual(status, 0, told)
+        flows = rows_of(self.out / "flows.csv", ";")
+        self.assertEqual(
+            [(row["to"], row["cost"], row["carries"], row["departs_in"]) for row in flows],
+            [
+                ("B", "1,5", "1", "May"),
+                ("B", "1,5", "1", "June"),
+                ("C", "2", "2", "May"),
+                ("C", "2", "2", "June"),
+                ("C", "3", "0", "May"),
+                ("C", "3", "0", "June"),
+            ],
+        )
+
     def test_what_is_kept(self):
         places = PLACES.replace("May,-60", "May,-10").replace("July,-100", "July,-140")
         status, said, told = self.flow(places, ROUTES, "--unused", "allow")
