@@ -1,10 +1,11 @@
 -- Columns that are filled down.
 -- Source: own
-use Rattle.std.specs.Prelude.{ℕ, zero, suc, ◌+◌, ◌==◌, max, Bool, not, ◌&&◌, if◌then◌else◌, List, [], ◌∷◌, length, count_by, map, slice_index_or, Option, Some, None, option_map}
+use Rattle.std.specs.Prelude.{ℕ, zero, suc, ◌+◌, ◌==◌, max, Bool, not, ◌&&◌, if◌then◌else◌, List, [], ◌∷◌, ◌++◌, length, count_by, map, slice_index_or, Option, Some, None, option_map}
 use Rattle.std.specs.List.{range_with_len}
 use Rattle.mcf_table.specs.Heads.{cells_of}
 use Rattle.mcf_table.specs.Texts.{Record, is_filled, no_record}
 use Rattle.mcf_forms.specs.Cells.{cell_at, first_column}
+use Rattle.mcf_forms.specs.declared.columns.Filling.{Filling}
 
 -- What a row below the heads has in a column: its cell, or what the row above has if that is empty.
 -- The heads have nothing.
@@ -51,11 +52,20 @@ abbrev pub filled_columns : List (List ℕ) → List Record → List Record
 filled_columns [] records = records
 filled_columns (head ∷ heads) records = filled_columns heads (filled_under head records)
 
--- how many cells are taken in the column of this head; none if there is no such column
-abbrev pub count_under : List ℕ → List Record → Option ℕ
-count_under head records = option_map (λ place. taken_count place records) (first_column head records)
+-- the column at this place, if there is one, and how many of its cells take one from above
+abbrev pub filling_at : List Record → ℕ → Filling
+filling_at records place = record { place = place; count = taken_count place records }
 
--- how many in each of the columns of these heads
-abbrev pub column_counts : List (List ℕ) → List Record → List (Option ℕ)
-column_counts [] records = []
-column_counts (head ∷ heads) records = count_under head records ∷ column_counts heads (filled_under head records)
+-- the column of this head, if there is one
+abbrev pub filling_under : List ℕ → List Record → Option Filling
+filling_under head records = option_map (filling_at records) (first_column head records)
+
+-- a column, if there is one
+abbrev pub filling_list : Option Filling → List Filling
+filling_list None = []
+filling_list (Some column) = column ∷ []
+
+-- the columns of these heads that the table has, filled down one after another
+abbrev pub fillings : List (List ℕ) → List Record → List Filling
+fillings [] records = []
+fillings (head ∷ heads) records = filling_list (filling_under head records) ++ fillings heads (filled_under head records)

@@ -6,5 +6,8 @@ pub use Rattle.mcf_table.specs.Texts
 pub mod Cells
 pub mod Filled
 pub mod Matrices
+pub mod Private
+pub mod Ranks
 pub mod Sums
 pub mod Totals
+pub mod Wishes

@@ -1,23 +1,18 @@
 -- A matrix of the costs of routes, from the places on the left to those above.
 -- Source: own
-use Rattle.std.specs.Prelude.{ℕ, ◌-◌, nat_le, Bool, not, ◌&&◌, if◌then◌else◌, List, [], ◌∷◌, length, count_by, map, codes, slice_index_or, Option, Some, None}
+use Rattle.std.specs.Prelude.{ℕ, ◌-◌, nat_le, Bool, not, ◌&&◌, if◌then◌else◌, List, [], ◌∷◌, length, count_by, codes, Option, Some, None}
 use Rattle.std.specs.List.{flat_map, list_any, range_with_len}
 use Rattle.std.specs.Option.{is_some}
 use Rattle.std.specs.Str.{bytes_eq}
 use Rattle.mcf_names.specs.Names.{number_of}
 use Rattle.mcf_table.specs.Heads.{column_of, head_at, heads, only_place}
-use Rattle.mcf_table.specs.Texts.{Record, is_filled, no_record}
-use Rattle.mcf_forms.specs.Cells.{cell_at, is_word, rows_above}
+use Rattle.mcf_table.specs.Texts.{Record, is_filled}
+use Rattle.mcf_forms.specs.Cells.{cell_at, cells_in, is_nothing, is_word, line_of, rows_above}
 
 -- the heads that a matrix doesn't have after its first one
 abbrev pub list_heads : List (List ℕ)
 list_heads =
     codes "from" ∷ codes "to" ∷ codes "supply" ∷ codes "least" ∷ codes "most" ∷ codes "cost" ∷ []
-
--- the cells of a column below the heads; none if the table lacks the column
-abbrev pub cells_in : List Record → Option ℕ → List (List ℕ)
-cells_in records None = []
-cells_in records (Some place) = map (λ row. cell_at records row place) (rows_above (length records))
 
 -- the names of the places
 abbrev pub place_names : List Record → List (List ℕ)
@@ -47,19 +42,10 @@ is_matrix names routes =
     && (not (list_any (is_listed routes) (further routes))
     && nat_le (length (heads routes) - 1 - named_count names routes) (named_count names routes))
 
--- the cells that stand for no route: an empty one, x, and a hyphen or a dash (U+2013, U+2014)
-abbrev pub no_routes : List (List ℕ)
-no_routes =
-    [] ∷ codes "x" ∷ codes "X" ∷ codes "-" ∷ (226 ∷ 128 ∷ 147 ∷ []) ∷ (226 ∷ 128 ∷ 148 ∷ []) ∷ []
-
 -- the row has a route in this column: its cell stands for one, to another place than its own
 unfoldable pub is_route : List Record → ℕ → ℕ → Bool
 is_route routes row place =
-    not (list_any (bytes_eq (cell_at routes row place)) no_routes) && not (bytes_eq (cell_at routes row 0) (head_at routes place))
-
--- the line of a row
-abbrev pub line_of : List Record → ℕ → ℕ
-line_of records row = (slice_index_or records row no_record).line
+    not (is_nothing (cell_at routes row place)) && not (bytes_eq (cell_at routes row 0) (head_at routes place))
 
 -- this route as a row of a list: from the place on the left to the one above, without a limit
 abbrev pub route_row : List Record → ℕ → ℕ → Record

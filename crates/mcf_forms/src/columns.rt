@@ -1,53 +1,76 @@
 //! Columns that are filled down.
-ghost use Rattle.std.specs.Prelude.{◌≡◌, IfOk, map};
-ghost use Rattle.mcf_forms.specs.Filled.{column_counts, count_under, filled_columns, filled_under};
+ghost use Rattle.std.specs.Prelude.{◌≡◌, ◌++◌, IfOk, OnOk};
+ghost use Rattle.mcf_text.specs.Lines.{lines_of};
+ghost use Rattle.mcf_forms.specs.Filled.{filled_columns, filled_under, filling_under, fillings, filling_list};
 
 use crate::cells::first_column;
 use crate::filled::filled_down;
 use mcf_table::Records;
-use mcf_text::NoMemory;
+use mcf_text::{NoMemory, split_line};
 use std::alloc::Global;
+
+/// A column that is filled down.
+#[derive(Clone, Copy, Debug, PartialEq, Eq)]
+pub struct Filling {
+    /// Its place; places are counted from 0.
+    pub place: usize,
+    /// How many of its cells take the one above.
+    pub count: usize,
+}
 
 /// The rows of a table with columns that are filled down.
 #[derive(Drop)]
 pub struct FilledColumns {
     /// The rows.
     pub rows: Records,
-    /// For each head, how many cells of its column took one from above; `None` if there is no such
-    /// column.
-    pub counts: Vec<Option<usize>>,
+    /// The columns that the table has, in the order of the heads that name them.
+    pub columns: Vec<Filling>,
 }
 
 // The rows of a table with the column of a head filled down.
 #[derive(Drop)]
 struct FilledUnder {
     rows: Records,
-    // How many cells took one from above; `None` if there is no such column.
-    count: Option<usize>,
+    // The column; `None` if there is none.
+    column: Option<Filling>,
 }
 
 // Fills the first column with this head down.
 fn filled_under(alloc: Global, records: Records, head: &[u8]) -> Result<FilledUnder, NoMemory>
     ensures rows { IfOk result (λ made. made.rows ≡ filled_under head.now records) }
-    ensures count { IfOk result (λ made. made.count ≡ count_under head.now records) }
+    ensures column { IfOk result (λ made. made.column ≡ filling_under head.now records) }
 {
     match first_column(&records, head) {
         Some(place) => {
             let made = filled_down(alloc, &records, place)?;
             Ok(FilledUnder {
                 rows: made.rows,
-                count: Some(made.count),
+                column: Some(Filling {
+                    place,
+                    count: made.count,
+                }),
             })
         }
         None => Ok(FilledUnder {
             rows: records,
-            count: None,
+            column: None,
         }),
     }
 }
 
-/// Fills the columns of these heads down, as `filled_down` does, one after another: of each head
-/// the first column, with ASCII letters in either case. It says of each how many cells took one.
+// Appends a column, if there is one.
+fn push_column(columns: &mut Vec<Filling>, column: Option<Filling>) -> Result<(), NoMemory>
+    ensures { OnOk result (columns.new.items ≡ columns.old.items ++ filling_list column) }
+{
+    if let Some(column) = column {
+        columns.push(column)?;
+    }
+    Ok(())
+}
+
+/// Fills columns down, as `filled_down` does, one after another. Each line of the text `heads` has
+/// a head; its column is the first one with that head, with ASCII letters in either case. A head
+/// that the table doesn't have fills none.
 ///
 /// # Errors
 ///
@@ -55,17 +78,19 @@ fn filled_under(alloc: Global, records: Records, head: &[u8]) -> Result<FilledUn
 pub fn filled_columns(
     alloc: Global,
     records: Records,
-    heads: &[&[u8]],
+    heads: &[u8],
 ) -> Result<FilledColumns, NoMemory>
-    ensures rows { IfOk result (λ made. made.rows ≡ filled_columns (map (λ head. head.now) heads.now) records) }
-    ensures counts { IfOk result (λ made. made.counts.items ≡ column_counts (map (λ head. head.now) heads.now) records) }
+    ensures rows { IfOk result (λ made. made.rows ≡ filled_columns (lines_of heads.now) records) }
+    ensures columns { IfOk result (λ made. made.columns.items ≡ fillings (lines_of heads.now) records) }
 {
     let mut rows = records;
-    let mut counts = Vec::new(alloc);
-    'heads: for place in 0..heads.len() {
-        let made = filled_under(alloc, rows, heads[place])?;
+    let mut columns = Vec::new(alloc);
+    let mut rest = heads;
+    'heads: while let Some(parts) = split_line(rest) {
+        let made = filled_under(alloc, rows, parts.0)?;
         rows = made.rows;
-        counts.push(made.count)?;
+        push_column(&mut columns, made.column)?;
+        rest = parts.1;
     }
-    Ok(FilledColumns { rows, counts })
+    Ok(FilledColumns { rows, columns })
 }

@@ -42,7 +42,11 @@ fn takes(records: &Records, row: usize, place: usize, value: &[u8]) -> bool
 }
 
 // The cells of a row.
-fn cells_of<'t>(alloc: Global, records: &'t Records, row: usize) -> Result<Vec<&'t [u8]>, NoMemory>
+pub(crate) fn cells_of<'t>(
+    alloc: Global,
+    records: &'t Records,
+    row: usize,
+) -> Result<Vec<&'t [u8]>, NoMemory>
     requires { row < length records.now }
     ensures { IfOk result (λ made. map (λ cell. cell.now) made.items ≡ cells_of records.now row) }
 {

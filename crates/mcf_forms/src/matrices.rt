@@ -1,45 +1,14 @@
 //! A matrix of the costs of routes as a list.
-ghost use Rattle.std.specs.Prelude.{◌≡◌, ◌-◌, ◌<◌, ◌∷◌, ◌++◌, [], IfOk, OnOk, length, map};
+ghost use Rattle.std.specs.Prelude.{◌≡◌, ◌-◌, ◌<◌, ◌∷◌, ◌++◌, [], IfOk, OnOk, length};
 ghost use Rattle.std.specs.List.{list_any};
-ghost use Rattle.std.specs.Str.{bytes_eq};
 ghost use Rattle.mcf_table.specs.Heads.{heads};
-ghost use Rattle.mcf_forms.specs.Cells.{cell_at, is_word, rows_above};
-ghost use Rattle.mcf_forms.specs.Matrices.{cells_in, further, heads_row, is_listed, is_matrix, is_named, is_route, line_of, list_heads, listed, named_count, no_routes, place_names, route_in, routes_of, row_routes};
+ghost use Rattle.mcf_forms.specs.Matrices.{further, heads_row, is_listed, is_matrix, is_named, is_route, listed, named_count, route_in, routes_of, row_routes};
 
-use crate::cells::{is_among, is_filled, is_same, is_word};
+use crate::cells::{cells_in, head_line, is_filled, is_nothing, is_same, is_word};
 use mcf_names::Names;
 use mcf_table::Records;
 use mcf_text::NoMemory;
 use std::alloc::Global;
-
-// The cells of a column below the heads.
-fn cells_below<'t>(
-    alloc: Global,
-    records: &'t Records,
-    place: usize,
-) -> Result<Vec<&'t [u8]>, NoMemory>
-    ensures { IfOk result (λ made. map (λ cell. cell.now) made.items ≡ map (λ row. cell_at records.now row place) (rows_above (length records.now))) }
-{
-    let mut made = Vec::new(alloc);
-    for row in 0..records.len().saturating_sub(1) {
-        made.push(records.cell(row + 1, place))?;
-    }
-    Ok(made)
-}
-
-// The cells of a column below the heads; none if the table lacks the column.
-fn cells_in<'t>(
-    alloc: Global,
-    records: &'t Records,
-    column: Option<usize>,
-) -> Result<Vec<&'t [u8]>, NoMemory>
-    ensures { IfOk result (λ made. map (λ cell. cell.now) made.items ≡ cells_in records.now column) }
-{
-    match column {
-        Some(place) => cells_below(alloc, records, place),
-        None => Ok(Vec::new(alloc)),
-    }
-}
 
 // Whether the column has the head of a list.
 #[tactic(auto, unfolding(crate::specs::Matrices::is_listed))]
@@ -105,24 +74,7 @@ fn is_route(routes: &Records, row: usize, place: usize) -> bool
     ensures { result ≡ is_route routes.now row place }
 {
     let cell = routes.cell(row, place);
-    !is_no_route(cell) && !is_same(routes.cell(row, 0), routes.head(place))
-}
-
-// Whether the cell stands for no route.
-fn is_no_route(cell: &[u8]) -> bool
-    ensures { result ≡ list_any (bytes_eq cell.now) no_routes }
-{
-    is_among(
-        &[b"", b"x", b"X", b"-", b"\xE2\x80\x93", b"\xE2\x80\x94"],
-        cell,
-    )
-}
-
-// The line of the heads; 0 if there are none.
-fn head_line(routes: &Records) -> usize
-    ensures { result ≡ line_of routes.now 0 }
-{
-    if routes.len() == 0 { 0 } else { routes.line(0) }
+    !is_nothing(cell) && !is_same(routes.cell(row, 0), routes.head(place))
 }
 
 // Appends the heads of the list.

@@ -1,5 +1,7 @@
 //! Tables in other forms than those that are read.
-use mcf_forms::{filled_columns, filled_down, first_column, routes_of, without_total};
+use mcf_forms::{
+    Filling, filled_columns, filled_down, first_column, routes_of, wishes_of, without_total,
+};
 use mcf_table::{Records, records_of};
 use mcf_text::NoMemory;
 use std::alloc::Global;
@@ -146,7 +148,7 @@ fn fills_a_column_down(rt: HostRuntime) -> Result<(), Fail> {
 fn fills_columns_down(rt: HostRuntime) -> Result<(), Fail> {
     let alloc = rt.alloc();
     let table = rows_of(alloc, b"from;to;to\nA;X;1\n;;2\n;Y;3\n")?;
-    let made = filled_columns(alloc, table, &[b"TO", b"via", b"from"])?;
+    let made = filled_columns(alloc, table, b"TO\nvia\nfrom")?;
     let rows: [Row; 4] = [
         (1, &[b"from", b"to", b"to"]),
         (2, &[b"A", b"X", b"1"]),
@@ -154,7 +156,69 @@ fn fills_columns_down(rt: HostRuntime) -> Result<(), Fail> {
         (4, &[b"A", b"Y", b"3"]),
     ];
     assert!(rt; has_rows(&made.rows, rows.as_slice()));
-    let counts = [Some(1), None, Some(2)];
-    assert!(rt; made.counts.as_slice() == counts.as_slice());
+    let columns = [
+        Filling { place: 1, count: 1 },
+        Filling { place: 0, count: 2 },
+    ];
+    assert!(rt; made.columns.as_slice() == columns.as_slice());
+    Ok(())
+}
+
+// A sheet of wishes below a title.
+const WISHES: &[u8] = b"Sport\nwho;class;1. Wunsch;Wahl 2;third;Needs\nAnn;5b;Yoga;Chess;-\n\n\
+    Bea;;;;-;2..3\nCem;5a;Chess;;Yoga;4\n";
+
+const PAIRS: &[Row] = &[
+    (2, &[b"who", b"what", b"cost", b"class", b"Needs"]),
+    (3, &[b"Ann", b"Yoga", b"1", b"5b", b"2..3"]),
+    (3, &[b"Ann", b"Chess", b"2", b"5b", b"2..3"]),
+    (5, &[b"Bea", b"Yoga", b"", b"", b"2..3"]),
+    (6, &[b"Cem", b"Chess", b"1", b"5a", b"4"]),
+    (6, &[b"Cem", b"Yoga", b"3", b"5a", b"4"]),
+];
+
+// Tables that are no sheets of wishes.
+static NO_WISHES: [&[u8]; 7] = [
+    b"who;1;2\nAnn;3;1\nBea;Yoga;2\n",
+    b"who;2;1\nAnn;Yoga;Chess\n",
+    b"who;1\nAnn;Yoga\n",
+    b"who;1;2;cost\nAnn;Yoga;Chess;1\n",
+    b"name;1;2\nAnn;Yoga;Chess\n",
+    b"who;1;2\nAnn;;x\n",
+    b"",
+];
+
+#[test]
+fn lists_a_sheet_of_wishes(rt: HostRuntime) -> Result<(), Fail> {
+    let alloc = rt.alloc();
+    let sheet = rows_of(alloc, WISHES)?;
+    let list = wishes_of(alloc, &sheet)?.ok_or("no wishes")?;
+    assert!(rt; has_rows(&list.rows, PAIRS));
+    assert_eq!(rt; list.count, 4);
+    assert!(rt; list.needs.as_slice() == b"2..3".as_slice());
+    for text in NO_WISHES {
+        let rows = rows_of(alloc, text)?;
+        let none = wishes_of(alloc, &rows)?;
+        assert!(rt; none.is_none());
+    }
+    Ok(())
+}
+
+// Heads of the first, the second and the third wish.
+static RANKS: [&[u8]; 5] = [
+    b"who;1;2;3\nA;Y\n",
+    b"who;1st;2nd choice;3rd\nA;Y\n",
+    b"who;Erstwunsch;zweite Wahl;dritter Wunsch\nA;Y\n",
+    b"who;First;WISH 2;wahl3.\nA;Y\n",
+    b"Erste Wahl;who;2;dritt\nY;A\n",
+];
+
+#[test]
+fn heads_say_ranks(rt: HostRuntime) -> Result<(), Fail> {
+    for text in RANKS {
+        let rows = rows_of(rt.alloc(), text)?;
+        let list = wishes_of(rt.alloc(), &rows)?.ok_or("no wishes")?;
+        assert_eq!(rt; list.rows.cell_count(0), 3);
+    }
     Ok(())
 }

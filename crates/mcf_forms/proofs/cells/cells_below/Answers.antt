@@ -2,7 +2,7 @@ use Rattle.std.proofs.Common.{◌∙◌, ◌+◌, ◌++◌, ◌∷◌, [], ℕ, 
 use Rattle.std.proofs.lemmas.List.{map-append}
 use Rattle.mcf_forms.specs.Cells.{cell_at}
 use Rattle.mcf_forms.proofs.Ranges.{made}
-use Rattle.mcf_forms.proofs.matrices.cells_below.Goals as goal
+use Rattle.mcf_forms.proofs.cells.cells_below.Goals as goal
 
 pub loop-row-preserved : goal.loop-row-preserved
 loop-row-preserved c =

@@ -1,0 +1,2 @@
+-- What the proofs of this crate alone need: no public clause names it.
+pub mod Sheets
