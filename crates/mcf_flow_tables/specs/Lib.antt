@@ -7,6 +7,7 @@ pub use Rattle.mcf_forms.specs.Totals
 pub use Rattle.mcf_reading.specs.Reading
 pub use Rattle.mcf_units.specs.Answers
 pub use Rattle.mcf_places.specs.Answers as PlannerAnswers
+pub mod Lacking
 pub mod Prepared
 pub mod TableTexts
 pub use Rattle.mcf_period_units.specs.Made

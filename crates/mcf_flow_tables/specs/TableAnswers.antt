@@ -7,6 +7,7 @@ use Rattle.mcf_places.specs.PlannerFaults.{IsProperPlanner}
 use Rattle.mcf_period_reading.specs.HeadFaults.{tells_periods}
 use Rattle.mcf_reading.specs.Reading.{Entries, read_tables}
 use Rattle.mcf_table.specs.Texts.{Record}
+use Rattle.mcf_text.specs.Lines.{lines_of, numbered_lines}
 use Rattle.mcf_table.specs.declared.fault.TextFault.{TextFault}
 use Rattle.mcf_units.specs.Answers.{IsMadeOf}
 use Rattle.mcf_units.specs.declared.making.Made.TheVariants.{Improper as ImproperProblem, TooGreat as GreatNumbers}
@@ -19,11 +20,13 @@ use Rattle.mcf_flow_tables.specs.declared.answering.ProblemAnswer.TheVariants.{I
 use Rattle.mcf_flow_tables.specs.declared.answering.TableAnswer.{TableAnswer}
 use Rattle.mcf_flow_tables.specs.declared.answering.TableAnswer.TheVariants.{Faults, Periods, Problem}
 use Rattle.mcf_flow_tables.specs.declared.flow_answer.FlowAnswer.{FlowAnswer}
-use Rattle.mcf_flow_tables.specs.declared.flow_answer.FlowAnswer.TheVariants.{NoTables, Tables}
+use Rattle.mcf_flow_tables.specs.declared.flow_answer.FlowAnswer.TheVariants.{NoColumns, NoTables, Tables}
 use Rattle.mcf_flow_tables.specs.declared.flow_answer.SaidTables.{SaidTables}
 use Rattle.mcf_flow_tables.specs.declared.options.Options.{Options}
+use Rattle.mcf_flow_tables.specs.declared.options.Texts.{Texts}
+use Rattle.mcf_flow_tables.specs.Lacking.{lacking}
 use Rattle.mcf_flow_tables.specs.PeriodTableAnswers.{IsPeriodTableAnswer}
-use Rattle.mcf_flow_tables.specs.Prepared.{done_to, prepared_places, prepared_routes}
+use Rattle.mcf_flow_tables.specs.Prepared.{AreFilled, done_to, prepared_places, prepared_routes}
 use Rattle.mcf_flow_tables.specs.PlannerOrigins.{origin_in}
 use Rattle.mcf_flow_tables.specs.TableTexts.{IsBrokenText, IsTableOf, place_wanted, route_wanted}
 
@@ -53,18 +56,49 @@ abbrev pub IsBrokenBy : List (List ℕ) → List ℕ → Option TextFault → Ty
 IsBrokenBy wanted text None = (records : List Record) × IsTableOf wanted text records
 IsBrokenBy wanted text (Some fault) = IsBrokenText wanted text fault
 
--- the rows of two tables as they are read, what was done to them, and the answer to them
-abbrev pub IsSaidOf : List Record → List Record → Options → SaidTables → Type 0
-IsSaidOf places routes options said =
-    (said.places ≡ prepared_places places) × (said.routes ≡ prepared_routes places routes) × (said.done ≡ done_to places routes)
-    × IsTableAnswer said.places said.routes options said.answer
+-- the bytes of two tables, and of the heads of the columns that are filled down, one a line
+pub record FlowBytes : Type 0 where
+  pub places : List ℕ
+  pub routes : List ℕ
+  pub fill_down : List ℕ
 
--- The answer to two texts: why one is no table, or both aren't; or their rows as they are read, and
--- the answer to these.
-abbrev pub IsFlowAnswer : List ℕ → List ℕ → Options → FlowAnswer → Type 0
-IsFlowAnswer places routes options (NoTables broken) =
-    IsBrokenBy place_wanted places broken.places × IsBrokenBy route_wanted routes broken.routes
+-- those of texts
+abbrev pub bytes_in : Texts → FlowBytes
+bytes_in texts = record { places = texts.places.now; routes = texts.routes.now; fill_down = texts.fill_down.now }
+
+-- the rows of two tables as they are read, what was done to them, and the answer to them
+pub record IsSaidOf (fill_down : List ℕ) (places routes : List Record) (options : Options) (said : SaidTables) : Type 0 where
+  pub places_are : said.places ≡ prepared_places (lines_of fill_down) places
+  pub routes_are : said.routes ≡ prepared_routes (lines_of fill_down) places routes
+  pub done_is : said.done ≡ done_to places routes
+  pub filled : AreFilled (lines_of fill_down) places routes said.filled
+  pub answers : IsTableAnswer said.places said.routes options said.answer
+
+-- the numbers of the heads of columns to fill down that neither table has
+abbrev pub unknown_heads : List ℕ → List Record → List Record → List ℕ
+unknown_heads fill_down places routes =
+    lacking (prepared_places (lines_of fill_down) places) (prepared_routes (lines_of fill_down) places routes) (numbered_lines 1 fill_down)
+
+-- the answer to the rows of two tables: the heads of columns to fill down that neither has, if
+-- there are some; or the rows as they are read, and the answer to these
+abbrev pub IsRowsAnswer : List ℕ → List Record → List Record → Options → FlowAnswer → Type 0
+IsRowsAnswer fill_down places routes options (NoTables broken) = ⊥
+IsRowsAnswer fill_down places routes options (NoColumns numbers) = (numbers.items ≡ unknown_heads fill_down places routes) × ¬ (numbers.items ≡ [])
+IsRowsAnswer fill_down places routes options (Tables said) =
+    (unknown_heads fill_down places routes ≡ []) × IsSaidOf fill_down places routes options said
+
+-- two texts are tables, and this is the answer to their rows
+pub record IsAnswerOf (texts : FlowBytes) (options : Options) (answer : FlowAnswer) : Type 0 where
+  pub places : List Record
+  pub routes : List Record
+  pub is_places : IsTableOf place_wanted texts.places places
+  pub is_routes : IsTableOf route_wanted texts.routes routes
+  pub answers : IsRowsAnswer texts.fill_down places routes options answer
+
+-- The answer to two texts: why one is no table, or both aren't; or the answer to their rows.
+abbrev pub IsFlowAnswer : FlowBytes → Options → FlowAnswer → Type 0
+IsFlowAnswer texts options (NoTables broken) =
+    IsBrokenBy place_wanted texts.places broken.places × IsBrokenBy route_wanted texts.routes broken.routes
     × ((is_none broken.places && is_none broken.routes) ≡ false)
-IsFlowAnswer places routes options (Tables said) =
-    (P : List Record) × (R : List Record) × IsTableOf place_wanted places P × IsTableOf route_wanted routes R
-    × IsSaidOf P R options said
+IsFlowAnswer texts options (NoColumns numbers) = IsAnswerOf texts options (NoColumns numbers)
+IsFlowAnswer texts options (Tables said) = IsAnswerOf texts options (Tables said)

@@ -1,17 +1,17 @@
 //! The answer to what two tables say about periods.
 ghost use Rattle.std.specs.Prelude.{IfOk};
 ghost use Rattle.mcf_period_units.specs.PeriodEntries.{entries_over};
-ghost use Rattle.mcf_flow_tables.specs.PeriodTableAnswers.{IsPeriodTableAnswer, IsSolvedOver};
+ghost use Rattle.mcf_flow_tables.specs.PeriodTableAnswers.{IsPeriodTableAnswer, IsAnswerUnder, IsSolvedOver};
 
 use crate::answering::origin_in;
 use crate::options::Options;
 use mcf_decimal::Mark;
 use mcf_model::Solves;
-use mcf_period_reading::{PeriodFault, PeriodTables, read_periods};
+use mcf_period_reading::{PeriodFault, PeriodTables, faults_of_heads, read_periods};
 use mcf_period_units::{ImproperPeriods, MadeOver, PeriodGreat, PeriodOrigins, problem_over};
 use mcf_periods::flat_answers_are_period_answers;
 use mcf_places::{Origin, Planner, PlannerAnswer, least};
-use mcf_reading::{Faults, Tables, read};
+use mcf_reading::{Faults, Tables, read_heads, read_rows};
 use mcf_table::Records;
 use mcf_text::NoMemory;
 use mcf_units::{Scales, Terms};
@@ -37,19 +37,20 @@ pub struct SolvedPeriods {
     pub origin: Option<Origin>,
 }
 
-/// All faults of two tables over periods.
+/// All faults of heads of two tables over periods; or, if there are none, all faults of rows.
 #[derive(Drop)]
 pub struct PeriodTableFaults {
-    /// Those of heads and cells without the columns about periods; `None` if there is none.
+    /// Those of columns without periods, or of a second mark before decimals; `None` if there is
+    /// none.
     pub cells: Option<Faults>,
-    /// Those of what the tables say about periods; none are looked for if there are others.
+    /// Those of columns about periods.
     pub periods: Vec<PeriodFault>,
 }
 
 /// The answer to two tables over periods.
 #[derive(Drop)]
 pub enum PeriodAnswer {
-    /// All faults of heads and cells.
+    /// All faults of heads; or all faults of rows, if there are none of heads.
     Faults(PeriodTableFaults),
     /// All numbers that are too great in whole units, and all rows of routes that are too late.
     TooGreat(Vec<PeriodGreat>),
@@ -91,6 +92,31 @@ fn solved_over<S: Solves>(
     }
 }
 
+// The answer to the rows of two tables over periods under a mark.
+fn answer_under<S: Solves>(
+    alloc: Global,
+    solver: &mut S,
+    places: &Records,
+    routes: &Records,
+    mark: Option<Mark>,
+    terms: Terms,
+) -> Result<PeriodAnswer, NoMemory>
+    ensures { IfOk result (IsAnswerUnder mark places.now routes.now terms) }
+{
+    let read = read_rows(alloc, places, routes, mark)?;
+    match (read, read_periods(alloc, places, routes, mark)?) {
+        (Ok(tables), Ok(times)) => solved_over(alloc, solver, &tables, &times, terms),
+        (Err(cells), Ok(_)) => Ok(PeriodAnswer::Faults(PeriodTableFaults {
+            cells: Some(cells),
+            periods: Vec::new(alloc),
+        })),
+        (read, Err(periods)) => Ok(PeriodAnswer::Faults(PeriodTableFaults {
+            cells: read.err(),
+            periods,
+        })),
+    }
+}
+
 // The answer to two tables over periods.
 pub(crate) fn period_answer<S: Solves>(
     alloc: Global,
@@ -101,17 +127,21 @@ pub(crate) fn period_answer<S: Solves>(
 ) -> Result<PeriodAnswer, NoMemory>
     ensures { IfOk result (IsPeriodTableAnswer places.now routes.now options) }
 {
-    match read(alloc, places, routes, options.mark)? {
-        Ok(tables) => match read_periods(alloc, places, routes, tables.mark())? {
-            Ok(times) => solved_over(alloc, solver, &tables, &times, options.terms),
-            Err(periods) => Ok(PeriodAnswer::Faults(PeriodTableFaults {
-                cells: None,
-                periods,
-            })),
-        },
+    let periods = faults_of_heads(alloc, places, routes)?;
+    match read_heads(alloc, places, routes, options.mark)? {
+        Ok(mark) => {
+            if periods.is_empty() {
+                answer_under(alloc, solver, places, routes, mark, options.terms)
+            } else {
+                Ok(PeriodAnswer::Faults(PeriodTableFaults {
+                    cells: None,
+                    periods,
+                }))
+            }
+        }
         Err(cells) => Ok(PeriodAnswer::Faults(PeriodTableFaults {
             cells: Some(cells),
-            periods: Vec::new(alloc),
+            periods,
         })),
     }
 }

@@ -1,8 +1,9 @@
 //! The rows of two tables as they are read.
 ghost use Rattle.std.specs.Prelude.{◌≡◌, IfOk};
-ghost use Rattle.mcf_flow_tables.specs.Prepared.{as_list, done_to, listed_count, prepared_places, prepared_routes};
+ghost use Rattle.mcf_text.specs.Lines.{lines_of};
+ghost use Rattle.mcf_flow_tables.specs.Prepared.{AreFilled, as_list, done_to, listed_count, prepared_places, prepared_routes};
 
-use mcf_forms::{routes_of, without_total};
+use mcf_forms::{Filling, filled_columns, routes_of, without_total};
 use mcf_table::Records;
 use mcf_text::NoMemory;
 use std::alloc::Global;
@@ -19,12 +20,22 @@ pub struct Done {
     pub route_total: Option<usize>,
 }
 
+/// The columns of two tables that were filled down, in the order of the heads that name them.
+#[derive(Drop)]
+pub struct Filled {
+    /// Those of the table of places.
+    pub places: Vec<Filling>,
+    /// Those of the table of routes.
+    pub routes: Vec<Filling>,
+}
+
 // The rows of two tables as they are read, and what was done to them.
 #[derive(Drop)]
 pub(crate) struct ReadRows {
     pub(crate) places: Records,
     pub(crate) routes: Records,
     pub(crate) done: Done,
+    pub(crate) filled: Filled,
 }
 
 // Routes as a list.
@@ -55,27 +66,35 @@ fn as_list(alloc: Global, places: &Records, routes: Records) -> Result<Listed, N
     }
 }
 
-// The rows of two tables as they are read: a matrix of costs becomes a list, and then each table
-// loses a last row of totals.
+// The rows of two tables as they are read: a matrix of costs becomes a list, each table loses a
+// last row of totals, and columns are filled down.
 pub(crate) fn prepared(
     alloc: Global,
     places: Records,
     routes: Records,
+    fill_down: &[u8],
 ) -> Result<ReadRows, NoMemory>
-    ensures places { IfOk result (λ made. made.places ≡ prepared_places places) }
-    ensures routes { IfOk result (λ made. made.routes ≡ prepared_routes places routes) }
+    ensures places { IfOk result (λ made. made.places ≡ prepared_places (lines_of fill_down.now) places) }
+    ensures routes { IfOk result (λ made. made.routes ≡ prepared_routes (lines_of fill_down.now) places routes) }
     ensures done { IfOk result (λ made. made.done ≡ done_to places routes) }
+    ensures filled { IfOk result (λ made. AreFilled (lines_of fill_down.now) places routes made.filled) }
 {
     let list = as_list(alloc, &places, routes)?;
     let places = without_total(alloc, places)?;
     let routes = without_total(alloc, list.rows)?;
+    let filled_places = filled_columns(alloc, places.rows, fill_down)?;
+    let filled_routes = filled_columns(alloc, routes.rows, fill_down)?;
     Ok(ReadRows {
-        places: places.rows,
-        routes: routes.rows,
+        places: filled_places.rows,
+        routes: filled_routes.rows,
         done: Done {
             list: list.count,
             place_total: places.line,
             route_total: routes.line,
+        },
+        filled: Filled {
+            places: filled_places.columns,
+            routes: filled_routes.columns,
         },
     })
 }

@@ -1,13 +1,12 @@
 -- What both tables say about periods.
 -- Source: own
-use Rattle.std.specs.Prelude.{◌≡◌, ◌==◌, ◌&&◌, ◌⊎◌, List, [], ◌++◌, length, Option, Result, Ok, Err}
+use Rattle.std.specs.Prelude.{◌≡◌, ◌==◌, ◌&&◌, List, [], ◌++◌, length, Option, Result, Ok, Err}
 use Rattle.std.specs.Global.{Vec}
 use Rattle.mcf_decimal.specs.declared.mark.Mark.{Mark}
 use Rattle.mcf_table.specs.Texts.{Record}
 use Rattle.mcf_period_reading.specs.PeriodCells.{cells_under}
 use Rattle.mcf_reading.specs.HeadTexts.{has_periods}
 use Rattle.mcf_reading.specs.declared.locations.Table.TheVariants.{Places}
-use Rattle.mcf_period_reading.specs.HeadFaults.{head_faults}
 use Rattle.mcf_period_reading.specs.PeriodFaults.{if_kind, told}
 use Rattle.mcf_period_reading.specs.PlaceTimes.{all_place_faults, periods_in, place_times, spots, time_columns}
 use Rattle.mcf_period_reading.specs.RouteTimes.{all_route_faults, route_format, route_times}
@@ -44,11 +43,7 @@ pub record SaysOf (mark : Option Mark) (places routes : List Record) (made : Per
   pub places_are : made.places.items ≡ place_times (place_format mark places) (spots_in places) places
   pub routes_are : made.routes.items ≡ route_times (route_format mark routes) (periods_in places) routes
 
--- What the rows say, if there are no faults; or else all faults: those of heads, or, if there are
--- none of these, those of rows.
+-- What the rows say, if they have no fault; or else all their faults.
 abbrev pub IsReadOf : Option Mark → List Record → List Record → Result PeriodTables (Vec PeriodFault) → Type 0
-IsReadOf mark places routes (Ok made) =
-    (head_faults places routes ≡ []) × (row_faults mark places routes ≡ []) × SaysOf mark places routes made
-IsReadOf mark places routes (Err found) =
-    ((found.items ≡ head_faults places routes) ⊎ ((head_faults places routes ≡ []) × (found.items ≡ row_faults mark places routes)))
-    × ¬ (found.items ≡ [])
+IsReadOf mark places routes (Ok made) = (row_faults mark places routes ≡ []) × SaysOf mark places routes made
+IsReadOf mark places routes (Err found) = (found.items ≡ row_faults mark places routes) × ¬ (found.items ≡ [])

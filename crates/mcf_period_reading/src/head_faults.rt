@@ -51,8 +51,14 @@ fn push_column_faults(
     push_head_faults(faults, has, table, records, heads_of(table))
 }
 
-// The faults of the heads of both tables.
-pub(crate) fn head_faults(
+/// All faults of the heads about periods of both tables: first those of the columns that are looked
+/// for, and then those of columns whose heads are only nearly these. The first row of each table
+/// has its heads.
+///
+/// # Errors
+///
+/// `NoMemory` if an allocation is refused.
+pub fn faults_of_heads(
     alloc: Global,
     places: &Records,
     routes: &Records,

@@ -21,7 +21,7 @@ mod route_times;
 mod spots;
 mod taken;
 
-pub use head_faults::tells_periods;
+pub use head_faults::{faults_of_heads, tells_periods};
 pub use heads::PeriodHead;
 pub use kinds::{PeriodFault, PeriodKind};
 pub use place_times::{KeepEntry, PlaceTime, periods_in};

@@ -1,11 +1,9 @@
 //! What both tables say about periods.
-ghost use Rattle.std.specs.Prelude.{◌≡◌, [], IfOk};
-ghost use Rattle.mcf_period_reading.specs.HeadFaults.{head_faults};
+ghost use Rattle.std.specs.Prelude.{◌≡◌, IfOk};
 ghost use Rattle.mcf_period_reading.specs.PeriodReading.{IsReadOf, empty_kind, place_format, spots_in};
 ghost use Rattle.mcf_period_reading.specs.PlaceTimes.{periods_in};
 
 use crate::cells::cells_under;
-use crate::head_faults::head_faults;
 use crate::heads::PeriodHead;
 use crate::kinds::{PeriodFault, PeriodKind, if_kind, push_told};
 use crate::place_times::{PlaceFormat, PlaceTime, periods_in, read_places, spots, time_columns};
@@ -61,14 +59,21 @@ fn empty_kind(places: &Records, periods: &Names<'_>) -> Option<PeriodKind>
     if_kind(has_periods(places) && none, PeriodKind::NoneNamed)
 }
 
-// What the rows of tables say whose heads have no fault.
-fn read_rows<'t>(
+/// Reads what the rows of the table of places and of the table of routes say about periods, in the
+/// columns `period`, `keep most`, `keep cost`, `first stock` and `last stock` of places, and
+/// `period` and `lead` of routes. The first row of each table has its heads; `faults_of_heads` has
+/// their faults. A row without a period holds in each period. A place keeps nothing if both cells
+/// of what it may keep are empty.
+///
+/// # Errors
+///
+/// All faults of rows, first of places and then of routes. `NoMemory` if an allocation is refused.
+pub fn read_periods<'t>(
     alloc: Global,
     places: &'t Records,
     routes: &Records,
     mark: Option<Mark>,
 ) -> Result<Result<PeriodTables<'t>, Vec<PeriodFault>>, NoMemory>
-    requires { head_faults places.now routes.now ≡ [] }
     ensures { IfOk result (IsReadOf mark places.now routes.now) }
 {
     let periods = periods_in(alloc, places)?;
@@ -93,28 +98,4 @@ fn read_rows<'t>(
         places: times,
         routes: leads,
     }))
-}
-
-/// Reads what the table of places and the table of routes say about periods, in the columns
-/// `period`, `keep most`, `keep cost`, `first stock` and `last stock` of places, and `period` and
-/// `lead` of routes. The first row of each table has its heads. A row without a period holds in
-/// each period. A place keeps nothing if both cells of what it may keep are empty.
-///
-/// # Errors
-///
-/// The faults of the heads, if there are some; or else all faults of rows, first of places and then
-/// of routes. `NoMemory` if an allocation is refused.
-pub fn read_periods<'t>(
-    alloc: Global,
-    places: &'t Records,
-    routes: &Records,
-    mark: Option<Mark>,
-) -> Result<Result<PeriodTables<'t>, Vec<PeriodFault>>, NoMemory>
-    ensures { IfOk result (IsReadOf mark places.now routes.now) }
-{
-    let found = head_faults(alloc, places, routes)?;
-    if !found.is_empty() {
-        return Ok(Err(found));
-    }
-    read_rows(alloc, places, routes, mark)
 }

@@ -8,20 +8,21 @@ use Rattle.mcf_answer_rows.specs.declared.texts.PlanText.{PlanText}
 use Rattle.mcf_answer_rows.specs.declared.texts.TextKind.{TextKind}
 use Rattle.mcf_answer_rows.specs.declared.texts.TextKind.TheVariants as told
 use Rattle.mcf_decimal.specs.declared.mark.Mark.{Mark}
-use Rattle.mcf_flow_tables.specs.TableAnswers.{IsFlowAnswer}
+use Rattle.mcf_flow_tables.specs.TableAnswers.{FlowBytes, IsFlowAnswer}
 use Rattle.mcf_flow_tables.specs.declared.answering.ProblemAnswer.{ProblemAnswer}
 use Rattle.mcf_flow_tables.specs.declared.answering.ProblemAnswer.TheVariants.{TooGreat, Improper, Solved}
 use Rattle.mcf_flow_tables.specs.declared.answering.SolvedProblem.{SolvedProblem}
 use Rattle.mcf_flow_tables.specs.declared.answering.TableAnswer.{TableAnswer}
 use Rattle.mcf_flow_tables.specs.declared.answering.TableAnswer.TheVariants.{Faults, Periods, Problem}
 use Rattle.mcf_flow_tables.specs.declared.flow_answer.FlowAnswer.{FlowAnswer}
-use Rattle.mcf_flow_tables.specs.declared.flow_answer.FlowAnswer.TheVariants.{NoTables, Tables}
+use Rattle.mcf_flow_tables.specs.declared.flow_answer.FlowAnswer.TheVariants.{NoColumns, NoTables, Tables}
 use Rattle.mcf_flow_tables.specs.declared.flow_answer.SaidTables.{SaidTables}
 use Rattle.mcf_flow_tables.specs.declared.options.Options.{Options}
 use Rattle.mcf_flow_tables.specs.declared.period_answer.PeriodAnswer.{PeriodAnswer}
 use Rattle.mcf_flow_tables.specs.declared.period_answer.PeriodAnswer.TheVariants as period
 use Rattle.mcf_flow_tables.specs.declared.prepared.Done.{Done}
-use Rattle.mcf_form_rows.specs.FormRows.{left_out_rows, list_rows}
+use Rattle.mcf_flow_tables.specs.declared.prepared.Filled.{Filled}
+use Rattle.mcf_form_rows.specs.FormRows.{filled_row, lacking_row, left_out_rows, list_rows}
 use Rattle.mcf_period_text.specs.PeriodAnswerRows.{period_answer_rows, period_mark}
 use Rattle.mcf_places.specs.declared.answering.PlannerAnswer.{PlannerAnswer}
 use Rattle.mcf_places.specs.declared.answering.PlannerAnswer.TheVariants.{Beyond, Least, NoPlan}
@@ -43,6 +44,11 @@ abbrev pub done_rows : Done → List (List (List ℕ))
 done_rows done =
     list_rows (table_word Routes) done.list
     ++ (left_out_rows (table_word Places) done.place_total ++ left_out_rows (table_word Routes) done.route_total)
+
+-- the columns of two tables that were filled down
+abbrev pub filled_rows : TwoTables → Filled → List (List (List ℕ))
+filled_rows two filled =
+    map (filled_row (table_word Places) two.places) filled.places.items ++ map (filled_row (table_word Routes) two.routes) filled.routes.items
 
 -- a least plan, or a bottleneck, or the first number beyond the limits
 abbrev pub solved_rows : TwoTables → SolvedProblem → PlannerAnswer → List (List (List ℕ))
@@ -78,12 +84,17 @@ table_mark (Periods answer) = period_mark answer
 abbrev pub said_tables : SaidTables → TwoTables
 said_tables said = record { places = said.places; routes = said.routes }
 
+-- the end of the answer to the rows of two tables: the columns that were filled down, the mark
+-- before decimals, and both tables
+abbrev pub end_rows : SaidTables → List (List (List ℕ))
+end_rows said = filled_rows (said_tables said) said.filled ++ closing_rows (said_tables said) (table_mark said.answer)
+
 -- the answer to two texts; if both are tables, it ends with what was done to them, and with their
 -- rows as they were read
 abbrev pub answer_rows : FlowAnswer → List (List (List ℕ))
 answer_rows (NoTables broken) = faults_row ∷ (text_rows Places broken.places ++ text_rows Routes broken.routes)
-answer_rows (Tables said) =
-    table_rows (said_tables said) said.answer ++ (done_rows said.done ++ closing_rows (said_tables said) (table_mark said.answer))
+answer_rows (NoColumns numbers) = faults_row ∷ map lacking_row numbers.items
+answer_rows (Tables said) = table_rows (said_tables said) said.answer ++ (done_rows said.done ++ end_rows said)
 
 -- ---- its kind
 
@@ -115,14 +126,15 @@ table_kind (Periods answer) = period_kind answer
 -- whether the answer is a plan, that there is none, or faults
 abbrev pub answer_kind : FlowAnswer → TextKind
 answer_kind (NoTables broken) = told.Faults
+answer_kind (NoColumns numbers) = told.Faults
 answer_kind (Tables said) = table_kind said.answer
 
 -- ---- the text
 
 -- the text says an answer to two texts: its rows, each cell between quotes, with commas between
 -- them
-pub record IsPlanText (places routes : List ℕ) (options : Options) (text : PlanText) : Type 0 where
+pub record IsPlanText (texts : FlowBytes) (options : Options) (text : PlanText) : Type 0 where
   pub answer : FlowAnswer
-  pub answers : IsFlowAnswer places routes options answer
+  pub answers : IsFlowAnswer texts options answer
   pub text_is : text.text.items ≡ table_text comma (answer_rows answer)
   pub kind_is : text.kind ≡ answer_kind answer

@@ -1,18 +1,19 @@
 //! The answer to two tables as text.
 ghost use Rattle.std.specs.Prelude.{◌≡◌, ◌++◌, ◌∷◌, [], IfOk, OnOk};
 ghost use Rattle.mcf_answer_rows.specs.Lines.{rows_text};
+ghost use Rattle.mcf_flow_tables.specs.TableAnswers.{bytes_in};
 ghost use Rattle.mcf_form_rows.specs.FormRows.{left_out_rows};
 ghost use Rattle.mcf_plan_rows.specs.FaultRows.{table_word, tables_in};
 ghost use Rattle.mcf_reading.specs.declared.locations.Table.TheVariants.{Places, Routes};
-ghost use Rattle.mcf_plan_text.specs.PlanTexts.{IsPlanText, answer_kind, answer_rows, closing_rows, done_rows, period_kind, problem_kind, problem_mark, problem_rows, solved_kind, solved_rows, table_kind, table_mark, table_rows};
+ghost use Rattle.mcf_plan_text.specs.PlanTexts.{IsPlanText, answer_kind, answer_rows, closing_rows, done_rows, end_rows, filled_rows, period_kind, problem_kind, problem_mark, problem_rows, said_tables, solved_kind, solved_rows, table_kind, table_mark, table_rows};
 
 use mcf_answer_rows::{PlanText, TextKind, put_answer, put_mark, put_table};
 use mcf_decimal::Mark;
 use mcf_flow_tables::{
-    Done, FlowAnswer, Options, PeriodAnswer, ProblemAnswer, SolvedProblem, TableAnswer, Texts,
-    plan_tables,
+    Done, Filled, FlowAnswer, Options, PeriodAnswer, ProblemAnswer, SaidTables, SolvedProblem,
+    TableAnswer, Texts, plan_tables,
 };
-use mcf_form_rows::put_told;
+use mcf_form_rows::{put_filled, put_lacking, put_told};
 use mcf_model::Solves;
 use mcf_period_text::{period_mark, put_period_answer};
 use mcf_places::PlannerAnswer;
@@ -200,33 +201,52 @@ fn table_mark(answer: &TableAnswer) -> Option<Mark>
     }
 }
 
-// Appends what was done to the tables, and the end of an answer.
-fn put_end(
+// Appends the columns of two tables that were filled down.
+fn put_filled_columns(
     alloc: Global,
     out: &mut Vec<u8>,
     two: Two<'_>,
-    done: Done,
-    mark: Option<Mark>,
+    filled: &Filled,
 ) -> Result<(), NoMemory>
-    ensures { OnOk result (out.new.items ≡ out.old.items ++ rows_text (done_rows done ++ closing_rows (tables_in two.entry) mark)) }
+    ensures { OnOk result (out.new.items ≡ out.old.items ++ rows_text (filled_rows (tables_in two.entry) filled.now)) }
 {
-    put_done(alloc, out, done)?;
-    put_closing(alloc, out, two, mark)
+    let of_places = table_word(Table::Places);
+    put_filled(alloc, out, of_places, two.places, &filled.places)?;
+    let of_routes = table_word(Table::Routes);
+    put_filled(alloc, out, of_routes, two.routes, &filled.routes)
+}
+
+// Appends the end of the answer to the rows of two tables.
+fn put_end(alloc: Global, out: &mut Vec<u8>, said: &SaidTables) -> Result<(), NoMemory>
+    ensures { OnOk result (out.new.items ≡ out.old.items ++ rows_text (end_rows said.now)) }
+{
+    let two = Two {
+        places: &said.places,
+        routes: &said.routes,
+    };
+    put_filled_columns(alloc, out, two, &said.filled)?;
+    put_closing(alloc, out, two, table_mark(&said.answer))
+}
+
+// Appends what was done to the tables, and the end of the answer to their rows.
+fn put_done_and_end(alloc: Global, out: &mut Vec<u8>, said: &SaidTables) -> Result<(), NoMemory>
+    ensures { OnOk result (out.new.items ≡ out.old.items ++ rows_text (done_rows said.now.done ++ end_rows said.now)) }
+{
+    put_done(alloc, out, said.done)?;
+    put_end(alloc, out, said)
 }
 
 // Appends the answer to the rows of two tables, what was done to these, and their rows.
-fn put_said(
-    alloc: Global,
-    out: &mut Vec<u8>,
-    two: Two<'_>,
-    done: Done,
-    answer: &TableAnswer,
-) -> Result<(), NoMemory>
+fn put_said(alloc: Global, out: &mut Vec<u8>, said: &SaidTables) -> Result<(), NoMemory>
     ensures { OnOk result (out.new.items ≡ out.old.items
-        ++ rows_text (table_rows (tables_in two.entry) answer.now ++ (done_rows done ++ closing_rows (tables_in two.entry) (table_mark answer.now)))) }
+        ++ rows_text (table_rows (said_tables said.now) said.now.answer ++ (done_rows said.now.done ++ end_rows said.now))) }
 {
-    put_table_answer(alloc, out, two, answer)?;
-    put_end(alloc, out, two, done, table_mark(answer))
+    let two = Two {
+        places: &said.places,
+        routes: &said.routes,
+    };
+    put_table_answer(alloc, out, two, &said.answer)?;
+    put_done_and_end(alloc, out, said)
 }
 
 /// Returns the text of an answer, as `plan_text` does.
@@ -249,12 +269,16 @@ pub fn answer_text(alloc: Global, answer: &FlowAnswer) -> Result<PlanText, NoMem
                 kind: TextKind::Faults,
             })
         }
+        FlowAnswer::NoColumns(numbers) => {
+            put_answer(&mut text, b"faults")?;
+            put_lacking(alloc, &mut text, numbers)?;
+            Ok(PlanText {
+                text,
+                kind: TextKind::Faults,
+            })
+        }
         FlowAnswer::Tables(said) => {
-            let two = Two {
-                places: &said.places,
-                routes: &said.routes,
-            };
-            put_said(alloc, &mut text, two, said.done, &said.answer)?;
+            put_said(alloc, &mut text, said)?;
             Ok(PlanText {
                 text,
                 kind: table_kind(&said.answer),
@@ -275,11 +299,14 @@ pub fn answer_text(alloc: Global, answer: &FlowAnswer) -> Result<PlanText, NoMem
 /// places, and the routes that lead out of it or into it, with the amounts that count. For each
 /// fault `fault`, the table, the line, the column, what is wrong, and the cell. At the end, unless
 /// a text is no table, `list` with the table of routes and the number of them, if that was a matrix
-/// of costs; `left out` with the table and the line of a row of totals; `mark` with the mark before
-/// decimals that was settled; and both tables as they were read: `heads` the row of the heads and
-/// `row` each further one, with the table, the line and all cells. Lines are those of the texts.
-/// Over periods, `keep` for what each place keeps from a period to the next, and rows with their
-/// periods at the end. The manual page `mcfplan(1)` has all rows.
+/// of costs; `left out` with the table and the line of a row of totals; `filled` with the table,
+/// the head of a column that was filled down, and how many of its cells took the one above; `mark`
+/// with the mark before decimals that was settled; and both tables as they were read: `heads` the
+/// row of the heads and `row` each further one, with the table, the line and all cells. Lines are
+/// those of the texts. A head of a column to fill down that neither table has is a fault of
+/// `options`, with its number for the line. Over periods, `keep` for what each place keeps from a
+/// period to the next, and rows with their periods at the end. The manual page `mcfplan(1)` has all
+/// rows.
 ///
 /// # Errors
 ///
@@ -290,7 +317,7 @@ pub fn plan_text<S: Solves>(
     texts: Texts<'_>,
     options: Options,
 ) -> Result<PlanText, NoMemory>
-    ensures { IfOk result (IsPlanText texts.entry.places.now texts.entry.routes.now options) }
+    ensures { IfOk result (IsPlanText (bytes_in texts.entry) options) }
 {
     let answer = plan_tables(alloc, solver, texts, options)?;
     answer_text(alloc, &answer)

@@ -6,13 +6,13 @@ use Rattle.std.proofs.lemmas.List.{drop_all, length-append}
 use Rattle.mcf_answer_rows.proofs.RowTexts.{rows_are_table, rows_text_append}
 use Rattle.mcf_answer_rows.specs.Lines.{rows_text}
 use Rattle.mcf_answer_rows.specs.declared.texts.PlanText.{PlanText}
-use Rattle.mcf_flow_tables.specs.TableAnswers.{IsFlowAnswer, IsProblemAnswer, IsTableAnswer}
+use Rattle.mcf_flow_tables.specs.TableAnswers.{FlowBytes, IsFlowAnswer, IsProblemAnswer, IsTableAnswer}
 use Rattle.mcf_flow_tables.specs.declared.answering.ProblemAnswer.{ProblemAnswer}
 use Rattle.mcf_flow_tables.specs.declared.answering.ProblemAnswer.TheVariants.{TooGreat, Improper, Solved}
 use Rattle.mcf_flow_tables.specs.declared.answering.TableAnswer.{TableAnswer}
 use Rattle.mcf_flow_tables.specs.declared.answering.TableAnswer.TheVariants.{Faults, Periods, Problem}
 use Rattle.mcf_flow_tables.specs.declared.flow_answer.FlowAnswer.{FlowAnswer}
-use Rattle.mcf_flow_tables.specs.declared.flow_answer.FlowAnswer.TheVariants.{NoTables, Tables}
+use Rattle.mcf_flow_tables.specs.declared.flow_answer.FlowAnswer.TheVariants.{NoColumns, NoTables, Tables}
 use Rattle.mcf_flow_tables.specs.declared.options.Options.{Options}
 use Rattle.mcf_places.specs.declared.answering.LeastPlannerPlan.{LeastPlannerPlan}
 use Rattle.mcf_places.specs.Planners.{Planner, row_count}
@@ -40,9 +40,10 @@ solved_table places routes options (Faults faults) h = tt
 solved_table places routes options (Problem answer) h = solved_problem h.1 options.terms answer h.3
 solved_table places routes options (Periods answer) h = tt
 
-pub solved_answer : (places routes : List ℕ) (options : Options) (answer : FlowAnswer) → IsFlowAnswer places routes options answer → IsSolvedAnswer answer
-solved_answer places routes options (NoTables broken) h = tt
-solved_answer places routes options (Tables said) h = solved_table said.places said.routes options said.answer h.4.3
+pub solved_answer : (texts : FlowBytes) (options : Options) (answer : FlowAnswer) → IsFlowAnswer texts options answer → IsSolvedAnswer answer
+solved_answer texts options (NoTables broken) h = tt
+solved_answer texts options (NoColumns numbers) h = tt
+solved_answer texts options (Tables said) h = solved_table said.places said.routes options said.answer h.answers.1.answers
 
 -- ---- what is told of a row
 
@@ -150,10 +151,10 @@ is_told answer ranges text told are first second kind =
       kind_is = kind;
     }
 
-pub is_ranged_text : {E : Type 0} (r : Result PlanText E) (places routes : List ℕ) (options : Options) (answer : FlowAnswer)
-    → IsFlowAnswer places routes options answer → IfOk r (IsToldWithRanges answer) → IfOk r (IsRangedText places routes options)
-is_ranged_text (Err fault) places routes options answer answers told = tt
-is_ranged_text (Ok text) places routes options answer answers told =
+pub is_ranged_text : {E : Type 0} (r : Result PlanText E) (texts : FlowBytes) (options : Options) (answer : FlowAnswer)
+    → IsFlowAnswer texts options answer → IfOk r (IsToldWithRanges answer) → IfOk r (IsRangedText texts options)
+is_ranged_text (Err fault) texts options answer answers told = tt
+is_ranged_text (Ok text) texts options answer answers told =
     record {
       answer = answer;
       answers = answers;

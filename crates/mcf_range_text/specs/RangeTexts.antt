@@ -5,13 +5,13 @@ use Rattle.std.specs.List.{list_any}
 use Rattle.mcf_answer_rows.specs.AnswerRows.{cell_under, line_at}
 use Rattle.mcf_answer_rows.specs.Lines.{comma}
 use Rattle.mcf_answer_rows.specs.declared.texts.PlanText.{PlanText}
-use Rattle.mcf_flow_tables.specs.TableAnswers.{IsFlowAnswer}
+use Rattle.mcf_flow_tables.specs.TableAnswers.{FlowBytes, IsFlowAnswer}
 use Rattle.mcf_flow_tables.specs.declared.answering.ProblemAnswer.{ProblemAnswer}
 use Rattle.mcf_flow_tables.specs.declared.answering.ProblemAnswer.TheVariants.{TooGreat, Improper, Solved}
 use Rattle.mcf_flow_tables.specs.declared.answering.TableAnswer.{TableAnswer}
 use Rattle.mcf_flow_tables.specs.declared.answering.TableAnswer.TheVariants.{Faults, Periods, Problem}
 use Rattle.mcf_flow_tables.specs.declared.flow_answer.FlowAnswer.{FlowAnswer}
-use Rattle.mcf_flow_tables.specs.declared.flow_answer.FlowAnswer.TheVariants.{NoTables, Tables}
+use Rattle.mcf_flow_tables.specs.declared.flow_answer.FlowAnswer.TheVariants.{NoColumns, NoTables, Tables}
 use Rattle.mcf_flow_tables.specs.declared.options.Options.{Options}
 use Rattle.mcf_places.specs.declared.answering.LeastPlannerPlan.{LeastPlannerPlan}
 use Rattle.mcf_places.specs.declared.answering.PlannerAnswer.{PlannerAnswer}
@@ -65,6 +65,7 @@ AreTableRanges (Periods answer) ranges = ranges ≡ []
 -- of the answer to two texts
 abbrev pub AreRanges : FlowAnswer → List (Option CostRange) → Type 0
 AreRanges (NoTables broken) ranges = ranges ≡ []
+AreRanges (NoColumns numbers) ranges = ranges ≡ []
 AreRanges (Tables said) ranges = AreTableRanges said.answer ranges
 
 -- ---- their rows
@@ -97,21 +98,22 @@ table_range_rows routes (Periods answer) ranges = []
 -- of the answer to two texts
 abbrev pub range_rows : FlowAnswer → List (Option CostRange) → List (List (List ℕ))
 range_rows (NoTables broken) ranges = []
+range_rows (NoColumns numbers) ranges = []
 range_rows (Tables said) ranges = table_range_rows said.routes said.answer ranges
 
 -- ---- the text
 
 -- the text says an answer to two texts, and then the ranges of its routes: its rows, each cell
 -- between quotes, with commas between them
-pub record IsRangedText (places routes : List ℕ) (options : Options) (text : PlanText) : Type 0 where
+pub record IsRangedText (texts : FlowBytes) (options : Options) (text : PlanText) : Type 0 where
   pub answer : FlowAnswer
-  pub answers : IsFlowAnswer places routes options answer
+  pub answers : IsFlowAnswer texts options answer
   pub ranges : List (Option CostRange)
   pub are_ranges : AreRanges answer ranges
   pub text_is : text.text.items ≡ table_text comma (answer_rows answer ++ range_rows answer ranges)
   pub kind_is : text.kind ≡ answer_kind answer
 
 -- the text is an answer to two texts, with the ranges of routes if they are asked
-abbrev pub IsFlowText : Bool → List ℕ → List ℕ → Options → PlanText → Type 0
-IsFlowText true places routes options text = IsRangedText places routes options text
-IsFlowText false places routes options text = IsPlanText places routes options text
+abbrev pub IsFlowText : Bool → FlowBytes → Options → PlanText → Type 0
+IsFlowText true texts options text = IsRangedText texts options text
+IsFlowText false texts options text = IsPlanText texts options text

@@ -109,7 +109,7 @@ pub(crate) fn ranges_of(
     ensures { IfOk result (λ made. AreRanges answer.now made.items) }
 {
     match answer {
-        FlowAnswer::NoTables(_) => Ok(Vec::new(alloc)),
         FlowAnswer::Tables(said) => table_ranges(alloc, &said.answer),
+        _ => Ok(Vec::new(alloc)),
     }
 }

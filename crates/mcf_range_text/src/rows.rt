@@ -121,9 +121,9 @@ pub(crate) fn put_ranges(
     ensures { OnOk result (out.new.items ≡ out.old.items ++ rows_text (range_rows answer.now ranges.now)) }
 {
     match answer {
-        FlowAnswer::NoTables(_) => Ok(()),
         FlowAnswer::Tables(said) => {
             put_table_ranges(alloc, out, &said.routes, &said.answer, ranges)
         }
+        _ => Ok(()),
     }
 }

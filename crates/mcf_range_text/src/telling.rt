@@ -1,5 +1,6 @@
 //! The answer to two tables, with ranges, as text.
 ghost use Rattle.std.specs.Prelude.{IfOk};
+ghost use Rattle.mcf_flow_tables.specs.TableAnswers.{bytes_in};
 ghost use Rattle.mcf_range_text.specs.Private.Solved.{IsSolvedAnswer, IsToldWithRanges};
 ghost use Rattle.mcf_range_text.specs.RangeTexts.{IsFlowText, IsRangedText};
 
@@ -33,7 +34,7 @@ fn ranged_text<S: Solves>(
     texts: Texts<'_>,
     options: Options,
 ) -> Result<PlanText, NoMemory>
-    ensures { IfOk result (IsRangedText texts.entry.places.now texts.entry.routes.now options) }
+    ensures { IfOk result (IsRangedText (bytes_in texts.entry) options) }
 {
     let answer = plan_tables(alloc, solver, texts, options)?;
     told_with_ranges(alloc, &answer)
@@ -59,7 +60,7 @@ pub fn told_text<S: Solves>(
     options: Options,
     ranges: bool,
 ) -> Result<PlanText, NoMemory>
-    ensures { IfOk result (IsFlowText ranges texts.entry.places.now texts.entry.routes.now options) }
+    ensures { IfOk result (IsFlowText ranges (bytes_in texts.entry) options) }
 {
     if ranges {
         ranged_text(alloc, solver, texts, options)

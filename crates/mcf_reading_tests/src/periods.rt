@@ -3,7 +3,7 @@ use mcf_decimal::{Decimal, Mark, NumberFault};
 use mcf_names::NameFault;
 use mcf_period_reading::{
     KeepEntry, PeriodFault, PeriodHead, PeriodKind, PeriodTables, PlaceTime, RouteTime, Spot,
-    first_rows, periods_in, read_periods, row_in, tells_periods,
+    faults_of_heads, first_rows, periods_in, read_periods, row_in, tells_periods,
 };
 use mcf_reading::{Table, has_periods, read, read_heads, read_rows};
 use mcf_table::records_of;
@@ -117,7 +117,8 @@ static ROWS: [FaultRow; 11] = [
     ),
 ];
 
-// The faults of two texts, whose cells a semicolon separates; none if one is no table.
+// The faults of the heads of two texts, or else those of rows; a semicolon separates cells. None if
+// one is no table.
 pub(crate) fn faults_of(
     alloc: Global,
     places: &[u8],
@@ -130,6 +131,10 @@ pub(crate) fn faults_of(
     let Ok(routes) = records_of(alloc, routes, b';')? else {
         return Ok(none);
     };
+    let of_heads = faults_of_heads(alloc, &places, &routes)?;
+    if !of_heads.is_empty() {
+        return Ok(of_heads);
+    }
     match read_periods(alloc, &places, &routes, None)? {
         Ok(_) => Ok(none),
         Err(faults) => Ok(faults),

@@ -7,7 +7,7 @@ use Rattle.mcf_flow_tables.specs.declared.answering.ProblemAnswer.TheVariants.{T
 use Rattle.mcf_flow_tables.specs.declared.answering.TableAnswer.{TableAnswer}
 use Rattle.mcf_flow_tables.specs.declared.answering.TableAnswer.TheVariants.{Faults, Periods, Problem}
 use Rattle.mcf_flow_tables.specs.declared.flow_answer.FlowAnswer.{FlowAnswer}
-use Rattle.mcf_flow_tables.specs.declared.flow_answer.FlowAnswer.TheVariants.{NoTables, Tables}
+use Rattle.mcf_flow_tables.specs.declared.flow_answer.FlowAnswer.TheVariants.{NoColumns, NoTables, Tables}
 use Rattle.mcf_places.specs.Answers.{IsPlannerAnswer}
 use Rattle.mcf_plan_text.specs.PlanTexts.{answer_kind, answer_rows}
 use Rattle.mcf_range_text.specs.RangeTexts.{AreRanges, range_rows}
@@ -28,6 +28,7 @@ IsSolvedTable (Periods answer) = Unit {0}
 -- the answer to two texts
 abbrev pub IsSolvedAnswer : FlowAnswer → Type 0
 IsSolvedAnswer (NoTables broken) = Unit {0}
+IsSolvedAnswer (NoColumns numbers) = Unit {0}
 IsSolvedAnswer (Tables said) = IsSolvedTable said.answer
 
 -- ---- their texts
