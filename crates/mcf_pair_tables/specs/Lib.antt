@@ -5,6 +5,7 @@ pub use Rattle.mcf_groups.specs.MarkedPlaces
 pub use Rattle.mcf_groups.specs.Orders
 pub use Rattle.mcf_flow_tables.specs.TableTexts
 pub use Rattle.mcf_forms.specs.Totals
+pub use Rattle.mcf_forms.specs.Wishes
 pub use Rattle.mcf_roster.specs.Origins
 pub use Rattle.mcf_roster.specs.RosterAnswers
 pub use Rattle.mcf_roster.specs.RosterFaults

@@ -1,6 +1,7 @@
 -- The answer to a table of persons and things. No network is named here.
 -- Source: own
 use Rattle.std.specs.Prelude.{◌≡◌, ℕ, List, [], ◌∷◌, codes, Option, Some, None, Ok, Err}
+use Rattle.mcf_flow_tables.specs.Lacking.{lacking}
 use Rattle.mcf_flow_tables.specs.TableTexts.{IsBrokenText, IsTableOf}
 use Rattle.mcf_roster.specs.Origins.{origin_of}
 use Rattle.mcf_roster.specs.RosterAnswers.{IsRosterAnswer}
@@ -11,17 +12,20 @@ use Rattle.mcf_roster.specs.declared.answering.RosterAnswer.TheVariants.{Beyond,
 use Rattle.mcf_roster.specs.declared.origins.Origin.{Origin}
 use Rattle.mcf_roster_reading.specs.Reading.{Entries, read_roster}
 use Rattle.mcf_table.specs.Texts.{Record}
+use Rattle.mcf_text.specs.Lines.{lines_of, numbered_lines}
 use Rattle.mcf_table.specs.declared.heads.CellPlace.{CellPlace}
 use Rattle.mcf_pair_tables.specs.PairCosts.{great_cells, scale_of_pairs}
-use Rattle.mcf_pair_tables.specs.PairForms.{cost_total, prepared_costs}
+use Rattle.mcf_pair_tables.specs.PairForms.{IsDoneTo, prepared_costs}
 use Rattle.mcf_pair_tables.specs.PairRosters.{made_in}
 use Rattle.mcf_pair_tables.specs.declared.answering.ChoiceAnswer.{ChoiceAnswer}
 use Rattle.mcf_pair_tables.specs.declared.answering.ChoiceAnswer.TheVariants.{Improper, Solved, TooGreat}
 use Rattle.mcf_pair_tables.specs.declared.answering.TableAnswer.{TableAnswer}
 use Rattle.mcf_pair_tables.specs.declared.answering.TableAnswer.TheVariants.{Choice, Faults}
+use Rattle.mcf_pair_tables.specs.declared.options.CostTexts.{CostTexts}
 use Rattle.mcf_pair_tables.specs.declared.options.Options.{Options}
 use Rattle.mcf_pair_tables.specs.declared.pair_answer.PairAnswer.{PairAnswer}
-use Rattle.mcf_pair_tables.specs.declared.pair_answer.PairAnswer.TheVariants.{NoTable, Table}
+use Rattle.mcf_pair_tables.specs.declared.pair_answer.PairAnswer.TheVariants.{NoColumns, NoTable, Table}
+use Rattle.mcf_pair_tables.specs.declared.pair_answer.SaidTable.{SaidTable}
 
 -- where a number beyond the limits comes from, if that is the answer
 abbrev pub origin_in : Roster → RosterAnswer → Option Origin
@@ -56,9 +60,42 @@ IsTableAnswer records options (Choice answer) =
 abbrev pub pair_wanted : List (List ℕ)
 pair_wanted = codes "who" ∷ codes "what" ∷ codes "cost" ∷ []
 
--- the answer to a text: why it is no table; or its rows as they are read, and the answer to these
-abbrev pub IsPairAnswer : List ℕ → Options → PairAnswer → Type 0
-IsPairAnswer text options (NoTable fault) = IsBrokenText pair_wanted text fault
-IsPairAnswer text options (Table said) =
-    (records : List Record) × IsTableOf pair_wanted text records
-    × (said.rows ≡ prepared_costs records) × (said.total ≡ cost_total records) × IsTableAnswer said.rows options said.answer
+-- the bytes of a table, and of the heads of its columns that are filled down, one a line
+pub record CostBytes : Type 0 where
+  pub costs : List ℕ
+  pub fill_down : List ℕ
+
+-- those of texts
+abbrev pub bytes_in : CostTexts → CostBytes
+bytes_in texts = record { costs = texts.costs.now; fill_down = texts.fill_down.now }
+
+-- the numbers of the heads of columns to fill down that a table lacks
+abbrev pub unknown_heads : List ℕ → List Record → List ℕ
+unknown_heads fill_down records =
+    let rows = prepared_costs (lines_of fill_down) records in
+    lacking rows rows (numbered_lines 1 fill_down)
+
+-- the rows of a table as they are read, what was done to them, and the answer to them
+pub record IsSaidOf (fill_down : List ℕ) (records : List Record) (options : Options) (said : SaidTable) : Type 0 where
+  pub rows_are : said.rows ≡ prepared_costs (lines_of fill_down) records
+  pub done_is : IsDoneTo (lines_of fill_down) records said.done
+  pub answers : IsTableAnswer said.rows options said.answer
+
+-- the answer to the rows of a table: the heads of columns to fill down that it lacks, if there are
+-- some; or the rows as they are read, and the answer to these
+abbrev pub IsRowsAnswer : List ℕ → List Record → Options → PairAnswer → Type 0
+IsRowsAnswer fill_down records options (NoTable fault) = ⊥
+IsRowsAnswer fill_down records options (NoColumns numbers) = (numbers.items ≡ unknown_heads fill_down records) × ¬ (numbers.items ≡ [])
+IsRowsAnswer fill_down records options (Table said) = (unknown_heads fill_down records ≡ []) × IsSaidOf fill_down records options said
+
+-- the text is a table, and this is the answer to its rows
+pub record IsAnswerOf (texts : CostBytes) (options : Options) (answer : PairAnswer) : Type 0 where
+  pub records : List Record
+  pub is_table : IsTableOf pair_wanted texts.costs records
+  pub answers : IsRowsAnswer texts.fill_down records options answer
+
+-- the answer to a text: why it is no table; or the answer to its rows
+abbrev pub IsPairAnswer : CostBytes → Options → PairAnswer → Type 0
+IsPairAnswer texts options (NoTable fault) = IsBrokenText pair_wanted texts.costs fault
+IsPairAnswer texts options (NoColumns numbers) = IsAnswerOf texts options (NoColumns numbers)
+IsPairAnswer texts options (Table said) = IsAnswerOf texts options (Table said)

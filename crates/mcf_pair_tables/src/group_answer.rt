@@ -1,12 +1,13 @@
 //! The answer to two texts: persons and things, and groups of them.
-ghost use Rattle.std.specs.Prelude.{◌≡◌, IfOk};
-ghost use Rattle.mcf_pair_tables.specs.GroupAnswers.{IsGroupsText};
+ghost use Rattle.std.specs.Prelude.{IfOk};
+ghost use Rattle.mcf_pair_tables.specs.GroupAnswers.{IsGroupsText, IsRowsAnswer, bytes_in};
 
 use crate::group_options::{AtCrossing, GroupTexts};
 use crate::grouped::{Asked, GroupTableAnswer, group_table_answer};
-use crate::lists::prepared_costs;
 use crate::options::Options;
-use mcf_flow_tables::table_of;
+use crate::prepared::{Done, prepared_costs};
+use mcf_flow_tables::{lacking_heads, table_of};
+use mcf_forms::{Filling, filled_columns};
 use mcf_model::Solves;
 use mcf_table::{Records, TextFault};
 use mcf_text::NoMemory;
@@ -27,11 +28,12 @@ pub struct SaidGroups {
     /// The rows of the table of persons and things. Answers count rows from 0, the row of the
     /// heads; a row knows its line.
     pub costs: Records,
-    /// The line of the row of totals that a list of costs had and that isn't read, if there was
-    /// one.
-    pub total: Option<usize>,
+    /// What was done to that table before.
+    pub done: Done,
     /// The rows of the table of groups.
     pub groups: Records,
+    /// The columns of the table of groups that were filled down.
+    pub filled: Vec<Filling>,
     /// The answer.
     pub answer: GroupTableAnswer,
 }
@@ -41,8 +43,37 @@ pub struct SaidGroups {
 pub enum GroupsAnswer {
     /// A text isn't a table, or both aren't.
     NoTables(BrokenTexts),
+    /// The numbers, from 1, of the heads of columns to fill down that neither table has.
+    NoColumns(Vec<usize>),
     /// The rows of the tables, and the answer to them.
     Tables(SaidGroups),
+}
+
+// The answer to the rows of two tables, of which columns are filled down.
+fn said_groups<S: Solves>(
+    alloc: Global,
+    solver: &mut S,
+    costs: Records,
+    groups: Records,
+    fill_down: &[u8],
+    asked: Asked,
+) -> Result<GroupsAnswer, NoMemory>
+    ensures { IfOk result (IsRowsAnswer fill_down.now costs groups asked) }
+{
+    let costs = prepared_costs(alloc, costs, fill_down)?;
+    let groups = filled_columns(alloc, groups, fill_down)?;
+    let unknown = lacking_heads(alloc, &costs.rows, &groups.rows, fill_down)?;
+    if !unknown.is_empty() {
+        return Ok(GroupsAnswer::NoColumns(unknown));
+    }
+    let answer = group_table_answer(alloc, solver, &costs.rows, &groups.rows, asked)?;
+    Ok(GroupsAnswer::Tables(SaidGroups {
+        costs: costs.rows,
+        done: costs.done,
+        groups: groups.rows,
+        filled: groups.columns,
+        answer,
+    }))
 }
 
 /// Chooses pairs of persons and things by a table, as `plan_pairs` does, so that the choice keeps
@@ -61,21 +92,14 @@ pub fn plan_groups<S: Solves>(
     options: Options,
     crossing: AtCrossing,
 ) -> Result<GroupsAnswer, NoMemory>
-    ensures { IfOk result (IsGroupsText texts.entry.costs.now texts.entry.groups.now (record { options = options; crossing = crossing })) }
+    ensures { IfOk result (IsGroupsText (bytes_in texts.entry) (record { options = options; crossing = crossing })) }
 {
     let costs = table_of(alloc, texts.costs, &[b"who", b"what", b"cost"])?;
     let groups = table_of(alloc, texts.groups, &[b"group"])?;
     match (costs, groups) {
         (Ok(costs), Ok(groups)) => {
             let asked = Asked { options, crossing };
-            let made = prepared_costs(alloc, costs)?;
-            let answer = group_table_answer(alloc, solver, &made.rows, &groups, asked)?;
-            Ok(GroupsAnswer::Tables(SaidGroups {
-                costs: made.rows,
-                total: made.line,
-                groups,
-                answer,
-            }))
+            said_groups(alloc, solver, costs, groups, texts.fill_down, asked)
         }
         (costs, groups) => Ok(GroupsAnswer::NoTables(BrokenTexts {
             costs: costs.err(),

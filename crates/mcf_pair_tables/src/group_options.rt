@@ -10,11 +10,13 @@ pub enum AtCrossing {
     Check,
 }
 
-/// The texts of two tables, in UTF-8.
+/// The texts of two tables, in UTF-8, and which of their columns are filled down.
 #[derive(Clone, Copy)]
 pub struct GroupTexts<'t> {
     /// The table of persons and things.
     pub costs: &'t [u8],
     /// The table of groups.
     pub groups: &'t [u8],
+    /// The heads of the columns in which an empty cell takes the one above, one a line.
+    pub fill_down: &'t [u8],
 }

@@ -21,6 +21,7 @@ mod grouping;
 mod lists;
 mod options;
 mod pair_answer;
+mod prepared;
 mod ranges;
 mod rosters;
 
@@ -32,5 +33,6 @@ pub use grouped::{
     GroupedRoster, SetsAnswer, SolvedGroups,
 };
 pub use lists::is_list;
-pub use options::{Each, Options};
+pub use options::{CostTexts, Each, Options};
 pub use pair_answer::{PairAnswer, SaidTable, plan_pairs};
+pub use prepared::Done;

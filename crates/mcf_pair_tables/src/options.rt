@@ -1,6 +1,15 @@
 //! What is asked.
 use mcf_decimal::Mark;
 
+/// The text of a table of persons and things, in UTF-8, and which of its columns are filled down.
+#[derive(Clone, Copy)]
+pub struct CostTexts<'t> {
+    /// The table.
+    pub costs: &'t [u8],
+    /// The heads of the columns in which an empty cell takes the one above, one a line.
+    pub fill_down: &'t [u8],
+}
+
 /// Who gets just one, where no cell says how many.
 #[derive(Clone, Copy, Debug, PartialEq, Eq)]
 pub enum Each {

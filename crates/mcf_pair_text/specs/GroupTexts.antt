@@ -10,12 +10,13 @@ use Rattle.mcf_decimal.specs.declared.mark.Mark.{Mark}
 use Rattle.mcf_group_reading.specs.GroupReading.{Entries as Groups, read_groups}
 use Rattle.mcf_group_reading.specs.declared.kinds.Fault.{Fault as GroupFault}
 use Rattle.mcf_groups.specs.declared.ordering.Crossing.{Crossing}
-use Rattle.mcf_form_rows.specs.FormRows.{left_out_rows}
-use Rattle.mcf_pair_tables.specs.GroupAnswers.{IsGroupsText}
+use Rattle.mcf_form_rows.specs.FormRows.{filled_row, lacking_row}
+use Rattle.mcf_pair_tables.specs.GroupAnswers.{GroupBytes, IsGroupsText}
 use Rattle.mcf_pair_tables.specs.GroupedAnswers.{known_in}
 use Rattle.mcf_pair_tables.specs.declared.group_answer.BrokenTexts.{BrokenTexts}
 use Rattle.mcf_pair_tables.specs.declared.group_answer.GroupsAnswer.{GroupsAnswer}
-use Rattle.mcf_pair_tables.specs.declared.group_answer.GroupsAnswer.TheVariants.{NoTables, Tables}
+use Rattle.mcf_pair_tables.specs.declared.group_answer.GroupsAnswer.TheVariants.{NoColumns, NoTables, Tables}
+use Rattle.mcf_pair_tables.specs.declared.group_answer.SaidGroups.{SaidGroups}
 use Rattle.mcf_pair_tables.specs.declared.grouped.Asked.{Asked}
 use Rattle.mcf_pair_tables.specs.declared.grouped.ChosenGroups.{ChosenGroups}
 use Rattle.mcf_pair_tables.specs.declared.grouped.CompetingGroups.{CompetingGroups}
@@ -32,6 +33,7 @@ use Rattle.mcf_roster_reading.specs.Reading.{Entries, read_roster}
 use Rattle.mcf_roster_reading.specs.declared.kinds.Fault.{Fault}
 use Rattle.mcf_table.specs.Texts.{Record}
 use Rattle.mcf_table.specs.Written.{table_text}
+use Rattle.mcf_pair_text.specs.DoneRows.{done_rows}
 use Rattle.mcf_pair_text.specs.GroupFaultRows as faulty
 use Rattle.mcf_pair_text.specs.GroupRows.{Book, bound_row, count_row, crossing_row}
 use Rattle.mcf_pair_text.specs.PairFaultRows.{beyond_row, cell_fault_row, costs_word, great_row, improper_row}
@@ -124,11 +126,16 @@ table_rows options costs rows (Choice answer) =
 abbrev pub both_broken : BrokenTexts → List (List (List ℕ))
 both_broken broken = faulty.broken_rows costs_word broken.costs ++ faulty.broken_rows faulty.groups_word broken.groups
 
--- the answer to two texts, and the row of totals that was left out
+-- what was done to two tables: to that of persons and things, and the columns of the other that were
+-- filled down
+abbrev pub both_done : SaidGroups → List (List (List ℕ))
+both_done said = done_rows said.costs said.done ++ map (filled_row faulty.groups_word said.groups) said.filled.items
+
+-- the answer to two texts, and what was done to the tables
 abbrev pub answer_rows : Options → GroupsAnswer → List (List (List ℕ))
 answer_rows options (NoTables broken) = faults_row ∷ both_broken broken
-answer_rows options (Tables said) =
-    table_rows options said.costs said.groups said.answer ++ left_out_rows costs_word said.total
+answer_rows options (NoColumns numbers) = faults_row ∷ map lacking_row numbers.items
+answer_rows options (Tables said) = table_rows options said.costs said.groups said.answer ++ both_done said
 
 -- ---- its kind
 
@@ -159,14 +166,15 @@ table_kind (Choice answer) = grouped_kind answer
 -- whether the answer is a plan, that there is none, or faults
 abbrev pub answer_kind : GroupsAnswer → TextKind
 answer_kind (NoTables broken) = told.Faults
+answer_kind (NoColumns numbers) = told.Faults
 answer_kind (Tables said) = table_kind said.answer
 
 -- ---- the text
 
 -- the text says an answer to two texts: its rows, each cell between quotes, with commas between
 -- them
-pub record IsGroupText (costs groups : List ℕ) (asked : Asked) (made : PlanText) : Type 0 where
+pub record IsGroupText (texts : GroupBytes) (asked : Asked) (made : PlanText) : Type 0 where
   pub answer : GroupsAnswer
-  pub answers : IsGroupsText costs groups asked answer
+  pub answers : IsGroupsText texts asked answer
   pub text_is : made.text.items ≡ table_text comma (answer_rows asked.options answer)
   pub kind_is : made.kind ≡ answer_kind answer

@@ -11,6 +11,7 @@ pub mod MemberRows
 pub mod PairFaultRows
 pub mod PairPlaces
 pub mod PairRows
+pub mod DoneRows
 pub mod PairTexts
 pub mod GroupFaultRows
 pub mod GroupRows

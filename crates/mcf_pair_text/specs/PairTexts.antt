@@ -9,8 +9,8 @@ use Rattle.mcf_answer_rows.specs.declared.texts.PlanText.{PlanText}
 use Rattle.mcf_answer_rows.specs.declared.texts.TextKind.{TextKind}
 use Rattle.mcf_answer_rows.specs.declared.texts.TextKind.TheVariants as told
 use Rattle.mcf_decimal.specs.declared.mark.Mark.{Mark}
-use Rattle.mcf_form_rows.specs.FormRows.{left_out_rows}
-use Rattle.mcf_pair_tables.specs.PairAnswers.{IsPairAnswer}
+use Rattle.mcf_form_rows.specs.FormRows.{lacking_row}
+use Rattle.mcf_pair_tables.specs.PairAnswers.{CostBytes, IsPairAnswer}
 use Rattle.mcf_pair_tables.specs.declared.answering.ChoiceAnswer.{ChoiceAnswer}
 use Rattle.mcf_pair_tables.specs.declared.answering.ChoiceAnswer.TheVariants.{Improper, Solved, TooGreat}
 use Rattle.mcf_pair_tables.specs.declared.answering.SolvedPairs.{SolvedPairs}
@@ -18,13 +18,14 @@ use Rattle.mcf_pair_tables.specs.declared.answering.TableAnswer.{TableAnswer}
 use Rattle.mcf_pair_tables.specs.declared.answering.TableAnswer.TheVariants.{Choice, Faults}
 use Rattle.mcf_pair_tables.specs.declared.options.Options.{Options}
 use Rattle.mcf_pair_tables.specs.declared.pair_answer.PairAnswer.{PairAnswer}
-use Rattle.mcf_pair_tables.specs.declared.pair_answer.PairAnswer.TheVariants.{NoTable, Table}
+use Rattle.mcf_pair_tables.specs.declared.pair_answer.PairAnswer.TheVariants.{NoColumns, NoTable, Table}
 use Rattle.mcf_roster.specs.declared.answering.RosterAnswer.{RosterAnswer}
 use Rattle.mcf_roster.specs.declared.answering.RosterAnswer.TheVariants.{Beyond, Least, NoChoice}
 use Rattle.mcf_roster_reading.specs.Reading.{Entries, read_roster}
 use Rattle.mcf_roster_reading.specs.declared.kinds.Fault.{Fault}
 use Rattle.mcf_table.specs.Texts.{Record}
 use Rattle.mcf_table.specs.Written.{table_text}
+use Rattle.mcf_pair_text.specs.DoneRows.{done_rows}
 use Rattle.mcf_pair_text.specs.PairFaultRows.{beyond_row, cell_fault_row, costs_word, great_row, improper_row, text_row}
 use Rattle.mcf_pair_text.specs.PairPlaces.{Sheet, sheet_of}
 use Rattle.mcf_pair_text.specs.PairRows.{choice_rows, competition_rows}
@@ -62,10 +63,11 @@ abbrev pub table_rows : Options → List Record → TableAnswer → List (List (
 table_rows options records (Faults faults) = (faults_row ∷ map (cell_fault_row (sheet_of records)) faults) ++ closing_rows (sheet_of records) None
 table_rows options records (Choice answer) = read_rows options.maximise (sheet_of records) (read_roster options.mark records) answer
 
--- the answer to a text, and the row of totals that was left out
+-- the answer to a text, and what was done to the table
 abbrev pub answer_rows : Options → PairAnswer → List (List (List ℕ))
 answer_rows options (NoTable fault) = faults_row ∷ text_row fault ∷ []
-answer_rows options (Table said) = table_rows options said.rows said.answer ++ left_out_rows costs_word said.total
+answer_rows options (NoColumns numbers) = faults_row ∷ map lacking_row numbers.items
+answer_rows options (Table said) = table_rows options said.rows said.answer ++ done_rows said.rows said.done
 
 -- ---- its kind
 
@@ -89,13 +91,14 @@ table_kind (Choice answer) = choice_kind answer
 -- whether the answer is a plan, that there is none, or faults
 abbrev pub answer_kind : PairAnswer → TextKind
 answer_kind (NoTable fault) = told.Faults
+answer_kind (NoColumns numbers) = told.Faults
 answer_kind (Table said) = table_kind said.answer
 
 -- ---- the text
 
 -- the text says an answer to a text: its rows, each cell between quotes, with commas between them
-pub record IsPairText (text : List ℕ) (options : Options) (made : PlanText) : Type 0 where
+pub record IsPairText (texts : CostBytes) (options : Options) (made : PlanText) : Type 0 where
   pub answer : PairAnswer
-  pub answers : IsPairAnswer text options answer
+  pub answers : IsPairAnswer texts options answer
   pub text_is : made.text.items ≡ table_text comma (answer_rows options answer)
   pub kind_is : made.kind ≡ answer_kind answer

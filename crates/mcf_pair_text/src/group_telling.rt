@@ -1,17 +1,18 @@
 //! The answer to a table of persons and things and a table of groups as text.
 ghost use Rattle.std.specs.Prelude.{◌≡◌, ◌++◌, ◌∷◌, IfOk, None, OnOk, map};
 ghost use Rattle.mcf_answer_rows.specs.Lines.{rows_text};
-ghost use Rattle.mcf_form_rows.specs.FormRows.{left_out_rows};
 ghost use Rattle.mcf_group_reading.specs.GroupReading.{read_groups};
+ghost use Rattle.mcf_pair_tables.specs.GroupAnswers.{bytes_in};
 ghost use Rattle.mcf_pair_tables.specs.GroupedAnswers.{known_in};
 ghost use Rattle.mcf_roster_reading.specs.Reading.{read_roster};
 ghost use Rattle.mcf_pair_text.specs.GroupRows.{book_in};
 ghost use Rattle.mcf_pair_text.specs.GroupFaultRows.{group_row};
-ghost use Rattle.mcf_pair_text.specs.GroupTexts.{IsGroupText, answer_kind, answer_rows, book_rows, both_broken, both_tables, chosen_groups, closing_rows, competing_bounds, competing_groups, crossings_told, group_choice_rows, grouped_kind, grouped_rows, read_both, read_costs, refused_rows, sets_kind, sets_rows, solved_kind, solved_rows, table_kind, table_rows};
-ghost use Rattle.mcf_pair_text.specs.PairFaultRows.{cell_fault_row, costs_word as the_costs_word};
+ghost use Rattle.mcf_pair_text.specs.GroupTexts.{IsGroupText, answer_kind, answer_rows, book_rows, both_broken, both_done, both_tables, chosen_groups, closing_rows, competing_bounds, competing_groups, crossings_told, group_choice_rows, grouped_kind, grouped_rows, read_both, read_costs, refused_rows, sets_kind, sets_rows, solved_kind, solved_rows, table_kind, table_rows};
+ghost use Rattle.mcf_pair_text.specs.PairFaultRows.{cell_fault_row};
 ghost use Rattle.mcf_pair_text.specs.PairPlaces.{sheet_in};
 ghost use Rattle.mcf_pair_text.specs.PairTexts.{faults_row};
 
+use crate::done::put_done;
 use crate::fault_rows::{put_beyond, put_cell_faults, put_greats, put_improper};
 use crate::group_faults::{
     groups_word, put_broken, put_crossing_faults, put_group_faults, put_improper_group,
@@ -22,7 +23,7 @@ use crate::rows::{Unit, put_choice, put_competition};
 use crate::words::costs_word;
 use mcf_answer_rows::{PlanText, TextKind, put_answer, put_mark, put_table};
 use mcf_decimal::Mark;
-use mcf_form_rows::put_told;
+use mcf_form_rows::{put_filled, put_lacking};
 use mcf_group_reading::{Fault as GroupFault, Known, read as read_groups};
 use mcf_groups::Crossing;
 use mcf_model::Solves;
@@ -441,7 +442,15 @@ fn table_kind(answer: &GroupTableAnswer) -> TextKind
     }
 }
 
-// Appends the answer to the rows of two tables, these, and the row of totals that was left out.
+// Appends what was done to two tables.
+fn put_both_done(alloc: Global, out: &mut Vec<u8>, said: &SaidGroups) -> Result<(), NoMemory>
+    ensures { OnOk result (out.new.items ≡ out.old.items ++ rows_text (both_done said.now)) }
+{
+    put_done(alloc, out, &said.costs, &said.done)?;
+    put_filled(alloc, out, groups_word(), &said.groups, &said.filled)
+}
+
+// Appends the answer to the rows of two tables, these, and what was done to the tables.
 fn put_said_tables(
     alloc: Global,
     out: &mut Vec<u8>,
@@ -449,10 +458,10 @@ fn put_said_tables(
     options: Options,
 ) -> Result<(), NoMemory>
     ensures { OnOk result (out.new.items ≡ out.old.items
-        ++ rows_text (table_rows options said.now.costs said.now.groups said.now.answer ++ left_out_rows the_costs_word said.now.total)) }
+        ++ rows_text (table_rows options said.now.costs said.now.groups said.now.answer ++ both_done said.now)) }
 {
     put_table_answer(alloc, out, said, options)?;
-    put_told(alloc, out, b"left out", costs_word(), said.total)
+    put_both_done(alloc, out, said)
 }
 
 // The text of an answer.
@@ -464,6 +473,14 @@ fn text_of(alloc: Global, options: Options, answer: &GroupsAnswer) -> Result<Pla
     match answer {
         GroupsAnswer::NoTables(broken) => {
             put_broken_texts(alloc, &mut text, *broken)?;
+            Ok(PlanText {
+                text,
+                kind: TextKind::Faults,
+            })
+        }
+        GroupsAnswer::NoColumns(numbers) => {
+            put_answer(&mut text, b"faults")?;
+            put_lacking(alloc, &mut text, numbers)?;
             Ok(PlanText {
                 text,
                 kind: TextKind::Faults,
@@ -489,8 +506,7 @@ fn text_of(alloc: Global, options: Options, answer: &GroupsAnswer) -> Result<Pla
 /// that compete, `group` for each person or thing for which a number of a group's range counts, the
 /// same with that number, and `least` or `most`, which number it is; and `crossing`. Faults of the
 /// table of groups have `groups` for `costs`; those of groups that cross others have rows
-/// `crossing` after them. At the end both tables stand, and then the row of totals of the costs
-/// that isn't read.
+/// `crossing` after them. At the end both tables stand, and then what was done to them before.
 ///
 /// # Errors
 ///
@@ -502,7 +518,7 @@ pub fn group_text<S: Solves>(
     options: Options,
     crossing: AtCrossing,
 ) -> Result<PlanText, NoMemory>
-    ensures { IfOk result (IsGroupText texts.entry.costs.now texts.entry.groups.now (record { options = options; crossing = crossing })) }
+    ensures { IfOk result (IsGroupText (bytes_in texts.entry) (record { options = options; crossing = crossing })) }
 {
     let answer = plan_groups(alloc, solver, texts, options, crossing)?;
     text_of(alloc, options, &answer)

@@ -6,9 +6,11 @@
 //! It builds on `mcf_pair_tables`, which has the answer, and on `mcf_answer_rows`, which writes
 //! rows. The definitions are in `specs/`: `PairPlaces` says where the parts of a table stand,
 //! `PairFaultRows` how faults are told, `MemberRows` how persons and things are, `PairRows` how
-//! choices and competitions are, and `PairTexts` the whole text. For groups, `GroupRows` says how
-//! their counts are told, `GroupFaultRows` their faults, and `GroupTexts` the whole text.
+//! choices and competitions are, `DoneRows` what was done to the table before, and `PairTexts` the
+//! whole text. For groups, `GroupRows` says how their counts are told, `GroupFaultRows` their
+//! faults, and `GroupTexts` the whole text.
 
+mod done;
 mod fault_rows;
 mod group_faults;
 mod group_telling;

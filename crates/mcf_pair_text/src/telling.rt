@@ -1,22 +1,24 @@
 //! The answer to a table of persons and things as text.
 ghost use Rattle.std.specs.Prelude.{◌≡◌, ◌++◌, ◌∷◌, IfOk, None, OnOk, map};
 ghost use Rattle.mcf_answer_rows.specs.Lines.{rows_text};
-ghost use Rattle.mcf_form_rows.specs.FormRows.{left_out_rows};
+ghost use Rattle.mcf_pair_tables.specs.PairAnswers.{bytes_in};
 ghost use Rattle.mcf_roster_reading.specs.Reading.{read_roster};
-ghost use Rattle.mcf_pair_text.specs.PairFaultRows.{cell_fault_row, costs_word as the_costs_word};
+ghost use Rattle.mcf_pair_text.specs.DoneRows.{done_rows};
+ghost use Rattle.mcf_pair_text.specs.PairFaultRows.{cell_fault_row};
 ghost use Rattle.mcf_pair_text.specs.PairPlaces.{sheet_in};
 ghost use Rattle.mcf_pair_text.specs.PairTexts.{IsPairText, answer_kind, answer_rows, choice_kind, closing_rows, faults_row, read_rows, roster_kind, roster_rows, said_rows, table_kind, table_rows};
 
+use crate::done::put_done;
 use crate::fault_rows::{put_beyond, put_cell_faults, put_greats, put_improper, put_text_fault};
 use crate::pages::{Page, page_of};
 use crate::rows::{Unit, put_choice, put_competition};
 use crate::words::costs_word;
 use mcf_answer_rows::{PlanText, TextKind, put_answer, put_mark, put_table};
 use mcf_decimal::Mark;
-use mcf_form_rows::put_told;
+use mcf_form_rows::put_lacking;
 use mcf_model::Solves;
 use mcf_pair_tables::{
-    ChoiceAnswer, Options, PairAnswer, SaidTable, SolvedPairs, TableAnswer, plan_pairs,
+    ChoiceAnswer, CostTexts, Options, PairAnswer, SaidTable, SolvedPairs, TableAnswer, plan_pairs,
 };
 use mcf_roster::RosterAnswer;
 use mcf_roster_reading::{Fault, RosterTable, read};
@@ -200,7 +202,7 @@ fn put_table_answer(
     }
 }
 
-// Appends the answer to the rows of a table, these, and the row of totals that was left out.
+// Appends the answer to the rows of a table, these, and what was done to the table.
 fn put_said_table(
     alloc: Global,
     out: &mut Vec<u8>,
@@ -208,10 +210,10 @@ fn put_said_table(
     options: Options,
 ) -> Result<(), NoMemory>
     ensures { OnOk result (out.new.items ≡ out.old.items
-        ++ rows_text (table_rows options said.now.rows said.now.answer ++ left_out_rows the_costs_word said.now.total)) }
+        ++ rows_text (table_rows options said.now.rows said.now.answer ++ done_rows said.now.rows said.now.done)) }
 {
     put_table_answer(alloc, out, &said.rows, options, &said.answer)?;
-    put_told(alloc, out, b"left out", costs_word(), said.total)
+    put_done(alloc, out, &said.rows, &said.done)
 }
 
 // The text of an answer.
@@ -229,6 +231,14 @@ fn text_of(alloc: Global, options: Options, answer: &PairAnswer) -> Result<PlanT
                 kind: TextKind::Faults,
             })
         }
+        PairAnswer::NoColumns(numbers) => {
+            put_answer(&mut text, b"faults")?;
+            put_lacking(alloc, &mut text, numbers)?;
+            Ok(PlanText {
+                text,
+                kind: TextKind::Faults,
+            })
+        }
         PairAnswer::Table(said) => {
             put_said_table(alloc, &mut text, said, options)?;
             Ok(PlanText {
@@ -241,17 +251,19 @@ fn text_of(alloc: Global, options: Options, answer: &PairAnswer) -> Result<PlanT
 
 /// Chooses pairs of persons and things by a table, as `plan_pairs` does, and returns the answer as
 /// the text of a table, whose rows begin with a word that says what they are: `answer` and its
-/// kind, which is `plan`, `no plan` or `faults`. Of a plan and of none, `persons` and `things`
-/// with how many the table names. Of a choice, `cost` with what it costs, or what it is worth; for
-/// each chosen pair `pair`, its line, the number of its column in a matrix, the person, the thing
-/// and what it costs; for each person `person`, the line and the name, and for each thing `thing`,
-/// the same. Of persons and things that compete, `side`; for each person `person`, the line, the
-/// name and its least or its most, as the side counts it, and for each thing `thing`, the same;
-/// and `pair`, as for a choice, for each pair that counts one more. For each fault `fault`,
-/// `costs`, the line, the column, what is wrong, and the cell. At the end, unless the text is no
-/// table, `mark` with the mark before decimals that was settled, and the table: `heads` the row of
-/// the heads and `row` each further one, with `costs`, the line and all cells; and if a last row of
-/// totals of a list isn't read, `left out` with `costs` and its line.
+/// kind, which is `plan`, `no plan` or `faults`. Of a plan and of none, `persons` and `things` with
+/// how many the table names. Of a choice, `cost` with what it costs, or what it is worth; for each
+/// chosen pair `pair`, its line, the number of its column in a matrix, the person, the thing and
+/// what it costs; for each person `person`, the line and the name, and for each thing `thing`, the
+/// same. Of persons and things that compete, `side`; for each person `person`, the line, the name
+/// and its least or its most, as the side counts it, and for each thing `thing`, the same; and
+/// `pair`, as for a choice, for each pair that counts one more. For each fault `fault`, `costs`,
+/// the line, the column, what is wrong, and the cell. At the end, unless the text is no table,
+/// `mark` with the mark before decimals that was settled, and the table: `heads` the row of the
+/// heads and `row` each further one, with `costs`, the line and all cells; if a last row of totals
+/// of a list isn't read, `left out` with `costs` and its line; and for each column that was filled
+/// down `filled`, with `costs`, its head and how many of its cells took the one above. A head of a
+/// column to fill down that the table lacks is a fault of `options`, with its number for the line.
 ///
 /// # Errors
 ///
@@ -259,11 +271,11 @@ fn text_of(alloc: Global, options: Options, answer: &PairAnswer) -> Result<PlanT
 pub fn pair_text<S: Solves>(
     alloc: Global,
     solver: &mut S,
-    text: &[u8],
+    texts: CostTexts<'_>,
     options: Options,
 ) -> Result<PlanText, NoMemory>
-    ensures { IfOk result (IsPairText text.now options) }
+    ensures { IfOk result (IsPairText (bytes_in texts.entry) options) }
 {
-    let answer = plan_pairs(alloc, solver, text, options)?;
+    let answer = plan_pairs(alloc, solver, texts, options)?;
     text_of(alloc, options, &answer)
 }

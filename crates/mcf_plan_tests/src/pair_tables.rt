@@ -137,6 +137,30 @@ fn pairs_have_a_least_choice(rt: HostRuntime) -> Result<(), Fail> {
     Ok(())
 }
 
+// Whether the table was a sheet of this many wishes, with this number of persons for each thing.
+fn was_sheet(answer: &PairAnswer, count: usize, needs: &[u8]) -> bool {
+    match answer {
+        PairAnswer::Table(said) => {
+            said.done.wishes == Some(count) && said.done.needs.as_slice() == needs
+        }
+        PairAnswer::NoTable(_) => false,
+    }
+}
+
+#[test]
+fn wishes_of_pupils_are_pairs(rt: HostRuntime) -> Result<(), Fail> {
+    let text = b"Sports\nwho,first,second,needs\nAnn,Yoga,Chess,0..2\nBea,Yoga\nCem,Yoga,Chess\n";
+    let options = Options {
+        mark: None,
+        each: Some(Each::Who),
+        maximise: false,
+    };
+    let answer = answer_to(rt.alloc(), text, options)?;
+    assert!(rt; has_cost(&answer, Some((4, 0))));
+    assert!(rt; was_sheet(&answer, 5, b"0..2"));
+    Ok(())
+}
+
 // Whether a cost of the second pair is beyond the limits.
 fn is_beyond(answer: &PairAnswer) -> bool {
     match solved(answer) {

@@ -189,3 +189,16 @@ fn totals_of_pairs_are_left_out(rt: HostRuntime) -> Result<(), Fail> {
     );
     Ok(())
 }
+
+#[test]
+fn wishes_of_pupils_are_told(rt: HostRuntime) -> Result<(), Fail> {
+    let text = b"Sports\npupil,who,first,second,needs\n1,Ann,Yoga,Chess,0..2\n2,Bea,Yoga\n\
+        3,Cem,Yoga,Chess\n";
+    let told = text_for(rt.alloc(), text, PLAIN)?;
+    assert!(rt; told.kind == TextKind::Plan);
+    assert!(rt;
+        told.text
+            .ends_with(b"\"0..2\"\n\"wishes\",\"costs\",\"5\",\"0..2\"\n")
+    );
+    Ok(())
+}
