@@ -28,8 +28,8 @@ _mcf_options()
     case $1:$2 in
         mcf:solve) echo -h --help "$solve" ;;
         mcf:*) echo -h --help -V --version ;;
-        mcfplan:flow) echo -h --help --decimal --unused --short --penalty --ranges ;;
-        mcfplan:pairs) echo -h --help --decimal --each --maximise --groups --crossing ;;
+        mcfplan:flow) echo -h --help --decimal --unused --short --penalty --ranges --fill-down ;;
+        mcfplan:pairs) echo -h --help --decimal --each --maximise --groups --crossing --fill-down ;;
         mcfplan:*) echo -h --help -V --version ;;
         mcf_one:*) echo "$solve" ;;
         mcf_plan:flow) echo -h --help "$plan" --unused --short --most-flow --penalty --ranges --no-picture ;;

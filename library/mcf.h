@@ -114,8 +114,8 @@ uint32_t mcf_solve(const uint8_t *input, size_t input_length, const struct mcf_c
 uint32_t mcf_check(const uint8_t *input, size_t input_length, const uint8_t *answer,
                    size_t answer_length, struct mcf_verdict *verdict);
 
-/* How tables are read, what plans may leave, and whether ranges are told. All zeros, with an empty
-   penalty, are the defaults. */
+/* How tables are read, what plans may leave, and whether ranges are told. All zeros are the
+   defaults. */
 struct mcf_plan_options {
     uint32_t decimal;       /* the mark before decimals: MCF_SHOWN_MARK to MCF_COMMA */
     uint32_t allow_unused;  /* 1: supplies may stay where they are; 0: all is sent */
@@ -128,6 +128,9 @@ struct mcf_plan_options {
                                names a mark; if it is empty, and all those cells are, as little as
                                possible is missing */
     size_t penalty_length;
+    const uint8_t *fill_down; /* the heads of columns in which an empty cell takes the one above,
+                                 one a line, in UTF-8; if it is empty, there are none */
+    size_t fill_down_length;
 };
 
 /* The mark that the tables show, a point, or a comma. */
@@ -156,6 +159,9 @@ struct mcf_pair_options {
     const uint8_t *groups; /* the text of a table of groups in UTF-8, which `man mcfplan`
                               describes; if it is empty, there are none */
     size_t groups_length;
+    const uint8_t *fill_down; /* the heads of columns in which an empty cell takes the one above,
+                                 one a line, in UTF-8; if it is empty, there are none */
+    size_t fill_down_length;
 };
 
 /* Groups that cross an earlier one are faults; or they are left out, and the answer says who breaks

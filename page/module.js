@@ -80,11 +80,11 @@ export class Instance {
    */
   plan(places, routes, options = {}) {
     const { decimal = '', unused = false, short = false, ranges = false, penalty = '' } = options;
-    const named = this.lend(new TextEncoder().encode(penalty));
     const choices = [unused, short, ranges].map(Number);
-    const asked = this.numbers([MARKS.indexOf(decimal), ...choices], 32);
-    this.view().setBigUint64(Number(asked) + 16, named.at, true);
-    this.view().setBigUint64(Number(asked) + 24, BigInt(named.size), true);
+    const asked = this.options([MARKS.indexOf(decimal), ...choices], [
+      this.lend(new TextEncoder().encode(penalty)),
+      this.lines(options.fillDown)
+    ]);
     return this.written(0, 4096 + 12 * (places.size + routes.size), (at, room) =>
       this.exports.mcf_plan_flow(
         places.at,
@@ -108,11 +108,13 @@ export class Instance {
    * @param {PairOptions} options
    * @returns {{ status: Status } & Lent}
    */
-  pair(costs, groups, { decimal = '', each = '', maximise = false, crossing = '' } = {}) {
-    const choices = [maximise, crossing === 'check'].map(Number);
-    const asked = this.numbers([MARKS.indexOf(decimal), EACH.indexOf(each || ''), ...choices], 32);
-    this.view().setBigUint64(Number(asked) + 16, groups.at, true);
-    this.view().setBigUint64(Number(asked) + 24, BigInt(groups.size), true);
+  pair(costs, groups, options = {}) {
+    const { decimal = '', each = '', maximise = false, crossing = '' } = options;
+    const choices = [EACH.indexOf(each || ''), Number(maximise), Number(crossing === 'check')];
+    const asked = this.options([MARKS.indexOf(decimal), ...choices], [
+      groups,
+      this.lines(options.fillDown)
+    ]);
     return this.written(0, 4096 + 12 * (costs.size + groups.size), (at, room) =>
       this.exports.mcf_plan_pairs(
         costs.at,
@@ -123,6 +125,23 @@ export class Instance {
         this.used
       )
     );
+  }
+
+  // This method lends a text with a head in each line.
+  /** @type {(heads?: string[]) => Lent} */
+  lines(heads = []) {
+    return this.lend(new TextEncoder().encode(heads.join('\n')));
+  }
+
+  // This method returns the address of options: four numbers of 32 bits, and texts that were lent.
+  /** @type {(numbers: number[], texts: Lent[]) => bigint} */
+  options(numbers, texts) {
+    const asked = this.numbers(numbers, 16 + 16 * texts.length);
+    texts.forEach(({ at, size }, k) => {
+      this.view().setBigUint64(Number(asked) + 16 + 16 * k, at, true);
+      this.view().setBigUint64(Number(asked) + 24 + 16 * k, BigInt(size), true);
+    });
+    return asked;
   }
 
   // This method returns the address of numbers of 32 bits.

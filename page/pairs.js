@@ -5,8 +5,7 @@ import { TOLD_NAMES, countOf, listed } from './faults.js';
 import { groupLines, leftOutLines } from './groups.js';
 import { carriedLines, carriedOf } from './heads.js';
 import { partsOf } from './network.js';
-import { FORBIDDEN } from './prepare.js';
-import { NEEDED, isList, numberCells, readLine } from './sentences.js';
+import { FORBIDDEN, NEEDED, isList, numberCells, readLine } from './sentences.js';
 import { Table, cellAt, fold, notesOf } from './tables.js';
 import { words } from './words.js';
 
@@ -49,13 +48,18 @@ export class Roster {
     this.units = new Units(0, decimalsOf([...costs, cost]));
     this.said = new Said(this.units, this.mark);
     this.cost = scaled(cost, this.units.costs);
-    const rows = new Map(this.table.rows.map((row) => [row.line, row.cells]));
+    // The wishes of a person share a line.
+    const key = (/** @type {number} */ line, /** @type {string} */ what) => `${line} ${what}`;
+    const whatOf = this.table.reader(this.isList ? ['what'] : []);
+    const rows = new Map(
+      this.table.rows.map(({ line, cells }) => [key(line, whatOf(cells)[0] ?? ''), cells])
+    );
     /** @type {ChosenPair[]} */
     this.pairs = pairs.map(([line, , who, what], k) => ({
       who,
       what,
       cost: scaled(costs[k], this.units.costs),
-      cells: rows.get(Number(line)),
+      cells: rows.get(key(Number(line), this.isList ? what : '')),
     })).sort((a, b) =>
       this.persons.get(a.who) - this.persons.get(b.who)
       || this.things.get(a.what) - this.things.get(b.what)

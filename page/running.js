@@ -20,7 +20,7 @@ import { Roster } from './pairs.js';
 import { FlowPlan } from './plan.js';
 import { Teller } from './sentences.js';
 import { NoAnswer, bottlenecksOf, linesOf, planOf } from './solving.js';
-import { notesOf, textsOf } from './tables.js';
+import { headIn, notesOf, textsOf } from './tables.js';
 import { grouped } from './view.js';
 import { CODES, words } from './words.js';
 
@@ -42,13 +42,20 @@ const PENALTY = /^[0-9]{1,18}(?:([.,])[0-9]{1,18})?$/;
  * @returns {Promise<{ found: Answer, result: Result }>}
  */
 async function untold(solver, texts, reading, options) {
-  const decimal = reading.decimal || '', bytes = Object.values(texts).map((text) => text.bytes());
-  const result = await solver.plan(bytes, { decimal, ...options });
+  const decimal = reading.decimal || '', read = Object.values(texts);
+  const columns = reading.fillDown || [], fillDown = columns.map((one) => headIn(read, one));
+  const bytes = read.map((text) => text.bytes());
+  const result = await solver.plan(bytes, { decimal, fillDown, ...options });
   if (!['flow', 'blocked', 'refused'].includes(result.status)) {
     throw new NoAnswer(result.status, result.why);
   }
   const found = new Answer(result.answer);
-  for (const [word, text] of Object.entries(texts)) text.change(word, found);
+  const lacking = found.rows('fault')
+    .filter(([table, , what]) => table === 'options' && what === 'fill down')
+    .map(([, number]) => `${words().fills(columns[Number(number) - 1])}: there is no such column`);
+  if (lacking.length) throw new BadTable(lacking);
+  const named = new Map(fillDown.map((head, k) => [head.toLowerCase(), columns[k]]));
+  for (const [word, text] of Object.entries(texts)) text.change(word, found, named);
   return { found, result };
 }
 
@@ -129,7 +136,7 @@ export async function flowOf(solver, sources, { reading, policy }) {
  */
 export async function pairsOf(solver, sources, choices) {
   const { reading, each, maximise, crossing } = choices;
-  const faults = new Faults(), [costs, groups] = textsOf(sources, reading, faults, true);
+  const faults = new Faults(), [costs, groups] = textsOf(sources, reading, faults);
   /** @type {Record<string, TableText>} */
   const texts = groups ? { costs, groups } : { costs };
   const asked = { each: each || '', maximise, crossing };

@@ -3,7 +3,6 @@
 import { ZERO, compare, decimalText, exactOf, markIn } from './amounts.js';
 import { at, countOf, listed, shown } from './faults.js';
 import { nearTo } from './near.js';
-import { FORBIDDEN } from './prepare.js';
 import { spotsOf } from './spots.js';
 import { LOOKED, Table, cellAt, escaped, fold } from './tables.js';
 import { words } from './words.js';
@@ -13,6 +12,9 @@ import { words } from './words.js';
  * @typedef {import('./faults.js').Faults} Faults
  * @typedef {import('./tables.js').TableText} TableText
  */
+
+// The cells that forbid a pair.
+export const FORBIDDEN = ['', 'x', '-', '–', '—'];
 
 // The heads that each table needs.
 /** @type {Record<string, string[]>} */
@@ -146,7 +148,6 @@ export class Teller {
     this.faults = faults;
     this.penalty = penalty;
     this.tables = /** @type {Record<string, Table>} */ ({});
-    this.rows = /** @type {Record<string, Map<number, string[]>>} */ ({});
     this.shows = /** @type {NumberCell[]} */ ([]);
     this.done = new Set();
     this.crossed = /** @type {Map<string, string>} */ (new Map());
@@ -161,7 +162,6 @@ export class Teller {
     for (const [word, text] of Object.entries(this.texts)) {
       const read = answer.tables.get(word) || { headLine: 1, titles: [''], rows: [] };
       this.tables[word] = new Table(text, read);
-      this.rows[word] = new Map(read.rows.map(({ line, cells }) => [line, cells]));
     }
     this.shows = [...numberCells(this.tables)].filter(({ cell }) => markIn(cell));
     for (const [word, ...more] of found) {
@@ -188,6 +188,15 @@ export class Teller {
     this.faults.add(at(this.texts[word].name, Number(line), column), what, text, cell);
   }
 
+  // This method returns the cells of a row. Of those that share a line, as wishes do, it is the
+  // first with a cell below a head, if there is one.
+  /** @type {(word: string, line: string, head: string, cell: string) => string[]} */
+  row(word, line, head, cell) {
+    const { heads, rows } = this.tables[word], place = heads.indexOf(head);
+    const mine = rows.filter((row) => row.line === Number(line)).map(({ cells }) => cells);
+    return mine.find((cells) => cellAt(cells, place) === cell) || mine[0] || [];
+  }
+
   // This method returns the column and the cell of a fault. One of steps is in the first step that
   // costs less than the one before, or whose most is below 0; a mark may stand in a column about
   // periods, told by its place.
@@ -202,7 +211,7 @@ export class Teller {
       return [takes > 0 && head === String(takes + 1) ? 'takes' : head, cell];
     }
     const columns = table.heads.map((_, k) => (k ? `${head} ${k + 1}` : head));
-    const cells = table.reader(columns)(this.rows[word].get(Number(line)));
+    const cells = table.reader(columns)(this.row(word, line, head, cell));
     const mark = this.reading.decimal || (this.shows.length ? markIn(this.shows[0].cell) : '.');
     const values = cells.map((one) => exactOf(one, mark));
     const place = values.findIndex((value, k) =>
@@ -215,7 +224,7 @@ export class Teller {
   /** @type {(word: string, line: string, column: string, whole: string, cell: string) => string} */
   text(word, line, column, whole, cell) {
     const [, what, meant] = TITLE.exec(whole) || [whole, whole, ''], table = this.tables[word];
-    const row = this.rows[word].get(Number(line)) || [];
+    const row = this.row(word, line, column, cell);
     /** @type {Record<string, string[]>} */
     const several = word === 'groups'
       ? { who: ['group', 'who'], what: ['group', 'what'] }

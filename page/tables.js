@@ -2,7 +2,7 @@
 // Tables: their texts, from files or pasted, for the module; and their rows, as an answer repeats
 // them.
 import { BadTable, at, countOf, listed, shown } from './faults.js';
-import { firstRow, prepare } from './prepare.js';
+import { firstRow } from './cells.js';
 import { words } from './words.js';
 
 /** @typedef {import('./answer.js').Answer} Answer */
@@ -94,8 +94,7 @@ export const escaped = (text) => text.replace(/[\\^$.*+?()[\]{}|]/g, '\\$&');
 const withFeeds = (text) => text.replace(/\r\n?/g, '\n');
 
 // A text for the module, in normal form C, with a line feed at the end of each line. `own` has the
-// planner's titles by the heads that replace them in the text; `notes` say what was changed in it,
-// and `changes` what an answer changed.
+// planner's titles by the heads that replace them in the text; `changes` say what an answer changed.
 export class TableText {
   /**
    * @param {Source} source
@@ -112,10 +111,9 @@ export class TableText {
     /** @type {Map<string, string>} */
     this.own = new Map();
     /** @type {string[]} */
-    this.notes = [];
     /** @type {string[]} */
     this.changes = [];
-    this.isMatrix = false;
+    this.isListed = false;
     if (!this.text.trim()) {
       throw new BadTable([
         `${name}, line 1: the table is empty; its first line has the heads of the columns`,
@@ -173,11 +171,11 @@ export class TableText {
     });
   }
 
-  // This method returns the separator by which the text has these titles. That of a matrix splits
-  // its heads into most.
+  // This method returns the separator by which the text has these titles. That of a matrix or of a
+  // sheet of wishes splits its heads into most.
   /** @type {(read: AnsweredTable) => string} */
   separator({ headLine, titles }) {
-    if (this.isMatrix) return this.splitOf(headLine).mark;
+    if (this.isListed) return this.splitOf(headLine).mark;
     const text = this.text.split('\n').slice(headLine - 1).join('\n');
     const known = [...this.separators.slice(SEPARATORS.length) + SEPARATORS];
     return known.map(escaped).find((mark) => {
@@ -198,21 +196,34 @@ export class TableText {
   }
 
   // This method notes what an answer changed in the table, which has this word there, before it was
-  // read: a matrix became a list, a row of totals was left out.
-  /** @type {(word: string, answer: Answer) => void} */
-  change(word, answer) {
+  // read: a matrix or a sheet of wishes became a list, a row of totals was left out, columns were
+  // filled down. Columns come as the planner names them, by their heads in small letters.
+  /** @type {(word: string, answer: Answer, columns: Map<string, string>) => void} */
+  change(word, answer, columns) {
     const mine = (/** @type {string} */ kind) =>
       answer.rows(kind).filter(([name]) => name === word);
-    this.isMatrix = mine('list').length > 0;
+    this.isListed = mine('list').length + mine('wishes').length > 0;
     this.changes = [
       ...mine('list').map(([, count]) =>
         `${this.name} is a matrix: it is read as a list of `
           + `${countOf(Number(count), 'route', 'routes')} without a limit, from the places on the `
           + 'left to those above.'
       ),
+      ...mine('wishes').flatMap(([, count, needs]) => [
+        `${this.name} is a sheet of wishes: it is read as a list of `
+          + `${countOf(Number(count), 'wish', 'wishes')}, of which a first one costs 1, a second `
+          + 'one 2 and so on.',
+        needs
+          ? `The number ${shown(needs)} of column needs holds for each thing.`
+          : 'No column needs says how many persons a thing takes, such as 0..28: each takes one.',
+      ]),
       ...mine('left out').map(([, line]) =>
         `${this.name}, line ${line} is left out: it has the sums of the lines above `
           + `(${listed(this.splitOf(Number(line)).cells.filter(Boolean).map(shown))}).`
+      ),
+      ...mine('filled').filter(([, , count]) => count !== '0').map(([, head, count]) =>
+        `${this.name}, column ${columns.get(fold(head)) ?? head}: `
+          + `${countOf(Number(count), 'empty cell takes', 'empty cells take')} the value above.`
       ),
     ];
   }
@@ -228,7 +239,7 @@ export class TableText {
  * @param {Faults} faults
  * @returns {TableText[]}
  */
-export function textsOf(sources, reading, faults, isPairs = false) {
+export function textsOf(sources, reading, faults) {
   const texts = sources.map((source) => new TableText(source, reading, faults));
   const last = texts[texts.length - 1], titles = Object.entries(reading.heads || {});
   const missing = texts.map((text) => text.call(titles));
@@ -238,13 +249,20 @@ export function textsOf(sources, reading, faults, isPairs = false) {
     const told = `there is no such column, ${words().names(head, own)}${nor}`;
     faults.add(at(last.name, 1, own), 'map', told);
   }
-  prepare(texts, reading.fillDown || [], isPairs);
   return texts;
+}
+
+// This function returns the head in texts of a column that the planner names by its title or head.
+/** @type {(texts: TableText[], column: string) => string} */
+export function headIn(texts, column) {
+  const named = column.normalize('NFC').trim();
+  const owned = texts.flatMap((text) => [...text.own]);
+  return (owned.find(([, own]) => fold(own) === fold(named)) || [named])[0];
 }
 
 // This function returns the notes on what was changed in texts before they were read.
 /** @type {(texts: TableText[]) => string[]} */
-export const notesOf = (texts) => texts.flatMap(({ notes, changes }) => [...notes, ...changes]);
+export const notesOf = (texts) => texts.flatMap(({ changes }) => changes);
 
 // The rows of a table. `heads` are its heads in small letters, `titles` as the planner wrote them.
 export class Table {

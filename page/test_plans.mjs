@@ -68,10 +68,13 @@ export function solverOf(module) {
 function solverBy(program) {
   const scratch = fs.mkdtempSync(path.join(os.tmpdir(), 'mcf-page-'));
   process.on('exit', () => fs.rmSync(scratch, { recursive: true }));
-  const wordsOf = ({ decimal, unused, short, ranges, penalty, each, maximise, crossing }) => [
+  const wordsOf = (
+    { decimal, unused, short, ranges, penalty, each, maximise, crossing, fillDown = [] }
+  ) => [
     decimal && `--decimal=${decimal}`, unused && '--unused=allow', short && '--short=allow',
     ranges && '--ranges=yes', penalty && `--penalty=${penalty}`, each && `--each=${each}`,
     maximise && '--maximise=yes', crossing && `--crossing=${crossing}`,
+    fillDown.length && `--fill-down=${fillDown.join('\n')}`,
   ].filter(Boolean);
   return {
     plan: async (texts, options) => {

@@ -317,6 +317,7 @@ interface PairOptions {
   each?: string | null;
   maximise?: boolean;
   crossing?: string | null;
+  fillDown?: string[];
 }
 
 /** How tables are read, and what plans may leave. */
@@ -326,6 +327,7 @@ interface PlanOptions {
   short?: boolean;
   ranges?: boolean;
   penalty?: string;
+  fillDown?: string[];
 }
 
 /** Bytes in the module's memory. */

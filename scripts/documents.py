@@ -396,7 +396,7 @@ FUNCTIONS = {
 
 # What PLANS names and TABLES defines, in the order in which TABLES needs it.
 TABLE_NAMES = """
-Reads named_separator front_lines SplitsBest head_row
+IsTableOf IsBrokenText
 cells_of mcf_reading.head_faults mcf_reading.read_heads place_columns route_columns all_step_columns
 mcf_reading.settled_mark number_cells
 is_filled cell_at read_number read_amount read_penalty is_no_limit read_limit is_yes way_kind
@@ -404,8 +404,8 @@ number_of
 mcf_reading.name_kind no_place_kind mcf_reading.cell_faults
 scales_of great_faults planner_faults IsProperPlanner steps_in rows_in
 numbers_of is_bounded
-IsBeyond limited shortage_of IsShownIn mcf_places.origin_of
-prepared_places prepared_routes done_to
+IsBeyond limited shortage_of IsShownIn mcf_flow_tables.origin_in
+prepared_places prepared_routes done_to AreFilled lacking
 tells_periods IsPeriodTableAnswer
 """
 

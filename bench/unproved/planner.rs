@@ -32,6 +32,9 @@ impl Words {
     fn is(&self, name: &str, word: &str) -> bool {
         self.options.get(name).is_some_and(|given| given == word)
     }
+    fn fill_down(&self) -> &[u8] {
+        self.options.get("fill-down").map_or(&[], |heads| heads.as_bytes())
+    }
     fn mark(&self) -> Option<Mark> {
         match self.options.get("decimal").map(|word| word.as_str()) {
             Some(".") => Some(Mark::Point),
@@ -54,7 +57,8 @@ fn flow(words: &Words) -> (TextKind, Vec<u8>) {
         .map(|word| number(word.as_bytes(), mark).unwrap_or_else(|_| failed("the penalty isn't a number")));
     let terms = mcf_units::Terms { unused: words.is("unused", "allow"), short: words.is("short", "allow"), penalty };
     let [places, routes] = &words.tables[..] else { failed("name two tables, PLACES and ROUTES") };
-    let texts = mcf_flow_tables::Texts { places, routes };
+    let fill_down = words.fill_down();
+    let texts = mcf_flow_tables::Texts { places, routes, fill_down };
     let options = mcf_flow_tables::Options { mark, terms };
     let told = mcf_range_text::told_text(Global, &mut engine(), texts, options, words.is("ranges", "yes"))
         .unwrap_or_else(|_| failed("out of memory"));
@@ -71,15 +75,19 @@ fn pairs(words: &Words) -> (TextKind, Vec<u8>) {
     };
     let options = mcf_pair_tables::Options { mark: words.mark(), each, maximise: words.is("maximise", "yes") };
     let [costs] = &words.tables[..] else { failed("name a table, COSTS") };
+    let fill_down = words.fill_down();
     let told = match words.options.get("groups") {
         Some(file) => {
             use mcf_pair_tables::AtCrossing;
             let groups = &std::fs::read(file).unwrap_or_else(|_| failed("a table can't be read"))[..];
             let crossing = if words.is("crossing", "check") { AtCrossing::Check } else { AtCrossing::Refuse };
-            let texts = mcf_pair_tables::GroupTexts { costs, groups };
+            let texts = mcf_pair_tables::GroupTexts { costs, groups, fill_down };
             mcf_pair_text::group_text(Global, &mut engine(), texts, options, crossing)
         }
-        None => mcf_pair_text::pair_text(Global, &mut engine(), costs, options),
+        None => {
+            let texts = mcf_pair_tables::CostTexts { costs, fill_down };
+            mcf_pair_text::pair_text(Global, &mut engine(), texts, options)
+        }
     };
     let told = told.unwrap_or_else(|_| failed("out of memory"));
     (told.kind, told.text)

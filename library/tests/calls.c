@@ -352,9 +352,11 @@ static int check_tables(void) {
     static const uint8_t places[] = "name,supply\nMill,3\nTown,-3\n";
     static const uint8_t routes[] = "from,to,most,cost\nMill,Town,5,1.5\n";
     static const uint8_t narrow[] = "from,to,most,cost\nMill,Town,2,1.5\n";
+    static const uint8_t merged[] =
+        "from,to,most,cost\nMill,Town,2,1.5\nMill,Town,2,\n";
     static const char plan[] = "\"answer\",\"plan\"\n\"cost\",\"4.5\"\n";
     static const char range[] = "\"range\",\"2\",\"Mill\",\"Town\",\"\",\"\"\n";
-    struct mcf_plan_options options = {MCF_SHOWN_MARK, 0, 0, 0, (const uint8_t *)"", 0};
+    struct mcf_plan_options options = {MCF_SHOWN_MARK, 0, 0, 0, (const uint8_t *)"", 0, NULL, 0};
     uint8_t room[1024];
     size_t used = 77, length = sizeof places - 1;
     CHECK(51, mcf_plan_flow(places, length, routes, sizeof routes - 1, &options, room, sizeof room,
@@ -372,6 +374,15 @@ static int check_tables(void) {
     CHECK(69, mcf_plan_flow(places, length, routes, sizeof routes - 1, &options, room, sizeof room,
                             &used) == MCF_INVALID_CHOICE);
     options.ranges = 0;
+    options.fill_down = (const uint8_t *)"cost";
+    options.fill_down_length = 4;
+    CHECK(119, mcf_plan_flow(places, length, merged, sizeof merged - 1, &options, room, sizeof room,
+                             &used) == MCF_FLOW &&
+                   memcmp(room, plan, sizeof plan - 1) == 0);
+    options.fill_down_length = 3;
+    CHECK(120, mcf_plan_flow(places, length, merged, sizeof merged - 1, &options, room, sizeof room,
+                             &used) == MCF_INVALID_INPUT);
+    options.fill_down_length = 0;
     options.allow_unused = options.allow_short = 1;
     options.penalty = (const uint8_t *)"0.5";
     options.penalty_length = 3;
@@ -395,10 +406,11 @@ static int check_tables(void) {
 static int check_rosters(void) {
     static const uint8_t costs[] = ",X,Y\nA,1,2.5\nB,3,3.5\n";
     static const uint8_t narrow[] = ",X\nA,1\nB,1\n";
+    static const uint8_t merged[] = "who,what,cost\nA,X,1\n,Y,2.5\nB,X,3\n";
     static const char pairs[] = "\"answer\",\"plan\"\n\"cost\",\"4.5\"\n";
     static const char values[] = "\"answer\",\"plan\"\n\"cost\",\"5.5\"\n";
     static const uint8_t groups[] = "group,what,most\nboth,X,0\nboth,Y,\n";
-    struct mcf_pair_options options = {MCF_SHOWN_MARK, MCF_EACH_AUTO, 0, 0, NULL, 0};
+    struct mcf_pair_options options = {MCF_SHOWN_MARK, MCF_EACH_AUTO, 0, 0, NULL, 0, NULL, 0};
     uint8_t room[1024];
     size_t used = 77, length = sizeof costs - 1;
     CHECK(71, mcf_plan_pairs(costs, length, &options, room, sizeof room, &used) == MCF_FLOW);
@@ -411,6 +423,14 @@ static int check_rosters(void) {
     options.groups_length = sizeof groups - 1;
     CHECK(118, mcf_plan_pairs(costs, length, &options, room, sizeof room, &used) == MCF_BLOCKED);
     options.groups_length = 0;
+    options.fill_down = (const uint8_t *)"who";
+    options.fill_down_length = 3;
+    CHECK(121, mcf_plan_pairs(merged, sizeof merged - 1, &options, room, sizeof room, &used) ==
+                   MCF_FLOW);
+    options.fill_down_length = 2;
+    CHECK(122, mcf_plan_pairs(merged, sizeof merged - 1, &options, room, sizeof room, &used) ==
+                   MCF_INVALID_INPUT);
+    options.fill_down_length = 0;
     options.each = MCF_EACH_WHAT;
     CHECK(75, mcf_plan_pairs(narrow, sizeof narrow - 1, &options, room, sizeof room, &used) ==
                   MCF_FLOW);

@@ -1538,8 +1538,8 @@ static void try_tables(void) {
 
 /* Plans tables of thirty thousand bytes: a beginning with noise after it. */
 static void try_long(const char *begin, const char *alphabet) {
-    static const struct mcf_plan_options flow = {0, 0, 0, 0, NULL, 0};
-    static const struct mcf_pair_options pairs = {0, 0, 0, 0, NULL, 0};
+    static const struct mcf_plan_options flow = {0, 0, 0, 0, NULL, 0, NULL, 0};
+    static const struct mcf_pair_options pairs = {0, 0, 0, 0, NULL, 0, NULL, 0};
     written = 0;
     put(begin);
     put_noise(alphabet, 30000);

@@ -137,6 +137,8 @@ static uint32_t plan_flow(void) {
     options.ranges = flow_case->ranges;
     options.penalty = bytes_of(flow_case->penalty);
     options.penalty_length = strlen(flow_case->penalty);
+    options.fill_down = bytes_of("from\nname");
+    options.fill_down_length = flow_case->ranges ? 9 : 0;
     return mcf_plan_flow(bytes_of(flow_case->places), strlen(flow_case->places),
                          bytes_of(flow_case->routes), strlen(flow_case->routes), &options, buffer,
                          sizeof buffer, &used);

@@ -147,6 +147,8 @@ class PlanOptions(ctypes.Structure):
         ("ranges", ctypes.c_uint32),
         ("penalty", ctypes.c_char_p),
         ("penalty_length", ctypes.c_size_t),
+        ("fill_down", ctypes.c_char_p),
+        ("fill_down_length", ctypes.c_size_t),
     ]
 
 
@@ -160,6 +162,8 @@ class PairOptions(ctypes.Structure):
         ("crossing", ctypes.c_uint32),
         ("groups", ctypes.c_char_p),
         ("groups_length", ctypes.c_size_t),
+        ("fill_down", ctypes.c_char_p),
+        ("fill_down_length", ctypes.c_size_t),
     ]
 
 

@@ -1,7 +1,7 @@
 """Plans from tables, as `mcfplan` makes them, from bytes to bytes."""
 import csv
 import io
-from typing import List, NamedTuple, Optional, Union
+from typing import List, NamedTuple, Optional, Sequence, Union
 
 from . import _library
 
@@ -40,6 +40,7 @@ def plan_flow(
     short: bool = False,
     penalty: Optional[Union[int, str]] = None,
     ranges: bool = False,
+    fill_down: Sequence[str] = (),
 ) -> PlanAnswer:
     """Plans the flow between places at the least cost, from the texts of two tables.
 
@@ -64,6 +65,8 @@ def plan_flow(
     ranges : bool
         Whether to tell from what to what the cost of each route may change while the plan stays
         least, which takes two searches for each route.
+    fill_down : sequence of str
+        The heads of columns in which an empty cell takes the one above.
 
     Returns
     -------
@@ -74,7 +77,7 @@ def plan_flow(
     Raises
     ------
     ValueError
-        `decimal` is no mark, or `penalty` is no number.
+        `decimal` is no mark, `penalty` is no number, or a head of `fill_down` isn't one line.
     MemoryError
         Memory runs out.
 
@@ -90,7 +93,9 @@ def plan_flow(
     if penalty is not None and not named:
         raise ValueError("the penalty is empty")
     mark = MARKS.index(decimal)
-    options = _library.PlanOptions(mark, unused, short, ranges, named, len(named))
+    heads = _lines_of(fill_down)
+    numbers = mark, unused, short, ranges
+    options = _library.PlanOptions(*numbers, named, len(named), heads, len(heads))
     status, text = _library.plan_flow(_text_of(places), _text_of(routes), options)
     if status == _library.INVALID_CHOICE:
         raise ValueError("the penalty is no number: %r" % penalty)
@@ -107,6 +112,7 @@ def plan_pairs(
     maximise: bool = False,
     groups: Union[bytes, str, None] = None,
     crossing: str = "refuse",
+    fill_down: Sequence[str] = (),
 ) -> PlanAnswer:
     """Pairs persons with things at the least cost, from the text of a table.
 
@@ -131,6 +137,8 @@ def plan_pairs(
     crossing : {'refuse', 'check'}
         Groups that cross an earlier one, that is, have some of its members and not all, are faults;
         or they are left out, and the answer says who breaks them.
+    fill_down : sequence of str
+        The heads of columns in which an empty cell takes the one above.
 
     Returns
     -------
@@ -141,7 +149,8 @@ def plan_pairs(
     Raises
     ------
     ValueError
-        `decimal` is no mark, `each` or `crossing` is none of these words, or `groups` is empty.
+        `decimal` is no mark, `each` or `crossing` is none of these words, `groups` is empty, or a
+        head of `fill_down` isn't one line.
     MemoryError
         Memory runs out.
 
@@ -160,11 +169,19 @@ def plan_pairs(
     if groups is not None and not named:
         raise ValueError("the table of groups is empty")
     numbers = MARKS.index(decimal), EACH.index(each), maximise, CROSSING.index(crossing)
-    options = _library.PairOptions(*numbers, named, len(named))
+    heads = _lines_of(fill_down)
+    options = _library.PairOptions(*numbers, named, len(named), heads, len(heads))
     status, text = _library.plan_pairs(_text_of(costs), options)
     if status > _library.INVALID_INPUT:
         raise _library.failed(status)
     return PlanAnswer(KINDS[status], text)
+
+
+def _lines_of(heads: Sequence[str]) -> bytes:
+    """The bytes of a text with a head in each line."""
+    if isinstance(heads, str) or any("\n" in head or not head for head in heads):
+        raise ValueError("fill_down is a sequence of heads, each one line, not %r" % (heads,))
+    return "\n".join(heads).encode()
 
 
 def _text_of(table: Union[bytes, str]) -> bytes:

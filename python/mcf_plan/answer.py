@@ -10,6 +10,8 @@ from .programs import answer_bytes
 
 csv.field_size_limit(1 << 30)
 KINDS = {0: "plan", 1: "no plan", 2: "faults"}
+# The cells that forbid a pair.
+FORBIDDEN = ("", "x", "-", "–", "—")
 
 
 class Sheet:

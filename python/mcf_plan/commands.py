@@ -13,7 +13,7 @@ from .problem import Plan
 from .programs import program
 from .results import Results
 from .roster import Roster
-from .tables import tables_of
+from .tables import head_in, tables_of
 from .told import NEEDED, Teller
 
 # The tables of each command; those of groups may be left out.
@@ -31,6 +31,7 @@ class Asking:
         with life.doing("reads the tables"):
             wanted = [NEEDED[word] for word in self.words]
             self.tables = tables_of(options.tables, wanted, reading, self.faults)
+        self.heads = [head_in(self.tables, column) for column in reading.fill_down]
         self.program, self.decimal = program("mcfplan", options.programs), options.decimal
         # A number of a sheet has a point, unless the options name another mark.
         if not self.decimal and any(
@@ -41,16 +42,35 @@ class Asking:
     def untold(self, *more):
         """The answer to the tables with further options, whose faults aren't told."""
         more = ["--decimal", self.decimal, *more] if self.decimal else more
+        more = ["--fill-down", "\n".join(self.heads), *more] if self.heads else more
         texts = {word: table.text for word, table in zip(self.words, self.tables)}
         found = answer_to(self.program, [self.command, *more], texts)
-        lists = {word for word, _ in found.rows["list"]}
+        self.stop_at_lacking(found)
+        lists, sheets = ({row[0] for row in found.rows[kind]} for kind in ("list", "wishes"))
         for word, table in zip(self.words, self.tables):
             if word in lists:
                 table.become_matrix(found.sheets[word])
+            elif word in sheets:
+                table.become_wishes(found.sheets[word])
             elif word in found.sheets:
                 found.sheets[word].narrow(table.width)
-            table.changes = notes.changed_lines(word, table, found)
+            table.changes = notes.changed_lines(word, table, found, self.columns())
         return found
+
+    def columns(self):
+        """The columns to fill down as the user names them, by their heads in lower case."""
+        return {head.lower(): one for head, one in zip(self.heads, self.reading.fill_down)}
+
+    def stop_at_lacking(self, found):
+        """Ends the run if no table has a column to fill down."""
+        lacking = [
+            int(number)
+            for table, number, what, *_ in found.rows["fault"]
+            if (table, what) == ("options", "fill down")
+        ]
+        if lacking:
+            names = [self.reading.fill_down[number - 1] for number in lacking]
+            raise Stop("\n".join(f"--fill-down {one}: there is no such column" for one in names), 2)
 
     def answer(self, *more):
         """The answer to the tables with further options. Ends the run if they have faults."""

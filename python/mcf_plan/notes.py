@@ -123,9 +123,10 @@ def number_cells(word, table, sheet):
                 yield table, line, cell_at(cells, place)
 
 
-def changed_lines(word, table, answer):
-    """Lines on what `mcfplan` changed in a table before it read it: a matrix became a list, a row
-    of totals was left out."""
+def changed_lines(word, table, answer, columns):
+    """Lines on what `mcfplan` changed in a table before it read it: a matrix or a sheet of wishes became a list, a row
+    of totals was left out, columns were filled down. Columns come as the user names them, by their
+    heads in lower case."""
     lines = [
         f"{table.name} is a matrix: it is read as a list of"
         f" {count_of(int(count), 'route', 'routes')} without a limit, from the places on the left"
@@ -133,18 +134,38 @@ def changed_lines(word, table, answer):
         for name, count in answer.rows["list"]
         if name == word
     ]
+    for name, count, needs in answer.rows["wishes"]:
+        lines += wish_lines(table, int(count), needs) if name == word else []
     lines += [
         f"{table.name}, line {line} is left out: it has the sums of the lines above"
         f" ({listed([shown(cell) for cell in table.fields(int(line)) if cell])})."
         for name, line in answer.rows["left out"]
         if name == word
     ]
+    lines += [
+        f"{table.name}, column {columns.get(head.lower(), head)}:"
+        f" {count_of(int(count), 'empty cell takes', 'empty cells take')} the value above."
+        for name, head, count in answer.rows["filled"]
+        if name == word and count != "0"
+    ]
     return lines
+
+
+def wish_lines(table, count, needs):
+    """Lines on a sheet of wishes that became a list, and on what its column needs says."""
+    return [
+        f"{table.name} is a sheet of wishes: it is read as a list of"
+        f" {count_of(count, 'wish', 'wishes')}, of which a first one costs 1, a second one 2 and so"
+        " on.",
+        f"The number {shown(needs)} of column needs holds for each thing."
+        if needs
+        else "No column needs says how many persons a thing takes, such as 0..28: each takes one.",
+    ]
 
 
 def prepared_lines(tables):
     """The notes of tables on what was changed before they were read."""
-    return [line for table in tables if table for line in table.notes + table.changes]
+    return [line for table in tables if table for line in table.changes]
 
 
 def supply_lines(problem):

@@ -24,11 +24,10 @@ def write_pairs(results, roster):
     heads = PAIR_HEADS
     rows = [[pair.who, pair.what, Figure(pair.cost)] for pair in roster.pairs]
     if roster.is_list:
-        table, lines = roster.table, dict(roster.sheet.rows)
-        heads = [table.title(title) for title in roster.sheet.titles]
+        table, heads = roster.table, [roster.table.title(title) for title in roster.sheet.titles]
         rows = [
-            [table.cell(line, lines[line], place) for place in range(len(heads))]
-            for line in (int(pair.line) for pair in roster.pairs)
+            [table.cell(int(pair.line), cells, place) for place in range(len(heads))]
+            for pair, cells in ((pair, roster.cells_of(pair)) for pair in roster.pairs)
         ]
     results.table("pairs", roster.table, roster.sheet, heads, rows)
 

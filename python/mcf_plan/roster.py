@@ -2,9 +2,8 @@
 results."""
 import collections
 
-from .answer import cell_at
+from .answer import FORBIDDEN, cell_at
 from .figures import number_in, said
-from .preparing import FORBIDDEN
 
 PAIR_HEADS = ("who", "what", "cost")
 # A chosen pair, or one that counts one more: its line, the number of its column in a matrix, its
@@ -30,6 +29,9 @@ class Roster:
             self.is_list and self.is_filled("needs")
         )
         self.persons, self.things, self.allowed = {}, {}, []
+        # The cells of a list by their lines and things: the wishes of a person share a line.
+        what = self.sheet.place("what")
+        self.rows = {(line, cell_at(cells, what)): cells for line, cells in self.sheet.rows}
         self.pairs = [Pair(*cells) for cells in answer.rows["pair"]]
         (self.read_list if self.is_list else self.read_matrix)()
         orders = [
@@ -58,6 +60,10 @@ class Roster:
         self.persons[who] = self.things[what] = None
         if cost.lower() not in FORBIDDEN:
             self.allowed.append((who, what))
+
+    def cells_of(self, pair):
+        """The cells of a pair of a list."""
+        return self.rows[int(pair.line), pair.what]
 
     def numbered(self):
         """The persons with a number of things that they take."""

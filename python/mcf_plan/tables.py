@@ -11,7 +11,6 @@ import unicodedata
 from .answer import cell_at
 from .faults import At, bad_table, shown
 from .figures import Figure
-from .preparing import prepare
 from .workbook import is_workbook, sheets_of
 
 # How to read tables: the mark before decimals, the encoding, the user's heads by the wanted ones,
@@ -31,6 +30,8 @@ SEPARATOR_LINE = re.compile(r'"?sep=([^" \n])"?[^\S\n]*(?=\n|$)', re.IGNORECASE)
 SEPARATORS = ",;\t"
 # The place of the costs in the list of a matrix, after both ends and the limit.
 MATRIX_COST = 3
+# The place of the first own column in the list of a sheet of wishes, after person, thing and cost.
+OWN = 3
 # The number of lines that aren't blank among which the heads are.
 LOOKED = 10
 # The first bytes of other kinds of files.
@@ -43,17 +44,18 @@ OTHER_FILES = {
 
 class Table:
     """A table as a text in UTF-8, in Unicode normal form C, whose lines end with line feeds: as
-    `mcfplan` reads all of them. `has_mark` says whether its file
-    has a byte-order mark; `own` has the user's titles by those that replace them in the text;
-    `figures` has the numbers of a sheet by their lines and places, `width` the number of its
-    columns; `sha256` is that of its file, once it was read. If an answer reads it as a matrix of
-    costs, `matrix` has the heads of that, and `columns` the places of those that stand once.
-    `notes` say what was changed in it, and `changes` what the answer changed."""
+    `mcfplan` reads all of them. `has_mark` says whether its file has a byte-order mark; `own` has
+    the user's titles by those that replace them in the text; `figures` has the numbers of a sheet
+    by their lines and places, `width` the number of its columns; `sha256` is that of its file, once
+    it was read. If an answer reads it as a matrix of costs, `matrix` has the heads of that, and
+    `columns` the places of those that stand once; if as a sheet of wishes, `matrix` has the heads
+    of that, and `places` those of its own columns, by their places in the list. `changes` say what
+    the answer changed."""
 
     def __init__(self, name, text, has_mark=False, book=None, figures=None):
         self.name, self.has_mark, self.book, self.figures = name, has_mark, book, figures or {}
-        self.width, self.matrix, self.columns = None, [], {}
-        self.notes, self.changes = [], []
+        self.width, self.matrix, self.columns, self.places = None, [], {}, {}
+        self.changes = []
         self.text, self.own, self.sha256 = unicodedata.normalize("NFC", with_feeds(text)), {}, None
         if not self.text.strip(BLANKS):
             raise bad_table(
@@ -125,9 +127,22 @@ class Table:
         counts = collections.Counter(self.matrix)
         self.columns = {head: place for place, head in enumerate(self.matrix) if counts[head] == 1}
 
+    def become_wishes(self, sheet):
+        """Notes that an answer reads the table as a sheet of wishes, whose list it has: after the
+        person, the thing and the cost stand the sheet's own columns, in their order."""
+        self.matrix = self.fields(sheet.head_line)
+        heads = iter(enumerate(self.matrix))
+        own = [
+            next((k for k, head in heads if head == title), None) for title in sheet.titles[OWN:]
+        ]
+        self.places = dict(enumerate(own, OWN))
+        sheet.narrow(self.width and OWN + sum(k is not None and k < self.width for k in own))
+
     def figure(self, line, cells, place):
         """The number that the sheet has in a cell of a row of the answer, or None."""
-        if self.matrix:
+        if self.places:
+            place = self.places.get(place)
+        elif self.matrix:
             place = self.columns.get(cells[1]) if place == MATRIX_COST else None
         return self.figures.get((line, place))
 
@@ -139,6 +154,13 @@ class Table:
     def title(self, title):
         """A title as the user has it."""
         return self.own.get(title, title)
+
+
+def head_in(tables, column):
+    """The head in the texts of tables of a column that the user names by its title or its head."""
+    named = unicodedata.normalize("NFC", column).strip(BLANKS)
+    owned = (pair for table in tables for pair in table.own.items())
+    return next((head for head, own in owned if own.casefold() == named.casefold()), named)
 
 
 def with_feeds(text):
@@ -245,5 +267,4 @@ def tables_of(paths, wanted, reading, faults):
                 "map",
                 f"there is no such column, which --map {head}={own} names{others}",
             )
-    prepare(found, wanted, reading.fill_down)
     return found

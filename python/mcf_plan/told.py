@@ -3,11 +3,10 @@ import difflib
 import functools
 import re
 
-from .answer import Sheet, cell_at
+from .answer import FORBIDDEN, Sheet, cell_at
 from .faults import At, shown
 from .figures import mark_in, value_of
 from .notes import number_cells
-from .preparing import FORBIDDEN
 from .problem import check_spots
 from .roster import is_list
 from .tables import BLANKS, LOOKED
@@ -155,7 +154,10 @@ class Teller:
     def tell(self, answer):
         """Notes all faults of an answer, and positions of places that are no numbers."""
         self.sheets = {word: answer.sheets.get(word, Sheet(1, [""])) for word in self.tables}
-        self.rows = {word: dict(sheet.rows) for word, sheet in self.sheets.items()}
+        self.rows = {word: {} for word in self.tables}
+        for word, sheet in self.sheets.items():
+            for line, cells in sheet.rows:
+                self.rows[word].setdefault(line, []).append(cells)
         faults = answer.rows["fault"]
         self.crossed = {int(line): other for line, _, other in answer.rows["crossing"]}
         tables = zip(self.tables, self.tables.values(), self.sheets.values()) if faults else ()
@@ -181,11 +183,17 @@ class Teller:
             self.faults.add(At(self.tables[word].name, line, column), what, text, cell)
         self.done.add(kind)
 
+    def row(self, word, line, head, cell):
+        """The cells of a row. Of those that share a line, as wishes do, it is the first with a cell
+        below a head, if there is one."""
+        rows, place = self.rows[word].get(line, [[]]), self.sheets[word].place(head)
+        return next((one for one in rows if cell_at(one, place) == cell), rows[0])
+
     def located(self, word, line, head, what, cell):
         """The column and the cell of a fault. One of steps is in the first step that costs less
         than the one before, or whose most is below 0; a mark may stand in a column about periods,
         told by its place."""
-        sheet, cells = self.sheets[word], self.rows[word].get(line, [])
+        sheet, cells = self.sheets[word], self.row(word, line, head, cell)
         if TITLE.fullmatch(what):
             return shown(cell)[1:-1], cell
         if what == "both decimal marks" and word in ("places", "routes") and head.isdecimal():
@@ -203,7 +211,8 @@ class Teller:
     def text(self, word, line, column, what, cell):
         """The sentence about a fault."""
         what, meant = TITLE.fullmatch(what).groups() if TITLE.fullmatch(what) else (what, "")
-        sheet, table, row = self.sheets[word], self.tables[word], self.rows[word].get(line, [])
+        sheet, table = self.sheets[word], self.tables[word]
+        row = self.row(word, line, column, cell)
         heads = {"what": ["who", "what"], "most": ["least", "most"], "1": sheet.heads[:1]}
         if word == "groups":
             heads = {"who": ["group", "who"], "what": ["group", "what"]}

@@ -8,8 +8,8 @@ import shutil
 import unittest
 
 from mcf_plan import tables
+from mcf_plan.answer import Sheet
 from mcf_plan.figures import Figure
-from mcf_plan.preparing import prepare
 from support import PLACES, ROUTES, WithFolder, rows_of, run
 
 # Tables with options, the expected status and message, and what the page shows. The tests of the
@@ -310,14 +310,12 @@ class Reading(WithFolder):
         heads, wanted = ["Pupils; 8a", "who", Figure("1"), Figure("2"), "needs"], ("who", "what")
         rows = [heads, ["x", "Ann", "Choir", "Chess", Figure("2")], ["y", "Ben", "Choir", "", ""]]
         table = tables.sheet_with("plan.xlsx", [("a", rows)], wanted, tables.Reading())
-        prepare([table], [wanted], ())
-        self.assertEqual(
-            table.text,
-            "who,what,cost,Pupils; 8a,needs\n"
-            "Ann,Choir,1,x,2\nAnn,Chess,2,x,2\nBen,Choir,1,y,2\n",
-        )
-        self.assertEqual((table.figures, table.width), ({(2, 4): "2", (3, 4): "2"}, 5))
-        self.assertIn("sheet a is a sheet of wishes: it is read as a list of 3 ", table.notes[0])
+        sheet = Sheet(1, ["who", "what", "cost", "Pupils; 8a", "needs", ""])
+        table.become_wishes(sheet)
+        self.assertEqual(sheet.heads, ["who", "what", "cost", "pupils; 8a", "needs"])
+        self.assertEqual(table.figure(2, ["Ann", "Choir", "1", "x", "2"], 4), Figure("2"))
+        self.assertEqual(table.figure(3, ["Ben", "Choir", "1", "y", "2"], 4), None)
+        self.assertEqual(table.separator(sheet), ",")
 
 
 @unittest.skipUnless(importlib.util.find_spec("openpyxl"), "openpyxl isn't there: workbooks")

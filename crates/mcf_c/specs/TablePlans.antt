@@ -13,7 +13,10 @@ use Rattle.mcf_decimal.specs.declared.decimal.Decimal.{Decimal}
 use Rattle.mcf_decimal.specs.declared.fault.NumberFault.{NumberFault}
 use Rattle.mcf_decimal.specs.declared.mark.Mark.{Mark}
 use Rattle.mcf_decimal.specs.declared.mark.Mark.TheVariants.{Point, Comma}
+use Rattle.mcf_flow_tables.specs.TableAnswers.{FlowBytes}
 use Rattle.mcf_flow_tables.specs.declared.options.Options.{Options}
+use Rattle.mcf_pair_tables.specs.GroupAnswers.{GroupBytes}
+use Rattle.mcf_pair_tables.specs.PairAnswers.{CostBytes}
 use Rattle.mcf_pair_tables.specs.declared.group_options.AtCrossing.{AtCrossing}
 use Rattle.mcf_pair_tables.specs.declared.group_options.AtCrossing.TheVariants.{Check, Refuse}
 use Rattle.mcf_pair_tables.specs.declared.options.Each.{Each}
@@ -30,25 +33,42 @@ plan_status Plan = 0
 plan_status NoPlan = 1
 plan_status Faults = 2
 
+-- the bytes of two tables, and of the heads of the columns that are filled down
+abbrev pub flow_bytes : List ℕ → List ℕ → McfPlanOptions → FlowBytes
+flow_bytes places routes numbers = record { places = places; routes = routes; fill_down = numbers.fill_down.now }
+
 -- a text of this status is an answer to two tables, with the ranges of routes if they are asked
-pub record HandsPlanText (places routes : List ℕ) (asked : AskedTables) (status : ℕ) (text : List ℕ) : Type 0 where
+pub record HandsPlanText (texts : FlowBytes) (asked : AskedTables) (status : ℕ) (text : List ℕ) : Type 0 where
   pub told : PlanText
   pub is_status : status ≡ plan_status told.kind
   pub is_text : text ≡ told.text.items
-  pub answers : IsFlowText asked.ranges places routes asked.options told
+  pub answers : IsFlowText asked.ranges texts asked.options told
+
+-- the bytes of a table of persons and things, of one of groups, and of the heads of their columns
+-- that are filled down
+abbrev pub group_bytes : List ℕ → McfPairOptions → GroupBytes
+group_bytes costs numbers = record { costs = costs; groups = numbers.groups.now; fill_down = numbers.fill_down.now }
+
+-- those of a table of persons and things alone
+abbrev pub cost_bytes : GroupBytes → CostBytes
+cost_bytes texts = record { costs = texts.costs; fill_down = texts.fill_down }
+
+-- a text is an answer to a table of persons and things; if these bytes of a table of groups aren't
+-- empty, to both
+abbrev pub IsTextFor : List ℕ → GroupBytes → AskedPairs → PlanText → Type 0
+IsTextFor [] texts asked told = IsPairText (cost_bytes texts) asked.options told
+IsTextFor (byte ∷ groups) texts asked told = IsGroupText texts (record { options = asked.options; crossing = asked.crossing }) told
 
 -- a text is an answer to a table of persons and things, and to one of groups, unless that is empty
-abbrev pub IsAskedText : List ℕ → List ℕ → AskedPairs → PlanText → Type 0
-IsAskedText costs [] asked told = IsPairText costs asked.options told
-IsAskedText costs (byte ∷ groups) asked told =
-    IsGroupText costs (byte ∷ groups) (record { options = asked.options; crossing = asked.crossing }) told
+abbrev pub IsAskedText : GroupBytes → AskedPairs → PlanText → Type 0
+IsAskedText texts asked told = IsTextFor texts.groups texts asked told
 
 -- a text of this status is such an answer
-pub record HandsPairText (costs groups : List ℕ) (asked : AskedPairs) (status : ℕ) (text : List ℕ) : Type 0 where
+pub record HandsPairText (texts : GroupBytes) (asked : AskedPairs) (status : ℕ) (text : List ℕ) : Type 0 where
   pub told : PlanText
   pub is_status : status ≡ plan_status told.kind
   pub is_text : text ≡ told.text.items
-  pub answers : IsAskedText costs groups asked told
+  pub answers : IsAskedText texts asked told
 
 -- ---- what the numbers ask
 

@@ -1,14 +1,16 @@
 //! Tables planned.
 ghost use Rattle.std.specs.Prelude.{◌≡◌, ◌↔◌, ◌≤◌, ◌⊎◌, IfOk, IfSome, None};
 ghost use Rattle.mcf_c.specs.Calls.{HandsInto, LacksRoomFor};
-ghost use Rattle.mcf_c.specs.TablePlans.{HandsPairText, HandsPlanText, IsAskedText, asked_crossing, asked_each, asked_mark, asked_pairs, asked_penalty, asked_tables, asked_yes, options_under, pair_options, plan_options, plan_status};
+ghost use Rattle.mcf_flow_tables.specs.TableAnswers.{bytes_in as flow_bytes_in};
+ghost use Rattle.mcf_pair_tables.specs.GroupAnswers.{bytes_in};
+ghost use Rattle.mcf_c.specs.TablePlans.{HandsPairText, HandsPlanText, IsAskedText, asked_crossing, asked_each, asked_mark, asked_pairs, asked_penalty, asked_tables, asked_yes, flow_bytes, group_bytes, options_under, pair_options, plan_options, plan_status};
 
 use crate::statuses::{BLOCKED, BUFFER_TOO_SMALL, FLOW, INVALID_CHOICE, INVALID_INPUT, NO_MEMORY};
 use mcf_answer_rows::{PlanText, TextKind};
 use mcf_choice::{Choice, EngineChoice};
 use mcf_decimal::{Decimal, Mark, number};
 use mcf_flow_tables::{Options, Texts};
-use mcf_pair_tables::{AtCrossing, Each, GroupTexts, Options as PairOptions};
+use mcf_pair_tables::{AtCrossing, CostTexts, Each, GroupTexts, Options as PairOptions};
 use mcf_pair_text::{group_text, pair_text};
 use mcf_planner::Planner;
 use mcf_range_text::told_text;
@@ -16,8 +18,8 @@ use mcf_text::NoMemory;
 use mcf_units::Terms;
 use std::alloc::Global;
 
-/// How tables are read, what plans may leave, and whether ranges are told. All zeros, with an empty
-/// penalty, are the defaults.
+/// How tables are read, what plans may leave, and whether ranges are told; and the heads of the
+/// columns that are filled down, one a line. All zeros, with empty texts, are the defaults.
 #[repr(C)]
 #[derive(Clone, Copy)]
 pub struct McfPlanOptions<'a> {
@@ -26,6 +28,7 @@ pub struct McfPlanOptions<'a> {
     pub allow_short: u32,
     pub ranges: u32,
     pub penalty: &'a [u8],
+    pub fill_down: &'a [u8],
 }
 
 /// What the numbers ask: how tables are read, what plans may leave, and whether ranges are told.
@@ -35,8 +38,9 @@ pub struct AskedTables {
     pub ranges: bool,
 }
 
-/// How a table of persons and things is read, which choice is the best, and the text of a table of
-/// groups. All zeros, with an empty text, are the defaults.
+/// How a table of persons and things is read, which choice is the best, the text of a table of
+/// groups, and the heads of the columns that are filled down, one a line. All zeros, with empty
+/// texts, are the defaults.
 #[repr(C)]
 #[derive(Clone, Copy)]
 pub struct McfPairOptions<'a> {
@@ -45,6 +49,7 @@ pub struct McfPairOptions<'a> {
     pub maximise: u32,
     pub crossing: u32,
     pub groups: &'a [u8],
+    pub fill_down: &'a [u8],
 }
 
 /// What the numbers ask: how a table of persons and things is read, which choice is the best, and
@@ -200,7 +205,7 @@ fn answer_to(
     texts: Texts<'_>,
     asked: AskedTables,
 ) -> Result<(u32, Vec<u8>), NoMemory>
-    ensures text { IfOk result (λ r. HandsPlanText texts.entry.places.now texts.entry.routes.now asked r.0 r.1.items) }
+    ensures text { IfOk result (λ r. HandsPlanText (flow_bytes_in texts.entry) asked r.0 r.1.items) }
     ensures few { IfOk result (λ r. r.0 ≤ 2) }
 {
     let mut engine = fast_engine();
@@ -225,8 +230,8 @@ pub extern "C" fn mcf_plan_flow(
     used: &mut usize,
 ) -> u32
     ensures statuses { result ≤ 5 }
-    ensures answer { result ≤ 2 → IfSome (asked_tables options.now) (λ o. HandsInto (HandsPlanText places.now routes.now o) result room.old room.new used.new) }
-    ensures room { result ≡ 4 → IfSome (asked_tables options.now) (λ o. LacksRoomFor (HandsPlanText places.now routes.now o) room.old used.new) }
+    ensures answer { result ≤ 2 → IfSome (asked_tables options.now) (λ o. HandsInto (HandsPlanText (flow_bytes places.now routes.now options.now) o) result room.old room.new used.new) }
+    ensures room { result ≡ 4 → IfSome (asked_tables options.now) (λ o. LacksRoomFor (HandsPlanText (flow_bytes places.now routes.now options.now) o) room.old used.new) }
     ensures options { (result ≡ 5) ↔ (asked_tables options.now ≡ None) }
     ensures untouched { 3 ≤ result → room.new ≡ room.old }
     ensures unused { (result ≡ 3) ⊎ (result ≡ 5) → used.new ≡ 0 }
@@ -235,7 +240,11 @@ pub extern "C" fn mcf_plan_flow(
     let Some(asked) = asked_tables(options) else {
         return INVALID_CHOICE;
     };
-    let texts = Texts { places, routes };
+    let texts = Texts {
+        places,
+        routes,
+        fill_down: options.fill_down,
+    };
     let Ok((status, answer)) = answer_to(alloc, texts, asked) else {
         return NO_MEMORY;
     };
@@ -249,11 +258,15 @@ pub extern "C" fn mcf_plan_flow(
 
 // The answer to a table of persons and things, and to one of groups, unless that is empty.
 fn asked_text(alloc: Global, texts: GroupTexts<'_>, asked: AskedPairs) -> Result<PlanText, NoMemory>
-    ensures { IfOk result (IsAskedText texts.entry.costs.now texts.entry.groups.now asked) }
+    ensures { IfOk result (IsAskedText (bytes_in texts.entry) asked) }
 {
     let mut engine = fast_engine();
     if texts.groups.is_empty() {
-        pair_text(alloc, &mut engine, texts.costs, asked.options)
+        let texts = CostTexts {
+            costs: texts.costs,
+            fill_down: texts.fill_down,
+        };
+        pair_text(alloc, &mut engine, texts, asked.options)
     } else {
         group_text(alloc, &mut engine, texts, asked.options, asked.crossing)
     }
@@ -265,7 +278,7 @@ fn pairs_answer(
     texts: GroupTexts<'_>,
     asked: AskedPairs,
 ) -> Result<(u32, Vec<u8>), NoMemory>
-    ensures text { IfOk result (λ r. HandsPairText texts.entry.costs.now texts.entry.groups.now asked r.0 r.1.items) }
+    ensures text { IfOk result (λ r. HandsPairText (bytes_in texts.entry) asked r.0 r.1.items) }
     ensures few { IfOk result (λ r. r.0 ≤ 2) }
 {
     let told = asked_text(alloc, texts, asked)?;
@@ -289,8 +302,8 @@ pub extern "C" fn mcf_plan_pairs(
     used: &mut usize,
 ) -> u32
     ensures statuses { result ≤ 5 }
-    ensures answer { result ≤ 2 → IfSome (asked_pairs options.now) (λ o. HandsInto (HandsPairText costs.now options.now.groups.now o) result room.old room.new used.new) }
-    ensures room { result ≡ 4 → IfSome (asked_pairs options.now) (λ o. LacksRoomFor (HandsPairText costs.now options.now.groups.now o) room.old used.new) }
+    ensures answer { result ≤ 2 → IfSome (asked_pairs options.now) (λ o. HandsInto (HandsPairText (group_bytes costs.now options.now) o) result room.old room.new used.new) }
+    ensures room { result ≡ 4 → IfSome (asked_pairs options.now) (λ o. LacksRoomFor (HandsPairText (group_bytes costs.now options.now) o) room.old used.new) }
     ensures options { (result ≡ 5) ↔ (asked_pairs options.now ≡ None) }
     ensures untouched { 3 ≤ result → room.new ≡ room.old }
     ensures unused { (result ≡ 3) ⊎ (result ≡ 5) → used.new ≡ 0 }
@@ -302,6 +315,7 @@ pub extern "C" fn mcf_plan_pairs(
     let texts = GroupTexts {
         costs,
         groups: options.groups,
+        fill_down: options.fill_down,
     };
     let Ok((status, answer)) = pairs_answer(alloc, texts, asked) else {
         return NO_MEMORY;

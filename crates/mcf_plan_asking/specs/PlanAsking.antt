@@ -72,13 +72,9 @@ each_rule names = word_rule (codes "each") names (codes "auto")
 abbrev pub answer_rule : Text → Bor (List (Bor Text)) → Rule
 answer_rule name names = word_rule name names (codes "no")
 
--- `--penalty N`, which may be left out
-abbrev pub penalty_rule : Rule
-penalty_rule = record (new_rule (codes "penalty")) { long = Some (codes "penalty"); value_names = 1 }
-
--- `--groups GROUPS`, which may be left out
-abbrev pub groups_rule : Rule
-groups_rule = record (new_rule (codes "groups")) { long = Some (codes "groups"); value_names = 1 }
+-- an option of this name with a value, which may be left out
+abbrev pub text_rule : Text → Rule
+text_rule name = record (new_rule name) { long = Some name; value_names = 1 }
 
 -- `--crossing WORD`, one of these words, and `refuse` where it is left out
 abbrev pub crossing_rule : Bor (List (Bor Text)) → Rule
@@ -92,11 +88,11 @@ table_rule name = record (new_rule name) { value_names = 1 }
 -- and for whether ranges are told
 abbrev pub flow_rules : Bor (List (Bor Text)) → Bor (List (Bor Text)) → Bor (List (Bor Text)) → Bor (List (Bor Text)) → List Rule
 flow_rules marks unused short ranges =
-    mark_rule marks ∷ leave_rule (codes "unused") unused ∷ leave_rule (codes "short") short ∷ penalty_rule ∷ answer_rule (codes "ranges") ranges
-    ∷ table_rule (codes "places") ∷ table_rule (codes "routes") ∷ []
+    mark_rule marks ∷ leave_rule (codes "unused") unused ∷ leave_rule (codes "short") short ∷ text_rule (codes "penalty") ∷ answer_rule (codes "ranges") ranges
+    ∷ text_rule (codes "fill-down") ∷ table_rule (codes "places") ∷ table_rule (codes "routes") ∷ []
 
--- `flow [--decimal MARK] [--unused WORD] [--short WORD] [--penalty N] [--ranges WORD] [PLACES]
--- [ROUTES]`
+-- `flow [--decimal MARK] [--unused WORD] [--short WORD] [--penalty N] [--ranges WORD]
+-- [--fill-down HEADS] [PLACES] [ROUTES]`
 abbrev pub flow_shape : Bor (List (Bor Text)) → Bor (List (Bor Text)) → Bor (List (Bor Text)) → Bor (List (Bor Text)) → Shape
 flow_shape marks unused short ranges = record (new_app (codes "flow")).top { rules = flow_rules marks unused short ranges }
 
@@ -104,10 +100,11 @@ flow_shape marks unused short ranges = record (new_app (codes "flow")).top { rul
 -- are values and for groups that cross
 abbrev pub pairs_rules : Bor (List (Bor Text)) → Bor (List (Bor Text)) → Bor (List (Bor Text)) → Bor (List (Bor Text)) → List Rule
 pairs_rules marks each maximise crossing =
-    mark_rule marks ∷ each_rule each ∷ answer_rule (codes "maximise") maximise ∷ groups_rule ∷ crossing_rule crossing ∷ table_rule (codes "costs") ∷ []
+    mark_rule marks ∷ each_rule each ∷ answer_rule (codes "maximise") maximise ∷ text_rule (codes "groups") ∷ crossing_rule crossing
+    ∷ text_rule (codes "fill-down") ∷ table_rule (codes "costs") ∷ []
 
 -- `pairs [--decimal MARK] [--each WORD] [--maximise WORD] [--groups GROUPS] [--crossing WORD]
--- [COSTS]`
+-- [--fill-down HEADS] [COSTS]`
 abbrev pub pairs_shape : Bor (List (Bor Text)) → Bor (List (Bor Text)) → Bor (List (Bor Text)) → Bor (List (Bor Text)) → Shape
 pairs_shape marks each maximise crossing = record (new_app (codes "pairs")).top { rules = pairs_rules marks each maximise crossing }
 
@@ -182,6 +179,7 @@ pub record IsAskedFlow (rows : List Row) (asked : AskedFlow) : Type 0 where
   pub short : asked.short ≡ leave_by (first_of (codes "short") rows)
   pub penalty : word_text asked.penalty ≡ first_of (codes "penalty") rows
   pub ranges : asked.ranges ≡ answer_by (first_of (codes "ranges") rows)
+  pub fill_down : word_text asked.fill_down ≡ first_of (codes "fill-down") rows
   pub places : word_text asked.places ≡ first_of (codes "places") rows
   pub routes : word_text asked.routes ≡ first_of (codes "routes") rows
 
@@ -192,6 +190,7 @@ pub record IsAskedPairs (rows : List Row) (asked : AskedPairs) : Type 0 where
   pub maximise : asked.maximise ≡ answer_by (first_of (codes "maximise") rows)
   pub groups : word_text asked.groups ≡ first_of (codes "groups") rows
   pub check : asked.check ≡ crossing_by (first_of (codes "crossing") rows)
+  pub fill_down : word_text asked.fill_down ≡ first_of (codes "fill-down") rows
   pub costs : word_text asked.costs ≡ first_of (codes "costs") rows
 
 -- what is asked is what the matches of the subcommand with this name hold

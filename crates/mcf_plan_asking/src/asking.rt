@@ -3,7 +3,7 @@ ghost use Rattle.std.specs.Prelude.{◌≡◌, IfOk, codes, false, map, option_m
 ghost use Rattle.clap.specs.Words.{app_of, found_of, rows_of, rule_of, shape_of};
 ghost use Rattle.clap.specs.declared.builder.command.Command.TheViews.{out-Command};
 ghost use Rattle.mcf_asking.specs.Asking.{Offers, word_rule};
-ghost use Rattle.mcf_plan_asking.specs.PlanAsking.{IsAskedBy, IsAskedFlow, IsAskedPairs, IsFlow, IsMcfplan, IsPairs, IsPlanReading, answer_by, answer_names, answer_rule, crossing_by, crossing_names, crossing_rule, each_by, each_names, each_rule, groups_rule, leave_by, leave_names, leave_rule, mark_by, mark_names, mark_rule, penalty_rule, table_rule};
+ghost use Rattle.mcf_plan_asking.specs.PlanAsking.{IsAskedBy, IsAskedFlow, IsAskedPairs, IsFlow, IsMcfplan, IsPairs, IsPlanReading, answer_by, answer_names, answer_rule, crossing_by, crossing_names, crossing_rule, each_by, each_names, each_rule, leave_by, leave_names, leave_rule, mark_by, mark_names, mark_rule, text_rule, table_rule};
 
 use clap::{Arg, ArgMatches, Command, Error};
 use mcf_asking::word_option;
@@ -24,6 +24,8 @@ pub struct AskedFlow<'a> {
     pub penalty: Option<&'a str>,
     /// Whether the ranges of the costs of routes are asked.
     pub ranges: bool,
+    /// The heads of the columns that are filled down, one a line, if they are named.
+    pub fill_down: Option<&'a str>,
     /// The file of the table of places, if it is named.
     pub places: Option<&'a str>,
     /// The file of the table of routes, if it is named.
@@ -54,6 +56,8 @@ pub struct AskedPairs<'a> {
     pub groups: Option<&'a str>,
     /// Whether groups that cross others are checked, and not refused.
     pub check: bool,
+    /// The heads of the columns that are filled down, one a line, if they are named.
+    pub fill_down: Option<&'a str>,
     /// The file of the table, if it is named.
     pub costs: Option<&'a str>,
 }
@@ -83,10 +87,11 @@ static CROSSINGS: [&str; 2] = ["refuse", "check"];
 static ANSWERS: [&str; 2] = ["no", "yes"];
 
 /// Parses the words of a command line: `mcfplan flow [--decimal auto|.|,] [--unused refuse|allow]
-/// [--short refuse|allow] [--penalty N] [--ranges no|yes] PLACES ROUTES`, or `mcfplan pairs
-/// [--decimal auto|.|,] [--each auto|who|what|both] [--maximise no|yes] [--groups GROUPS]
-/// [--crossing refuse|check] COSTS`. The defaults are `auto`, `refuse` and `no`. PLACES, ROUTES and
-/// COSTS may be left out here; it is for the caller to want them, and to read N.
+/// [--short refuse|allow] [--penalty N] [--ranges no|yes] [--fill-down HEADS] PLACES ROUTES`, or
+/// `mcfplan pairs [--decimal auto|.|,] [--each auto|who|what|both] [--maximise no|yes]
+/// [--groups GROUPS] [--crossing refuse|check] [--fill-down HEADS] COSTS`. The defaults are `auto`,
+/// `refuse` and `no`; HEADS has a head in each line. PLACES, ROUTES and COSTS may be left out here;
+/// it is for the caller to want them, and to read N.
 ///
 /// The words begin with the name of the program, which isn't read.
 ///
@@ -123,6 +128,7 @@ fn flow_in<'a>(found: &ArgMatches<'a>) -> AskedFlow<'a>
         short: leave_of(found.get_str("short")),
         penalty: found.get_str("penalty"),
         ranges: answer_of(found.get_str("ranges")),
+        fill_down: found.get_str("fill-down"),
         places: found.get_str("places"),
         routes: found.get_str("routes"),
     }
@@ -138,6 +144,7 @@ fn pairs_in<'a>(found: &ArgMatches<'a>) -> AskedPairs<'a>
         maximise: answer_of(found.get_str("maximise")),
         groups: found.get_str("groups"),
         check: crossing_of(found.get_str("crossing")),
+        fill_down: found.get_str("fill-down"),
         costs: found.get_str("costs"),
     }
 }
@@ -175,6 +182,7 @@ fn flow<'a>(alloc: Global) -> Result<Command<'a>, AllocError>
             "ranges",
             "Whether to tell from what to what the cost of each route may change; two searches each",
         ))?
+        .arg(filling_option(alloc))?
         .arg(table_argument(alloc, "places", "PLACES"))?
         .arg(table_argument(alloc, "routes", "ROUTES"))
 }
@@ -197,6 +205,7 @@ fn pairs<'a>(alloc: Global) -> Result<Command<'a>, AllocError>
         ))?
         .arg(groups_option(alloc))?
         .arg(crossing_option(alloc))?
+        .arg(filling_option(alloc))?
         .arg(table_argument(alloc, "costs", "COSTS"))
 }
 
@@ -236,26 +245,54 @@ fn answer_option<'a>(alloc: Global, name: &'a str, help: &'a str) -> Arg<'a>
     word_option(alloc, name, "WORD", ANSWERS.as_slice(), "no").help(help)
 }
 
-// The option `--penalty`.
-fn penalty_option<'a>(alloc: Global) -> Arg<'a>
-    ensures rule { rule_of result ≡ penalty_rule }
+// An option with a value.
+fn text_option<'a>(alloc: Global, name: &'a str, value: &'a str, help: &'a str) -> Arg<'a>
+    ensures rule { rule_of result ≡ text_rule name.entry.now }
     ensures local { result.global ≡ false }
 {
-    Arg::new(alloc, "penalty")
-        .long("penalty")
-        .value_name("N")
-        .help("The cost of each missing unit; without it, as little as possible is missing")
+    Arg::new(alloc, name)
+        .long(name)
+        .value_name(value)
+        .help(help)
+}
+
+// The option `--penalty`.
+fn penalty_option<'a>(alloc: Global) -> Arg<'a>
+    ensures rule { rule_of result ≡ text_rule (codes "penalty") }
+    ensures local { result.global ≡ false }
+{
+    text_option(
+        alloc,
+        "penalty",
+        "N",
+        "The cost of each missing unit; without it, as little as possible is missing",
+    )
 }
 
 // The option `--groups`.
 fn groups_option<'a>(alloc: Global) -> Arg<'a>
-    ensures rule { rule_of result ≡ groups_rule }
+    ensures rule { rule_of result ≡ text_rule (codes "groups") }
     ensures local { result.global ≡ false }
 {
-    Arg::new(alloc, "groups")
-        .long("groups")
-        .value_name("GROUPS")
-        .help("The table of groups: the columns group, who or what, and perhaps least and most")
+    text_option(
+        alloc,
+        "groups",
+        "GROUPS",
+        "The table of groups: the columns group, who or what, and perhaps least and most",
+    )
+}
+
+// The option `--fill-down`.
+fn filling_option<'a>(alloc: Global) -> Arg<'a>
+    ensures rule { rule_of result ≡ text_rule (codes "fill-down") }
+    ensures local { result.global ≡ false }
+{
+    text_option(
+        alloc,
+        "fill-down",
+        "HEADS",
+        "The heads of columns in which an empty cell takes the one above, one a line",
+    )
 }
 
 // The option `--crossing`.

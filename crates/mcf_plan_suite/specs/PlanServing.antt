@@ -11,7 +11,10 @@ use Rattle.mcf_decimal.specs.Numbers.{read_number}
 use Rattle.mcf_decimal.specs.declared.decimal.Decimal.{Decimal}
 use Rattle.mcf_decimal.specs.declared.fault.NumberFault.{NumberFault}
 use Rattle.mcf_decimal.specs.declared.mark.Mark.{Mark}
+use Rattle.mcf_flow_tables.specs.TableAnswers.{FlowBytes}
 use Rattle.mcf_flow_tables.specs.declared.options.Options.{Options}
+use Rattle.mcf_pair_tables.specs.GroupAnswers.{GroupBytes}
+use Rattle.mcf_pair_tables.specs.PairAnswers.{CostBytes}
 use Rattle.mcf_pair_tables.specs.declared.group_options.AtCrossing.{AtCrossing}
 use Rattle.mcf_pair_tables.specs.declared.group_options.AtCrossing.TheVariants.{Check, Refuse}
 use Rattle.mcf_pair_tables.specs.declared.options.Each.{Each}
@@ -49,6 +52,15 @@ abbrev pub options_in : AskedFlow → Option Decimal → Options
 options_in asked penalty =
     record { mark = asked.mark; terms = record { unused = asked.unused; short = asked.short; penalty = penalty } }
 
+-- the bytes of a text that is named, if one is
+abbrev pub word_bytes : Option Text → List ℕ
+word_bytes None = []
+word_bytes (Some word) = word
+
+-- the bytes of two tables, and of the heads of the columns that are filled down
+abbrev pub flow_bytes : AskedFlow → List ℕ → List ℕ → FlowBytes
+flow_bytes asked places routes = record { places = places; routes = routes; fill_down = word_bytes (word_text asked.fill_down) }
+
 -- the files of both tables are named, and the reader gave their bytes, in this order
 pub record ReadsTables {F V E : Type 0} (calls : Mut F (Bor (List ℕ) × Unit {0}) (Result V E)) (read after : F) (asked : AskedFlow) (places routes : V) : Type 0 where
   pub place_file : Text
@@ -67,7 +79,7 @@ pub record TellsFlow {F V E : Type 0} (calls : Mut F (Bor (List ℕ) × Unit {0}
   pub places : V
   pub routes : V
   pub tables : ReadsTables calls read after asked places routes
-  pub answers : IsFlowText asked.ranges (bytes places) (bytes routes) (options_in asked penalty) text
+  pub answers : IsFlowText asked.ranges (flow_bytes asked (bytes places) (bytes routes)) (options_in asked penalty) text
 
 -- who gets just one
 abbrev pub each_in : AskedEach → Each
@@ -84,6 +96,14 @@ abbrev pub crossing_in : Bool → AtCrossing
 crossing_in true = Check
 crossing_in false = Refuse
 
+-- the bytes of a table of persons and things, and of the heads of its columns that are filled down
+abbrev pub cost_bytes : AskedPairs → List ℕ → CostBytes
+cost_bytes asked costs = record { costs = costs; fill_down = word_bytes (word_text asked.fill_down) }
+
+-- the same with a table of groups
+abbrev pub group_bytes : AskedPairs → List ℕ → List ℕ → GroupBytes
+group_bytes asked costs groups = record { costs = costs; groups = groups; fill_down = word_bytes (word_text asked.fill_down) }
+
 -- the text is an answer to the table that is named, whose bytes the reader gave, under the options
 -- that are asked
 pub record TellsOnePairs {F V E : Type 0} (calls : Mut F (Bor (List ℕ) × Unit {0}) (Result V E)) (bytes : V → List ℕ) (read after : F) (asked : AskedPairs)
@@ -92,7 +112,7 @@ pub record TellsOnePairs {F V E : Type 0} (calls : Mut F (Bor (List ℕ) × Unit
   pub costs : V
   pub names_costs : word_text asked.costs ≡ Some file
   pub costs_read : CalledAt calls read file (Ok costs) after
-  pub answers : IsPairText (bytes costs) (pair_options_in asked) text
+  pub answers : IsPairText (cost_bytes asked (bytes costs)) (pair_options_in asked) text
 
 -- the text is an answer to the table and the groups that are named, whose bytes the reader gave, in
 -- this order, under the options that are asked
@@ -105,7 +125,7 @@ pub record TellsGroups {F V E : Type 0} (calls : Mut F (Bor (List ℕ) × Unit {
   pub names_costs : word_text asked.costs ≡ Some file
   pub costs_read : CalledAt calls read file (Ok costs) between
   pub groups_read : CalledAt calls between group_file (Ok groups) after
-  pub answers : IsGroupText (bytes costs) (bytes groups) (record { options = pair_options_in asked; crossing = crossing_in asked.check }) text
+  pub answers : IsGroupText (group_bytes asked (bytes costs) (bytes groups)) (record { options = pair_options_in asked; crossing = crossing_in asked.check }) text
 
 -- the same with a table of groups, if one is named
 abbrev pub TellsPairsBy : {F V E : Type 0} → Mut F (Bor (List ℕ) × Unit {0}) (Result V E) → (V → List ℕ) → F → F → AskedPairs → Option Text

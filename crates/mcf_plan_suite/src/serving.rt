@@ -2,7 +2,7 @@
 ghost use Rattle.std.specs.Prelude.{◌≡◌, ◌≢◌, ◌≤◌, ◌⊎◌, IfOk, Ok, OnOk, map, option_map};
 ghost use Rattle.std.specs.Fn.{CalledAt};
 ghost use Rattle.clap.specs.Words.{kind_of};
-ghost use Rattle.mcf_plan_suite.specs.PlanServing.{IsShownPlan, ServesPlan, Tells, TellsFlow, TellsGroups, TellsOnePairs, TellsPairs, crossing_in, each_in, pair_options_in, penalty_in, status_of};
+ghost use Rattle.mcf_plan_suite.specs.PlanServing.{IsShownPlan, ServesPlan, Tells, TellsFlow, TellsGroups, TellsOnePairs, TellsPairs, word_bytes, crossing_in, each_in, pair_options_in, penalty_in, status_of};
 
 use crate::version::VERSION;
 use clap::Error;
@@ -11,7 +11,7 @@ use mcf_checker::FileFault;
 use mcf_decimal::{Decimal, Mark, number};
 use mcf_flow_tables::{Options, Texts};
 use mcf_model::Solves;
-use mcf_pair_tables::{AtCrossing, Each, GroupTexts, Options as PairOptions};
+use mcf_pair_tables::{AtCrossing, CostTexts, Each, GroupTexts, Options as PairOptions};
 use mcf_pair_text::{group_text, pair_text};
 use mcf_plan_asking::{AskedEach, AskedFlow, AskedPairs, AskedPlan, plan_command};
 use mcf_plan_text::{PlanText, TextKind};
@@ -107,6 +107,16 @@ fn penalty_in(mark: Option<Mark>, word: Option<&str>) -> Result<Option<Decimal>,
     }
 }
 
+// The bytes of a text that is named, if one is.
+fn word_bytes<'a>(word: Option<&'a str>) -> &'a [u8]
+    ensures { result.now ≡ word_bytes (option_map (λ w. w.now) word.entry) }
+{
+    match word {
+        Some(text) => text.as_bytes(),
+        None => &[],
+    }
+}
+
 // The bytes of a file, or why they weren't read.
 fn read_file<R: FnMut(&str) -> Result<Vec<u8>, FileFault>>(
     read: &mut R,
@@ -150,6 +160,7 @@ fn flow_text<S: Solves, R: FnMut(&str) -> Result<Vec<u8>, FileFault>>(
     let texts = Texts {
         places: &places,
         routes: &routes,
+        fill_down: word_bytes(asked.fill_down),
     };
     let text = told_text(alloc, solver, texts, options, asked.ranges)?;
     Ok(text)
@@ -213,7 +224,11 @@ fn one_pairs_text<S: Solves, R: FnMut(&str) -> Result<Vec<u8>, FileFault>>(
         return Err(Failure::Table);
     };
     let costs = read_file(read, file, Failure::Costs)?;
-    let text = pair_text(alloc, solver, &costs, options)?;
+    let texts = CostTexts {
+        costs: &costs,
+        fill_down: word_bytes(asked.fill_down),
+    };
+    let text = pair_text(alloc, solver, texts, options)?;
     Ok(text)
 }
 
@@ -237,6 +252,7 @@ fn groups_text<S: Solves, R: FnMut(&str) -> Result<Vec<u8>, FileFault>>(
     let texts = GroupTexts {
         costs: &costs,
         groups: &groups,
+        fill_down: word_bytes(asked.fill_down),
     };
     let text = group_text(alloc, solver, texts, options, crossing_in(asked.check))?;
     Ok(text)

@@ -41,6 +41,8 @@ pub struct PlanOptions<'a> {
     /// The cost of each missing unit, with a point before decimals unless `decimal` is a comma. If
     /// it is empty, as little as possible is missing.
     pub penalty: &'a str,
+    /// The heads of columns in which an empty cell takes the one above, one a line.
+    pub fill_down: &'a str,
 }
 
 /// The same in numbers, as `mcf.h` has it.
@@ -52,6 +54,8 @@ pub struct PlanNumbers {
     ranges: u32,
     penalty: *const u8,
     penalty_length: usize,
+    fill_down: *const u8,
+    fill_down_length: usize,
 }
 
 /// Who gets just one, where no cell says how many: each thing, if a cell of the table says it, and
@@ -76,6 +80,8 @@ pub struct PairOptions<'t> {
     pub check_crossing: bool,
     /// The text of a table of groups, in UTF-8; if it is empty, there are none.
     pub groups: &'t [u8],
+    /// The heads of columns in which an empty cell takes the one above, one a line.
+    pub fill_down: &'t str,
 }
 
 /// The same in numbers, as `mcf.h` has it.
@@ -87,6 +93,8 @@ pub struct PairNumbers {
     crossing: u32,
     groups: *const u8,
     groups_length: usize,
+    fill_down: *const u8,
+    fill_down_length: usize,
 }
 
 /// An arc, with nodes from 1.
@@ -295,6 +303,8 @@ pub fn plan_flow(places: &[u8], routes: &[u8], options: &PlanOptions, room: &mut
         ranges: options.ranges.into(),
         penalty: options.penalty.as_ptr(),
         penalty_length: options.penalty.len(),
+        fill_down: options.fill_down.as_ptr(),
+        fill_down_length: options.fill_down.len(),
     };
     let mut used = 0;
     let (room_at, room_length) = (room.as_mut_ptr(), room.len());
@@ -312,6 +322,8 @@ pub fn plan_pairs(costs: &[u8], options: PairOptions, room: &mut [u8]) -> (u32, 
         crossing: options.check_crossing.into(),
         groups: options.groups.as_ptr(),
         groups_length: options.groups.len(),
+        fill_down: options.fill_down.as_ptr(),
+        fill_down_length: options.fill_down.len(),
     };
     let mut used = 0;
     let status = unsafe { exports::mcf_plan_pairs(costs.as_ptr(), costs.len(), &numbers, room.as_mut_ptr(), room.len(), &mut used) };

@@ -17,8 +17,9 @@ returns-clause-shape c =
     let four = c.in_ok-arg-4.ensures.shape c.penalty_option.ensures.local ∙ ap₂ with_rule three c.penalty_option.ensures.rule in
     let ranges = c.answer_option.ensures in
     let five = c.in_ok-arg-5.ensures.shape ranges.local ∙ ap₂ with_rule four ranges.rule.2 in
-    let six = c.in_ok-arg-6.ensures.shape c.table_argument.ensures.local ∙ ap₂ with_rule five c.table_argument.ensures.rule in
-    IfOk-weaker c.arg-7.result _ _ (λ r h. record {
+    let six = c.in_ok-arg-6.ensures.shape c.filling_option.ensures.local ∙ ap₂ with_rule five c.filling_option.ensures.rule in
+    let seven = c.in_ok-arg-7.ensures.shape c.table_argument.ensures.local ∙ ap₂ with_rule six c.table_argument.ensures.rule in
+    IfOk-weaker c.arg-8.result _ _ (λ r h. record {
       marks = mark.rule.0;
       unused = unused.rule.0;
       short = short.rule.0;
@@ -27,8 +28,8 @@ returns-clause-shape c =
       unused_spelled = unused.rule.1;
       short_spelled = short.rule.1;
       ranges_spelled = ranges.rule.1;
-      reads = ap (λ (a : App). a.top) (h.shape c.table_argument-2.ensures.local ∙ ap₂ with_rule six c.table_argument-2.ensures.rule);
-    }) c.arg-7.ensures
+      reads = ap (λ (a : App). a.top) (h.shape c.table_argument-2.ensures.local ∙ ap₂ with_rule seven c.table_argument-2.ensures.rule);
+    }) c.arg-8.ensures
 
 pub returns-clause-local : goal.returns-clause-local
 returns-clause-local c =
@@ -38,5 +39,6 @@ returns-clause-local c =
     let three = c.in_ok-arg-3.ensures.globals ∙ ap₂ (λ x y. x || y) two c.leave_option-2.ensures.local in
     let four = c.in_ok-arg-4.ensures.globals ∙ ap₂ (λ x y. x || y) three c.penalty_option.ensures.local in
     let five = c.in_ok-arg-5.ensures.globals ∙ ap₂ (λ x y. x || y) four c.answer_option.ensures.local in
-    let six = c.in_ok-arg-6.ensures.globals ∙ ap₂ (λ x y. x || y) five c.table_argument.ensures.local in
-    IfOk-weaker c.arg-7.result _ _ (λ r h. h.globals ∙ ap₂ (λ x y. x || y) six c.table_argument-2.ensures.local) c.arg-7.ensures
+    let six = c.in_ok-arg-6.ensures.globals ∙ ap₂ (λ x y. x || y) five c.filling_option.ensures.local in
+    let seven = c.in_ok-arg-7.ensures.globals ∙ ap₂ (λ x y. x || y) six c.table_argument.ensures.local in
+    IfOk-weaker c.arg-8.result _ _ (λ r h. h.globals ∙ ap₂ (λ x y. x || y) seven c.table_argument-2.ensures.local) c.arg-8.ensures

@@ -13,6 +13,7 @@ returns c =
       short = c.leave_of-2.ensures ∙ ap leave_by (c.get_str-3.ensures ∙ first_value-rows found (codes "short"));
       penalty = c.get_str-4.ensures ∙ first_value-rows found (codes "penalty");
       ranges = c.answer_of.ensures ∙ ap answer_by (c.get_str-5.ensures ∙ first_value-rows found (codes "ranges"));
-      places = c.get_str-6.ensures ∙ first_value-rows found (codes "places");
-      routes = c.get_str-7.ensures ∙ first_value-rows found (codes "routes");
+      fill_down = c.get_str-6.ensures ∙ first_value-rows found (codes "fill-down");
+      places = c.get_str-7.ensures ∙ first_value-rows found (codes "places");
+      routes = c.get_str-8.ensures ∙ first_value-rows found (codes "routes");
     }

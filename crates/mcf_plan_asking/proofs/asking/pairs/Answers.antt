@@ -17,7 +17,8 @@ returns-clause-shape c =
     let four = c.in_ok-arg-4.ensures.shape c.groups_option.ensures.local ∙ ap₂ with_rule three c.groups_option.ensures.rule in
     let crossing = c.crossing_option.ensures in
     let five = c.in_ok-arg-5.ensures.shape crossing.local ∙ ap₂ with_rule four crossing.rule.2 in
-    IfOk-weaker c.arg-6.result _ _ (λ r h. record {
+    let six = c.in_ok-arg-6.ensures.shape c.filling_option.ensures.local ∙ ap₂ with_rule five c.filling_option.ensures.rule in
+    IfOk-weaker c.arg-7.result _ _ (λ r h. record {
       marks = mark.rule.0;
       each = each.rule.0;
       maximise = maximise.rule.0;
@@ -26,8 +27,8 @@ returns-clause-shape c =
       each_spelled = each.rule.1;
       maximise_spelled = maximise.rule.1;
       crossing_spelled = crossing.rule.1;
-      reads = ap (λ (a : App). a.top) (h.shape c.table_argument.ensures.local ∙ ap₂ with_rule five c.table_argument.ensures.rule);
-    }) c.arg-6.ensures
+      reads = ap (λ (a : App). a.top) (h.shape c.table_argument.ensures.local ∙ ap₂ with_rule six c.table_argument.ensures.rule);
+    }) c.arg-7.ensures
 
 pub returns-clause-local : goal.returns-clause-local
 returns-clause-local c =
@@ -37,4 +38,5 @@ returns-clause-local c =
     let three = c.in_ok-arg-3.ensures.globals ∙ ap₂ (λ x y. x || y) two c.answer_option.ensures.local in
     let four = c.in_ok-arg-4.ensures.globals ∙ ap₂ (λ x y. x || y) three c.groups_option.ensures.local in
     let five = c.in_ok-arg-5.ensures.globals ∙ ap₂ (λ x y. x || y) four c.crossing_option.ensures.local in
-    IfOk-weaker c.arg-6.result _ _ (λ r h. h.globals ∙ ap₂ (λ x y. x || y) five c.table_argument.ensures.local) c.arg-6.ensures
+    let six = c.in_ok-arg-6.ensures.globals ∙ ap₂ (λ x y. x || y) five c.filling_option.ensures.local in
+    IfOk-weaker c.arg-7.result _ _ (λ r h. h.globals ∙ ap₂ (λ x y. x || y) six c.table_argument.ensures.local) c.arg-7.ensures

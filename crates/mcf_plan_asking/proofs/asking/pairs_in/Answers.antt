@@ -13,5 +13,6 @@ returns c =
       maximise = c.answer_of.ensures ∙ ap answer_by (c.get_str-3.ensures ∙ first_value-rows found (codes "maximise"));
       groups = c.get_str-4.ensures ∙ first_value-rows found (codes "groups");
       check = c.crossing_of.ensures ∙ ap crossing_by (c.get_str-5.ensures ∙ first_value-rows found (codes "crossing"));
-      costs = c.get_str-6.ensures ∙ first_value-rows found (codes "costs");
+      fill_down = c.get_str-6.ensures ∙ first_value-rows found (codes "fill-down");
+      costs = c.get_str-7.ensures ∙ first_value-rows found (codes "costs");
     }

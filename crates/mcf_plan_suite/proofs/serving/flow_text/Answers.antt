@@ -17,5 +17,5 @@ returns g c = record {
     places_read = c.in_ok-places.ensures;
     routes_read = c.in_ok-routes.ensures;
   };
-  answers = rw (c.deref.ensures.value, c.deref-2.ensures.value) at c.in_ok-text.ensures;
+  answers = rw (c.word_bytes.ensures, c.deref.ensures.value, c.deref-2.ensures.value) at c.in_ok-text.ensures;
 }

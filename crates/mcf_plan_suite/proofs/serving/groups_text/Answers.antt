@@ -11,5 +11,5 @@ returns g c = record {
   names_costs = ap word_text c.in-Some.is;
   costs_read = c.in_ok-costs.ensures;
   groups_read = c.in_ok-groups.ensures;
-  answers = rw (c.deref.ensures.value, c.deref-2.ensures.value, c.pair_options-options.ensures, c.crossing_in.ensures) at c.in_ok-text.ensures;
+  answers = rw (c.word_bytes.ensures, c.deref.ensures.value, c.deref-2.ensures.value, c.pair_options-options.ensures, c.crossing_in.ensures) at c.in_ok-text.ensures;
 }

@@ -8,5 +8,5 @@ returns g c = record {
   costs = c.in_ok-costs.costs;
   names_costs = ap word_text c.in-Some.is;
   costs_read = c.in_ok-costs.ensures;
-  answers = rw (c.deref.ensures.value, c.pair_options-options.ensures) at c.in_ok-text.ensures;
+  answers = rw (c.word_bytes.ensures, c.deref.ensures.value, c.pair_options-options.ensures) at c.in_ok-text.ensures;
 }
