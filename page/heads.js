@@ -53,30 +53,57 @@ export function carriedOf(table, known, used, hasSteps = false) {
     }));
 }
 
-// What no minimum-cost flow says: heads that planners give it, its words, and what does say it.
+// What no minimum-cost flow can do: heads that planners give it, its words, and what can.
 const INTEGERS = 'a mixed-integer solver such as HiGHS';
 const CONSTRAINTS = 'a constraint solver such as OR-Tools CP-SAT';
 const NO_FLOW = [
-  ['rest, rest time, rest hours, ruhezeit', 'rest times between shifts', CONSTRAINTS],
-  ['window, time window, earliest, latest, zeitfenster', 'time windows', CONSTRAINTS],
-  ['not with, excludes, incompatible, nicht mit', 'what excludes each other', CONSTRAINTS],
-  ['lot, lot size, batch, batch size, los, losgröße', 'lots of one size', INTEGERS],
+  [
+    'rest, rest time, rest hours, min rest, ruhezeit',
+    'keep rest times between shifts',
+    CONSTRAINTS,
+  ],
+  [
+    'consecutive, max consecutive, in a row, max in a row, in folge, max in folge',
+    'limit what comes in a row',
+    CONSTRAINTS,
+  ],
+  [
+    'window, time window, earliest, latest, opening hours, zeitfenster, öffnungszeiten',
+    'keep time windows',
+    CONSTRAINTS,
+  ],
+  [
+    'not with, excludes, incompatible, nicht mit',
+    'keep apart what excludes each other',
+    CONSTRAINTS,
+  ],
+  [
+    'lot, lot size, batch, batch size, pallet size, multiple of, los, losgröße, losgrösse, '
+      + 'palettengröße, palettengrösse',
+    'send lots of one size',
+    INTEGERS,
+  ],
   [
     'fixed cost, setup, setup cost, opening cost, fixkosten, rüstkosten',
-    'a cost of using something at all',
+    'charge for using something at all',
     INTEGERS,
   ],
   [
-    'least if used, min if used, minimum order, mindestmenge',
-    'nothing or at least an amount',
+    'least if used, min if used, min lot, minimum lot, min order, minimum order, minimum order '
+      + 'quantity, moq, mindestlos, mindestmenge, mindestabnahme',
+    "say 'nothing, or at least so much'",
     INTEGERS,
   ],
-  ['discount, rebate, rabatt, staffelpreis', 'costs that fall with the amount', INTEGERS],
-  ['tour, tours, sequence, reihenfolge', 'tours', 'a vehicle-routing solver such as VROOM'],
+  ['discount, rebate, rabatt, staffelpreis', 'let costs fall with the amount', INTEGERS],
+  [
+    'tour, tours, sequence, stops, max stops, vehicle capacity, reihenfolge, fahrzeugkapazität',
+    'plan tours',
+    'a vehicle-routing solver such as VROOM',
+  ],
 ];
 
 // This function returns a line that lists the copied columns without a use, if there are any, and
-// one on each column that says what no minimum-cost flow does.
+// one on each column about what no minimum-cost flow can do.
 /** @type {(columns: Carried[]) => string[]} */
 export function carriedLines(columns) {
   const namesOf = (/** @type {Carried[]} */ some) => [...new Set(some.map(({ name }) => name))];
@@ -87,12 +114,14 @@ export function carriedLines(columns) {
   ];
 }
 
-// This function returns a line on a column, if its name is that of what no minimum-cost flow says.
+// This function returns a line on a column, if its name is that of what no minimum-cost flow can
+// do. A unit between brackets after the name doesn't count.
 /** @type {(name: string) => string[]} */
 function beyondLines(name) {
-  const head = fold(name.replace(/[-_ ]+/g, ' ').trim());
-  return NO_FLOW.filter(([heads]) => heads.split(', ').includes(head))
-    .map(([, what, other]) => `Column ${name}: no minimum-cost flow says ${what}; ${other} does.`);
+  const head = fold(name.replace(/[([].*/, '').replace(/[-_ ]+/g, ' ').trim());
+  return NO_FLOW.filter(([heads]) => heads.split(', ').includes(head)).map(([, what, other]) =>
+    `Column ${name}: a minimum-cost flow can't ${what}; ${other} can.`
+  );
 }
 
 // This function writes a head for a sentence: shortened, with characters that can't be printed

@@ -24,26 +24,53 @@ PERIODS = {
     "places": ("period", "keep most", "keep cost", "first stock", "last stock"),
     "routes": ("period", "lead"),
 }
-# What no minimum-cost flow says: heads that planners give it, its words, and what does say it.
+# What no minimum-cost flow can do: heads that planners give it, its words, and what can.
 INTEGERS = "a mixed-integer solver such as HiGHS"
 CONSTRAINTS = "a constraint solver such as OR-Tools CP-SAT"
 NO_FLOW = (
-    ("rest, rest time, rest hours, ruhezeit", "rest times between shifts", CONSTRAINTS),
-    ("window, time window, earliest, latest, zeitfenster", "time windows", CONSTRAINTS),
-    ("not with, excludes, incompatible, nicht mit", "what excludes each other", CONSTRAINTS),
-    ("lot, lot size, batch, batch size, los, losgröße", "lots of one size", INTEGERS),
+    (
+        "rest, rest time, rest hours, min rest, ruhezeit",
+        "keep rest times between shifts",
+        CONSTRAINTS,
+    ),
+    (
+        "consecutive, max consecutive, in a row, max in a row, in folge, max in folge",
+        "limit what comes in a row",
+        CONSTRAINTS,
+    ),
+    (
+        "window, time window, earliest, latest, opening hours, zeitfenster, öffnungszeiten",
+        "keep time windows",
+        CONSTRAINTS,
+    ),
+    (
+        "not with, excludes, incompatible, nicht mit",
+        "keep apart what excludes each other",
+        CONSTRAINTS,
+    ),
+    (
+        "lot, lot size, batch, batch size, pallet size, multiple of, los, losgröße, losgrösse,"
+        " palettengröße, palettengrösse",
+        "send lots of one size",
+        INTEGERS,
+    ),
     (
         "fixed cost, setup, setup cost, opening cost, fixkosten, rüstkosten",
-        "a cost of using something at all",
+        "charge for using something at all",
         INTEGERS,
     ),
     (
-        "least if used, min if used, minimum order, mindestmenge",
-        "nothing or at least an amount",
+        "least if used, min if used, min lot, minimum lot, min order, minimum order, minimum order"
+        " quantity, moq, mindestlos, mindestmenge, mindestabnahme",
+        "say 'nothing, or at least so much'",
         INTEGERS,
     ),
-    ("discount, rebate, rabatt, staffelpreis", "costs that fall with the amount", INTEGERS),
-    ("tour, tours, sequence, reihenfolge", "tours", "a vehicle-routing solver such as VROOM"),
+    ("discount, rebate, rabatt, staffelpreis", "let costs fall with the amount", INTEGERS),
+    (
+        "tour, tours, sequence, stops, max stops, vehicle capacity, reihenfolge, fahrzeugkapazität",
+        "plan tours",
+        "a vehicle-routing solver such as VROOM",
+    ),
 )
 # The heads of what isn't read as a number.
 WORDS = {"name", "from", "to", "both", "who", "what", "takes", "needs", "group", *SPOT_HEADS}
@@ -74,7 +101,7 @@ def carried(word, table, sheet):
 
 def carried_lines(words, tables, sheets, used):
     """A line on the columns that are carried along and not used, if there are any, and one on each
-    that says what no minimum-cost flow does. The used ones are those of sums."""
+    on what no minimum-cost flow can do. The used ones are those of sums."""
     columns = [column for one in zip(words, tables, sheets) for column in carried(*one)]
     names = listed(list(dict.fromkeys(name for one, name in columns if one not in used)), NAMED)
     lines = [f"Columns carried along, not used: {names}."] if names else []
@@ -84,12 +111,13 @@ def carried_lines(words, tables, sheets, used):
 
 
 def beyond_lines(name):
-    """A line on a column, if its name is that of what no minimum-cost flow says."""
-    head = re.sub("[-_ ]+", " ", name).strip().casefold()
+    """A line on a column, if its name is that of what no minimum-cost flow can do. A unit between
+    brackets after the name doesn't count."""
+    head = re.sub("[-_ ]+", " ", re.sub(r"[(\[].*", "", name)).strip().casefold()
     return [
-        f"Column {name}: no minimum-cost flow says {what}; {other} does."
+        f"Column {name}: a minimum-cost flow can't {what}; {other} can."
         for heads, what, other in NO_FLOW
-        if head in heads.split(", ")
+        if head in heads.casefold().split(", ")
     ]
 
 
