@@ -69,11 +69,13 @@ function told({ text, count, more }) {
   return `${text} (${count} such cells; also ${cells.join(', ')})`;
 }
 
-// This function joins texts with commas, and says how many more there are.
+// This function joins texts with commas, or with semicolons if one of them has a comma, and says
+// how many more there are.
 /** @type {(texts: string[], most?: number) => string} */
 export function listed(texts, most = TOLD_NAMES) {
-  const more = texts.length - most;
-  return texts.slice(0, most).join(', ') + (more > 0 ? ` and ${more} more` : '');
+  const more = texts.length - most, first = texts.slice(0, most);
+  const mark = first.some((text) => text.includes(', ')) ? '; ' : ', ';
+  return first.join(mark) + (more > 0 ? ` and ${more} more` : '');
 }
 
 /** @type {(number: number, one: string, many: string) => string} */

@@ -5,9 +5,11 @@ TOLD_NAMES = 8
 
 
 def listed(texts, most=TOLD_NAMES):
-    """The first texts, separated by commas, and the number of the others."""
-    more = len(texts) - most
-    return ", ".join(texts[:most]) + (f" and {more} more" if more > 0 else "")
+    """The first texts, and the number of the others. Commas separate them, or semicolons if one of
+    them has a comma."""
+    more, first = len(texts) - most, texts[:most]
+    mark = "; " if any(", " in text for text in first) else ", "
+    return mark.join(first) + (f" and {more} more" if more > 0 else "")
 
 
 def count_of(number, one, many):
