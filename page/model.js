@@ -61,7 +61,8 @@ export class Problem {
   // This method reads places and routes, in each period if there are periods.
   /** @type {() => { places: Place<Exact>[], routes: ReadRoute[], stores: ReadRoute[] }} */
   read() {
-    const { placeTable, routeTable, periods, mark } = this, rows = placesOf(placeTable, mark);
+    const { placeTable, routeTable, periods, mark, notes } = this;
+    const rows = placesOf(placeTable, mark, notes);
     const firsts = firstOf(rows), routes = routesOf(routeTable, firsts, mark);
     if (!periods.length) return { places: rows, routes, stores: [] };
     return {
@@ -157,12 +158,12 @@ function wholeRoute(route, units) {
   return { ...route, least: scaled(route.least, units.amounts), steps, most };
 }
 
-/** @type {(table: Table, mark: string | null) => Place<Exact>[]} */
-function placesOf(table, mark) {
+/** @type {(table: Table, mark: string | null, notes: string[]) => Place<Exact>[]} */
+function placesOf(table, mark, notes) {
   const heads = [...NEEDED.places, 'penalty', ...BOUND_HEADS];
   const read = table.reader(heads), faults = new Faults();
   const spots = spotsOf(table, faults);
-  faults.end();
+  faults.end(notes);
   return table.rows.map(({ line, cells }, k) => {
     const [name, supply, penalty, ...bounds] = read(cells);
     return {

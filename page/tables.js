@@ -11,6 +11,13 @@ import { words } from './words.js';
 const SEPARATOR_LINE = /^"?sep=([^" \n])"?[^\S\n]*(?:\n|$)/i;
 // The separators that heads show by themselves.
 export const SEPARATORS = ',;\t';
+// The names of each table, and what stands for one in a row of totals.
+/** @type {Record<string, string[]>} */
+const NAMES = { places: ['name'], routes: ['from', 'to'], costs: ['who', 'what'] };
+const TOTALS = [
+  'total', 'totals', 'sum', 'grand total', 'subtotal', 'gesamt', 'gesamtsumme', 'gesamtergebnis',
+  'summe', 'insgesamt', 'zwischensumme',
+];
 // Heads are in one of this many lines.
 export const LOOKED = 10;
 // The first bytes of other kinds of files.
@@ -92,6 +99,17 @@ export const escaped = (text) => text.replace(/[\\^$.*+?()[\]{}|]/g, '\\$&');
 
 /** @type {(text: string) => string} */
 const withFeeds = (text) => text.replace(/\r\n?/g, '\n');
+
+// This function returns the cells of a table of an answer that are names, row by row; none if it
+// lacks a column of names.
+/** @type {(answer: Answer, word: string) => string[]} */
+function namesIn(answer, word) {
+  const read = answer.tables.get(word), heads = read ? read.titles.map(fold) : [];
+  const places = (NAMES[word] || []).map((head) => heads.indexOf(head));
+  return !read || places.includes(-1)
+    ? []
+    : read.rows.flatMap(({ cells }) => places.map((place) => cellAt(cells, place)));
+}
 
 // A text for the module, in normal form C, with a line feed at the end of each line. `own` has the
 // planner's titles by the heads that replace them in the text; `changes` say what an answer changed.
@@ -225,7 +243,31 @@ export class TableText {
         `${this.name}, column ${columns.get(fold(head)) ?? head}: `
           + `${countOf(Number(count), 'empty cell takes', 'empty cells take')} the value above.`
       ),
+      ...this.unsummed(word, answer),
     ];
+  }
+
+  // This method returns a line on a last row that may be one of totals, and isn't left out, since
+  // its numbers aren't the sums of those above.
+  /** @type {(word: string, answer: Answer) => string[]} */
+  unsummed(word, answer) {
+    const rows = answer.tables.get(word)?.rows || [], names = namesIn(answer, word);
+    if (rows.length < 2 || !names.length) return [];
+    const { line, cells } = rows[rows.length - 1], own = names.slice(-NAMES[word].length);
+    const others = new Set([
+      ...names.slice(0, -own.length),
+      ...Object.keys(NAMES).filter((one) => one !== word).flatMap((one) => namesIn(answer, one)),
+    ]);
+    const filled = own.filter(Boolean);
+    const isTotal = filled.length
+      && filled.every((name) => TOTALS.includes(fold(name)) && !others.has(name));
+    const told = listed(cells.filter(Boolean).map(shown));
+    return isTotal
+      ? [
+        `${this.name}, line ${line} may be a row of totals (${told}), but its numbers aren't the `
+          + 'sums of those above: make them so, or remove it.',
+      ]
+      : [];
   }
 
   bytes() { return new TextEncoder().encode(this.text); }

@@ -72,6 +72,12 @@ NO_FLOW = (
         "a vehicle-routing solver such as VROOM",
     ),
 )
+# The names of each table, and what stands for one in a row of totals.
+NAMES = {"places": ("name",), "routes": ("from", "to"), "costs": ("who", "what")}
+TOTALS = (
+    "total, totals, sum, grand total, subtotal, gesamt, gesamtsumme, gesamtergebnis, summe,"
+    " insgesamt, zwischensumme"
+).split(", ")
 # The heads of what isn't read as a number.
 WORDS = {"name", "from", "to", "both", "who", "what", "takes", "needs", "group", *SPOT_HEADS}
 WORDS |= {"period"}
@@ -176,7 +182,33 @@ def changed_lines(word, table, answer, columns):
         for name, head, count in answer.rows["filled"]
         if name == word and count != "0"
     ]
-    return lines
+    return lines + unsummed_lines(word, table, answer)
+
+
+def unsummed_lines(word, table, answer):
+    """A line on a last row that may be one of totals, and isn't left out, since its numbers aren't
+    the sums of those above."""
+    found = {one: name_cells(one, sheet) for one, sheet in answer.sheets.items() if one in NAMES}
+    names = found.pop(word, [])
+    if len(names) < 2 * len(NAMES.get(word, "")) or not names:
+        return []
+    (line, cells), count = answer.sheets[word].rows[-1], len(NAMES[word])
+    own, others = list(filter(None, names[-count:])), set(names[:-count]).union(*found.values())
+    if not own or not others.isdisjoint(own) or not set(map(str.casefold, own)) <= set(TOTALS):
+        return []
+    told = listed([shown(cell) for cell in cells if cell])
+    return [
+        f"{table.name}, line {line} may be a row of totals ({told}), but its numbers aren't the"
+        " sums of those above: make them so, or remove it."
+    ]
+
+
+def name_cells(word, sheet):
+    """The cells of a table that are names, row by row; none if it lacks a column of names."""
+    places = [sheet.place(head) for head in NAMES[word]]
+    if None in places:
+        return []
+    return [cell_at(cells, place) for _, cells in sheet.rows for place in places]
 
 
 def wish_lines(table, count, needs):
