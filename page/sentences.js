@@ -25,8 +25,8 @@ export const NEEDED = {
   groups: ['group'],
 };
 const WISHES =
-  '; if these are wishes, call the column of the names who and those of the wishes 1, 2 and so on, '
-    + 'or write a list with a line who, what, cost for each wish';
+  '; if these are wishes, call the column of the names who ({named}) and those of the wishes 1, 2 '
+    + 'and so on, or write a list with a line who, what, cost for each wish';
 const TOO_GREAT = '{this} is beyond the limits, by itself or in total ({limits})';
 // What is wrong, as the module calls it, perhaps with its column, and the sentence.
 /** @type {Record<string, string>} */
@@ -277,23 +277,50 @@ export class Teller {
     return [...new Set(table.rows.map(({ cells }) => read(cells)[0]).filter(Boolean))];
   }
 
-  // This method returns a hint at a line below the heads that has those which the table needs.
+  // This method returns a hint at a line below the heads that has those which the table needs; or,
+  // below a title, at one that may have the heads, since it has as many words and no number.
   /** @type {(word: string) => string} */
   lineWith(word) {
-    const ends = new RegExp(`[${escaped(this.texts[word].separators)}"]`);
-    const found = this.tables[word].rows.slice(0, LOOKED).find(({ cells }) => {
-      const there = cells.join(',').split(ends).map((one) => fold(one.trim()));
-      return NEEDED[word].every((head) => there.includes(head));
-    });
-    return found ? `, but in line ${found.line}: make that the first line` : '';
+    const ends = new RegExp(`[${escaped(this.texts[word].separators)}"]`), needed = NEEDED[word];
+    const isTitle = this.tables[word].titles.filter(Boolean).length < needed.length;
+    for (const { line, cells } of this.tables[word].rows.slice(0, LOOKED)) {
+      const found = cells.join(',').split(ends).map((one) => one.trim()).filter(Boolean);
+      const there = found.map(fold);
+      if (needed.every((head) => there.includes(head))) {
+        return `, but in line ${line}: make that the first line`;
+      }
+      if (isTitle && found.length >= needed.length && found.every((one) => /\p{L}/u.test(one))) {
+        const heads = found.map((one) => shown(this.texts[word].own.get(one) ?? one));
+        return `; perhaps line ${line} has the heads: ${listed(heads)}`;
+      }
+    }
+    return '';
   }
 
   // This method returns a hint at what a table without its columns may be.
   /** @type {(word: string) => string} */
   looksLike(word) {
-    return word === 'places' && this.tables.places.has(['from', 'to'])
-      ? 'this looks like the table of routes, which comes second; '
-      : '';
+    if (word === 'places' && this.tables.places.has(['from', 'to'])) {
+      return 'this looks like the table of routes, which comes second; ';
+    }
+    return word === 'routes' ? this.matrix() : '';
+  }
+
+  // This method returns a hint at a matrix of costs from places to the same ones, whose names
+  // aren't those of the table of places, and at a column there that has them.
+  matrix() {
+    const { routes, places } = this.tables, names = this.names();
+    const heads = routes.titles.slice(1).filter(Boolean);
+    const lefts = new Set(routes.rows.map(({ cells }) => cells[0]));
+    const isMatrix = !NEEDED.routes.some((head) => routes.heads.includes(head))
+      && heads.length > 1 && 2 * heads.filter((head) => lefts.has(head)).length >= heads.length;
+    if (!isMatrix) return '';
+    const other = heads.find((head) => !names.includes(head)) || '';
+    const column = places.titles.find((_, place) =>
+      places.rows.some(({ cells }) => cellAt(cells, place) === other)
+    );
+    const told = column === undefined ? '' : `, which stands in column ${column}`;
+    return `this looks like a matrix, but no place has the name ${shown(other)}${told}; `;
   }
 
   // This method returns a hint at merged cells, if a cell above in the column has a name, which may
@@ -313,7 +340,9 @@ export class Teller {
     const cells = table.rows.flatMap((row) => row.cells.slice(1))
       .filter((cell) => !FORBIDDEN.includes(fold(cell)));
     const count = cells.filter((cell) => /^\p{L}/u.test(cell)).length;
-    return word === 'costs' && !isList(table) && 2 * count > cells.length ? WISHES : '';
+    return word === 'costs' && !isList(table) && 2 * count > cells.length
+      ? WISHES.replace('{named}', words().named('who', 'NAME'))
+      : '';
   }
 }
 

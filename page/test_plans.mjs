@@ -37,6 +37,7 @@ export const TOOL = {
   orChoose: 'or say --decimal',
   chosen: 'as --decimal says',
   own: (head) => `where a head has another name, say so: --map ${head}=NAME`,
+  named: (head, own) => `--map ${head}=${own}`,
   names: (head, own) => `which --map ${head}=${own} names`,
   merged: (title) => `say --fill-down ${title}`,
   fills: (column) => `--fill-down ${column}`,

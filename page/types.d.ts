@@ -175,6 +175,7 @@ interface Speech {
   orChoose: string;
   chosen: string;
   own(head: string): string;
+  named(head: string, own: string): string;
   names(head: string, own: string): string;
   merged(title: string): string;
   fills(column: string): string;

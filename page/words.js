@@ -9,6 +9,7 @@ const OWN_WORDS = {
   orChoose: 'or choose the decimal mark under Reading',
   chosen: 'as chosen under Reading',
   own: (head) => `where a head has another name, write ${head}=NAME under Reading`,
+  named: (head, own) => `${head}=${own} under Reading`,
   names: (head, own) => `which ${head}=${own} under Reading names`,
   merged: (title) => `name ${title} under Reading, to fill it down`,
   fills: (column) => `fill down ${column} under Reading`,

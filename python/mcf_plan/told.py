@@ -24,8 +24,8 @@ NOTHING = (
     " columns who, what and cost, a matrix things in its first line and persons in its first column"
 )
 WISHES = (
-    "; if these are wishes, call the column of the names who and those of the wishes 1, 2 and so"
-    " on, or write a list with a line who, what, cost for each wish"
+    "; if these are wishes, call the column of the names who (--map who=NAME) and those of the"
+    " wishes 1, 2 and so on, or write a list with a line who, what, cost for each wish"
 )
 BEYOND = "{this} is beyond the limits, by itself or in total (LIMITS in `man mcf`)"
 # What is wrong, as `mcfplan` calls it, perhaps with its column, and the sentence.
@@ -267,19 +267,42 @@ class Teller:
         return f"; is {shown(near[0])} meant?" if near else ""
 
     def line_with(self, word):
-        """A hint at a line below the heads that has those which the table needs."""
-        ends = f'[{re.escape(self.tables[word].separators)}"]'
+        """A hint at a line below the heads that has those which the table needs; or, below a
+        title, at one that may have the heads, since it has as many words and no number."""
+        ends, needed = f'[{re.escape(self.tables[word].separators)}"]', set(NEEDED[word])
+        is_title = len(list(filter(None, self.sheets[word].titles))) < len(needed)
         for line, cells in self.sheets[word].rows[:LOOKED]:
-            found = {cell.strip(BLANKS).casefold() for cell in re.split(ends, ",".join(cells))}
-            if found >= set(NEEDED[word]):
+            found = [cell.strip(BLANKS) for cell in re.split(ends, ",".join(cells))]
+            if {cell.casefold() for cell in found} >= needed:
                 return f", but in line {line}: make that the first line"
+            found = list(filter(None, found))
+            if is_title and len(found) >= len(needed) and all(map(has_letter, found)):
+                heads = listed([shown(self.tables[word].title(cell)) for cell in found])
+                return f"; perhaps line {line} has the heads: {heads}"
         return ""
 
     def looks_like(self, word):
         """A hint at what a table without its columns may be."""
         if word == "places" and self.sheets[word].has(("from", "to")):
             return "this looks like the table of routes, which comes second; "
-        return ""
+        return self.matrix() if word == "routes" else ""
+
+    def matrix(self):
+        """A hint at a matrix of costs from places to the same ones, whose names aren't those of
+        the table of places, and at a column there that has them."""
+        routes, places, names = self.sheets["routes"], self.sheets["places"], self.names()
+        heads, lefts = [*filter(None, routes.titles[1:])], {cells[0] for _, cells in routes.rows}
+        is_list = not set(NEEDED["routes"]).isdisjoint(routes.heads)
+        if is_list or len(heads) < 2 or 2 * sum(head in lefts for head in heads) < len(heads):
+            return ""
+        other = next((head for head in heads if head not in names), "")
+        columns = [
+            self.tables["places"].title(title)
+            for place, title in enumerate(places.titles)
+            if other in (cell_at(cells, place) for _, cells in places.rows)
+        ]
+        told = f", which stands in column {columns[0]}" if columns else ""
+        return f"this looks like a matrix, but no place has the name {shown(other)}{told}; "
 
     def merged(self, word, line, column):
         """A hint at merged cells, if a cell above in the column has a name, which may stand there
@@ -297,6 +320,11 @@ class Teller:
         cells = [cell for _, row in sheet.rows for cell in row[1:] if cell.lower() not in FORBIDDEN]
         are_words = 2 * sum(cell[:1].isalpha() for cell in cells) > len(cells)
         return WISHES if word == "costs" and not is_list(sheet) and are_words else ""
+
+
+def has_letter(cell):
+    """Whether a cell has a letter, so that it is no number."""
+    return any(map(str.isalpha, cell))
 
 
 def filled(sheet, heads, row):
