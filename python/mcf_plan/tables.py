@@ -236,6 +236,12 @@ def sheet_with(path, sheets, wanted, reading):
     }
     found = Table(f"{path}, sheet {title}", text.getvalue(), False, path, figures)
     found.width = max(map(len, rows))
+    if max(ranks) == 0 and len(sheets) > 1:
+        found.notes.append(
+            f"{path}: no sheet has one of the heads"
+            f" {', '.join(reading.heads.get(head, head) for head in wanted)}; {title} is read, of"
+            f" the sheets {', '.join(name for name, _ in sheets)}."
+        )
     return found
 
 

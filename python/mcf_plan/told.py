@@ -20,7 +20,7 @@ NEEDED = {
     "groups": ("group",),
 }
 NOTHING = (
-    " is read: the heads are {heads} (split at {separator}), with {lines} below; a list has the"
+    " is read: the heads are {heads}{split}, with {lines} below; a list has the"
     " columns who, what and cost, a matrix things in its first line and persons in its first column"
 )
 WISHES = (
@@ -35,7 +35,7 @@ SENTENCES = {
         "something after the closing quote (a quote within quotes is written twice)"
     ),
     "no such column": (
-        "there is no such column among {heads} (split at {separator}){below}; {like}the table needs"
+        "there is no such column among {heads}{split}{below}; {like}the table needs"
         " {needed}; where a head has another name, say so: --map {column}=NAME"
     ),
     "nearly": "there is no such column; is {meant} meant? Call it so, or otherwise",
@@ -111,7 +111,7 @@ SENTENCES = {
     "no number or range": "{cell} is no number, and no range such as 2..3{date}",
     "two different numbers": "an earlier line has another number: this is {cell}",
     "no column who or what": (
-        "there is no column who and no column what among {heads} (split at {separator}): each line"
+        "there is no column who and no column what among {heads}{split}: each line"
         " names a person (who) or a thing (what) of a group"
     ),
     "no person or thing": "the line names no person (who) and no thing (what)",
@@ -237,7 +237,7 @@ class Teller:
             "meant": lambda: shown(meant),
             "column": lambda: column,
             "heads": lambda: listed([shown(table.title(title)) for title in sheet.titles]),
-            "separator": lambda: shown(table.separator(sheet)),
+            "split": lambda: "" if table.book else f" (split at {shown(table.separator(sheet))})",
             "lines": lambda: count_of(len(sheet.rows), "line", "lines"),
             "below": lambda: self.line_with(word),
             "like": lambda: self.looks_like(word),

@@ -426,6 +426,16 @@ class Workbooks(WithFolder):
             run("flow", book, "-o", self.out)[2],
         )
 
+    def test_sheets_without_heads(self):
+        rows = [["Places", ""], ["Ort", "Menge"], ["A", 1]]
+        said = run("flow", self.book(a=rows, b=[["Von", "Nach"]]), "-o", self.out)[2]
+        self.assertIn(
+            "among 'Places', ''; perhaps line 2 has the heads: 'Ort', 'Menge'; the table needs",
+            said,
+        )
+        told = "plan.xlsx: no sheet has one of the heads name, supply; a is read, of the sheets a, b."
+        self.assertIn(told, said)
+
     def test_a_workbook_is_written_where_it_is_asked_for(self):
         self.assertEqual(self.flow(PLACES, ROUTES, "--xlsx")[0], 0)
         self.assertTrue((self.out / "plan.xlsx").exists())
