@@ -89,7 +89,7 @@ export class Problem {
       by.filter(([table]) => table === word).map(([, place]) => place);
     const isUnused = !short && this.places.some(({ penalty }) => penalty !== null);
     const supply = placeTable.heads.indexOf('supply');
-    const empty = this.places.filter(({ cells: row }) => !cellAt(row, supply)).length;
+    const empty = placeTable.rows.filter(({ cells: row }) => !cellAt(row, supply)).length;
     return [
       ...this.notes,
       ...(empty ? [`${countOf(empty, 'empty supply is', 'empty supplies are')} read as 0.`] : []),

@@ -174,11 +174,14 @@ export class Teller {
   }
 
   // This method notes a fault. The first one of a kind tells all; of columns that a table lacks,
-  // too.
+  // too. A fault of a cell counts once, in whichever periods it is.
   /** @type {(fault: string[]) => void} */
   note([word, line, head, what, read, period = '']) {
     const [column, cell] = this.located(word, line, head, what, read);
     const isLacking = what === 'no such column', isNumber = /^[0-9]+$/.test(column);
+    const here = [word, line, what, column].join('\n');
+    if (period && this.done.has(here)) return;
+    this.done.add(here);
     const kind = [word, what, isLacking || isNumber || column].join('\n');
     const isFirst = this.done.size < this.done.add(kind).size;
     if (isLacking && !isFirst) return;

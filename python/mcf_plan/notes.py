@@ -230,8 +230,8 @@ def prepared_lines(tables):
 
 def supply_lines(problem):
     """A line on empty supplies, if there are some."""
-    column = problem.place_sheet.place("supply")
-    count = sum(1 for place in problem.places if not cell_at(place.cells, column))
+    sheet = problem.place_sheet
+    count = sum(1 for _, cells in sheet.rows if not cell_at(cells, sheet.place("supply")))
     return (
         [f"{count_of(count, 'empty supply is', 'empty supplies are')} read as 0."] if count else []
     )

@@ -173,10 +173,14 @@ class Teller:
             check_spots(self.sheets["places"], self.tables["places"].name, self.faults)
 
     def note(self, word, line, head, what, cell, period=""):
-        """Notes a fault. The first one of a kind tells all; of columns that a table lacks, too."""
+        """Notes a fault. The first one of a kind tells all; of columns that a table lacks, too. A
+        fault of a cell counts once, in whichever periods it is."""
         column, cell = self.located(word, line, head, what, cell)
-        is_lacking = what == "no such column"
+        is_lacking, here = what == "no such column", (word, line, what, column)
         kind = word, what, is_lacking or column.isdecimal() or column
+        if period and here in self.done:
+            return
+        self.done.add(here)
         if not (is_lacking and kind in self.done):
             text = "" if kind in self.done else self.text(word, line, column, what, cell)
             text += f" (in period {shown(period)})" if text and period else ""
