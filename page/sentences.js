@@ -86,13 +86,15 @@ const SENTENCES = {
     'a penalty is the cost of what is missing, and this place sends: leave the cell empty; or '
       + 'is the sign of the supply wrong?',
   'no penalty, but other places have one':
-    'this is empty, and other places have a penalty: give each place that takes one, {ofAll}',
+    'this is empty, and other places have a penalty: give each place that takes one, '
+      + '{ofAll}{stock}',
   'both ways with a least amount or a cost below 0':
     'a route that is used both ways has no least, and no cost below 0',
   'no limit, but a cost below 0':
     'this is empty, so without a limit, and a cost is below 0: a round trip could earn without '
       + 'end; give a most',
   'least above most': 'least {least} is greater than most {most}',
+  'least above most: most': '{most} is below 0, and without a column least the least is 0',
   'no number or range': '{cell} is no number, and no range such as 2..3{date}',
   'two different numbers': 'an earlier line has another number: this is {cell}',
   'no column who or what':
@@ -210,6 +212,9 @@ export class Teller {
     if (what === 'both decimal marks' && word !== 'costs') {
       return [table.heads[Number(head) - 1] || head, cell];
     }
+    if (what === 'least above most' && word !== 'groups' && !table.has(['least'])) {
+      return ['most', cell];
+    }
     if (!['falling cost', 'below 0'].includes(what)) {
       return [takes > 0 && head === String(takes + 1) ? 'takes' : head, cell];
     }
@@ -254,6 +259,7 @@ export class Teller {
       date: /[0-9]{4}-|\.\s?\w{3}/.test(cell) ? '; was it taken for a date?' : '',
       merges: () => this.merged(word, Number(line), column),
       wishes: () => this.wishes(word),
+      stock: table.reader(['last stock'])(row)[0] ? '; a last stock is a demand, too' : '',
       meant: shown(meant),
       heads: listed(table.titles.map(shown)),
       separator: shown(table.separator),

@@ -98,7 +98,7 @@ SENTENCES = {
     ),
     "no penalty, but other places have one": (
         "this is empty, and other places have a penalty: give each place that takes one, or say"
-        " --penalty N for all that have none"
+        " --penalty N for all that have none{stock}"
     ),
     "both ways with a least amount or a cost below 0": (
         "a route that is used both ways has no least, and no cost below 0"
@@ -108,6 +108,7 @@ SENTENCES = {
         " end; give a most"
     ),
     "least above most": "least {least} is greater than most {most}",
+    "least above most: most": "{most} is below 0, and without a column least the least is 0",
     "no number or range": "{cell} is no number, and no range such as 2..3{date}",
     "two different numbers": "an earlier line has another number: this is {cell}",
     "no column who or what": (
@@ -202,6 +203,8 @@ class Teller:
             return shown(cell)[1:-1], cell
         if what == "both decimal marks" and word in ("places", "routes") and head.isdecimal():
             return sheet.heads[int(head) - 1], cell
+        if what == "least above most" and word != "groups" and not sheet.has(["least"]):
+            return "most", cell
         if what not in ("falling cost", "below 0"):
             return "takes" if head == str((sheet.place("takes") or -1) + 1) else head, cell
         heads = [head, *(f"{head} {number}" for number in range(2, len(cells)))]
@@ -235,6 +238,7 @@ class Teller:
             "other": lambda: self.other(mark_in(cell)),
             "near": lambda: self.near_name(cell, column),
             "other_group": lambda: shown(self.crossed[line]),
+            "stock": lambda: self.stock(sheet, row),
             "date": lambda: "; was it taken for a date?" if DATE.search(cell) else "",
             "merged": lambda: self.merged(word, line, column),
             "wishes": lambda: self.wishes(word),
@@ -317,6 +321,11 @@ class Teller:
             return ""
         title = shown(self.tables[word].title(sheet.titles[place]))
         return f"; if cells are merged in the spreadsheet, say --fill-down {title}"
+
+    def stock(self, sheet, row):
+        """A reminder that a last stock counts among demands, if a row of places has one."""
+        place = sheet.place("last stock")
+        return "; a last stock is a demand, too" if cell_at(row, place) else ""
 
     def wishes(self, word):
         """A hint at a sheet of wishes, if most filled cells of a matrix are words."""

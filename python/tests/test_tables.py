@@ -433,7 +433,9 @@ class Workbooks(WithFolder):
             "among 'Places', ''; perhaps line 2 has the heads: 'Ort', 'Menge'; the table needs",
             said,
         )
-        told = "plan.xlsx: no sheet has one of the heads name, supply; a is read, of the sheets a, b."
+        told = (
+            "plan.xlsx: no sheet has one of the heads name, supply; a is read, of the sheets a, b."
+        )
         self.assertIn(told, said)
 
     def test_a_workbook_is_written_where_it_is_asked_for(self):
