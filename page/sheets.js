@@ -67,7 +67,7 @@ export function planShown(plan) {
       'No plan for these tables costs less.',
       ...besideLines(plan),
       ...problem.told(plan.policy, [views.columns[views.chosen]]),
-      ...(plan.hasRanges ? [RANGES] : []),
+      ...(plan.hasRanges && !plan.problem.periods.length ? [RANGES] : []),
     ],
     facts,
     findings: [],

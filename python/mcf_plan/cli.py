@@ -146,8 +146,8 @@ def add_pairs(command):
         "--crossing",
         choices=("check", "refuse"),
         help=(
-            "groups that share some members with an earlier one, and not all: leave them out and"
-            " say who breaks them; or refuse them (the default)"
+            "a group that shares some members with another one, and not all, and isn't greater:"
+            " leave it out and say who breaks it; or refuse it (the default)"
         ),
     )
     command.add_argument(

@@ -68,8 +68,8 @@ def plan_page(plan, options, pictures, sums):
         total = sum(amount for _, amount in found)
         facts += [(shown_number(problem, total, options.unit), words)] if found else []
     lead = warnings(problem) + ["No plan for these tables costs less."]
-    lead += report.unmet_lines(plan) + notes_of(problem)
-    lead += [report.RANGES] * plan.has_ranges
+    lead += report.beside_lines(plan) + notes_of(problem)
+    lead += [report.RANGES] * (plan.has_ranges and not problem.periods)
     return Page(
         options.title or "A least-cost plan",
         f"Least cost: {shown_number(problem, plan.cost, options.currency)}",

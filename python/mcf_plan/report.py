@@ -190,7 +190,6 @@ def flow_summary(plan):
     problem = plan.problem
     carrying = sum(1 for result in plan.routes if result.carries)
     full = sum(map(plan.is_full, range(len(plan.routes))))
-    passing = sum(result.through.cost or 0 for result in plan.places if result.through)
     lines = [
         f"A least-cost plan, proved: cost {problem.said(plan.cost)}.",
         (
@@ -199,8 +198,7 @@ def flow_summary(plan):
             f" {full} {'is' if full == 1 else 'are'} full."
         ),
     ]
-    lines += unmet_lines(plan) + stock_lines(plan)
-    lines += [f"Passing through places costs {problem.said(passing)} of that."] if passing else []
+    lines += beside_lines(plan)
     saving = savings_of(plan)
     if saving:
         lines.append("One more unit of room would save most on:")
@@ -219,6 +217,15 @@ def counts(problem):
         return [places, (routes, "route", "routes")]
     periods = len(problem.periods), "period", "periods"
     return [places, periods, (routes, "departure", "departures")]
+
+
+def beside_lines(plan):
+    """Lines on what stays, what is missing and what is kept, and on what it costs that amounts pass
+    through places."""
+    passing = sum(result.through.cost or 0 for result in plan.places if result.through)
+    lines = unmet_lines(plan) + stock_lines(plan)
+    cost = plan.problem.said(passing)
+    return lines + ([f"Passing through places costs {cost} of that."] if passing else [])
 
 
 def stock_lines(plan):

@@ -160,6 +160,17 @@ class Pages(WithFolder):
         self.pairs("who,what,cost,skill\nA,X,1,high\n")
         self.assertIn("<p>Columns carried along, not used: skill.</p>", self.page())
 
+    def test_what_the_summary_says_of_stock_and_of_passing(self):
+        places = "name,period,supply,cost,keep cost\nA,Mo,5,,\nB,,,1,2\nC,Tu,-5,,\n"
+        said = self.flow(places, "from,to,most,cost\nA,B,,1\nB,C,,1\n", "--ranges")[1]
+        for line in ("What places keep costs 10 of that", "Passing through places costs 10 of"):
+            self.assertIn(f"\n{line}", said)
+            self.assertIn(f"<p>{line}", self.page())
+        self.assertIn(
+            "<p>Over periods no ranges of costs are told: they are unknown.</p>", self.page()
+        )
+        self.assertNotIn("The plan stays least while", self.page())
+
     def test_what_blocks(self):
         self.flow("name,supply\nA,5\nB,-5\n", "from,to,most,cost\nA,B,4,1\n")
         text = self.page()
