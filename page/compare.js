@@ -4,7 +4,7 @@
 import { ZERO, decimalText, decimalsOf, exactOf, scaled } from './amounts.js';
 import { column, number, sheetOf } from './columns.js';
 import { labelIn } from './periods.js';
-import { MISSING, STAYS } from './plan.js';
+import { KEPT, MISSING, STAYS } from './plan.js';
 
 /**
  * @typedef {import('./pairs.js').Roster} Roster
@@ -13,7 +13,7 @@ import { MISSING, STAYS } from './plan.js';
  */
 
 // The figures that are left out if they are 0 in all plans.
-const RARE = ['stays', 'missing', 'cost of what is missing'];
+const RARE = ['stays', 'missing', 'cost of what is missing', 'cost of what is kept'];
 
 // ---- What a change did
 
@@ -98,7 +98,7 @@ function carriedBy(plan) {
 // This function returns what is compared of a plan.
 /** @type {(plan: FlowPlan) => Side} */
 export function flowSide(plan) {
-  const { problem, routes } = plan, { units } = problem;
+  const { problem, routes, stores } = plan, { units } = problem;
   const [stays, missing] = [true, false].map((isSupply) => plan.unmet(isSupply));
   const total = (/** @type {[Place, bigint][]} */ found) =>
     units.amount(found.reduce((sum, [, amount]) => sum + amount, 0n));
@@ -107,6 +107,7 @@ export function flowSide(plan) {
   );
   const sent = problem.places.reduce((sum, { supply }) => sum + (supply < 0n ? -supply : 0n), 0n);
   const short = missing.reduce((sum, [, amount]) => sum + amount, 0n);
+  const keeping = stores.reduce((sum, one) => sum + (one.cost || 0n), 0n);
   return {
     isFlow: true,
     mark: problem.mark,
@@ -116,6 +117,7 @@ export function flowSide(plan) {
       ['stays', total(stays)],
       ['missing', total(missing)],
       ['cost of what is missing', units.total(penalties)],
+      ['cost of what is kept', units.total(keeping)],
       ['routes', String(routes.length)],
       ['routes that carry something', String(routes.filter(({ carries }) => carries).length)],
       ['full routes', String(routes.filter((_, k) => plan.isFull(k)).length)],
@@ -124,6 +126,10 @@ export function flowSide(plan) {
       ...routes.map(({ carries }, k) =>
         part(problem.ends(problem.routes[k]), units.amount(carries))
       ),
+      ...stores.map(({ carries }, k) => {
+        const place = problem.places[problem.stores[k].tail - 1];
+        return part([labelIn(place), KEPT], units.amount(carries));
+      }),
       ...stays.map(([place, amount]) => part([labelIn(place), STAYS], units.amount(amount))),
       ...missing.map(([place, amount]) => part([MISSING, labelIn(place)], units.amount(amount))),
     ]),

@@ -9,6 +9,7 @@ import { size } from './model.js';
  */
 
 export const STAYS = '(stays)', MISSING = '(missing)', THROUGH = '(through)';
+export const KEPT = '(kept)';
 
 // This function returns what rows of an answer, as pairs of a key and a value, tell of keys;
 // undefined for a key that they don't. A key that stands several times, as that of routes of one

@@ -13,6 +13,8 @@ from .words import line_of
 BYTE_ORDER_MARK = b"\xef\xbb\xbf"
 # What stands on the terminal where a plan doesn't have a route or a pair, or where there is none.
 NONE = "-"
+# The figures that are left out if they are 0 in all plans.
+RARE = ("stays", "missing", "cost of what is missing", "cost of what is kept")
 # What plans don't do alike if they can't be compared by their costs, by whether they are flows.
 DIFFERING = {True: "deliver the same at each place", False: "have each thing as often"}
 
@@ -133,8 +135,8 @@ def has_mark(name):
 
 
 def figures_of(plans):
-    """The figures of plans: names with a number for each, None if there is no plan. What stays and
-    what is missing is among them if it isn't 0 for all."""
+    """The figures of plans: names with a number for each, None if there is no plan. What stays, is
+    missing or is kept is among them if it isn't 0 for all."""
     totals = [("cost", [plan.cost for plan in plans])]
     if plans[0].is_flow:
         totals += [
@@ -146,10 +148,11 @@ def figures_of(plans):
             )
         ]
         totals.append(("cost of what is missing", [plan.penalties for plan in plans]))
+        totals.append(("cost of what is kept", [plan.keeping for plan in plans]))
     names = dict.fromkeys(name for plan in plans for name in plan.counts)
     totals += [(name, [plan.counts.get(name) for plan in plans]) for name in names]
     for name, numbers in totals:
-        if any(numbers) or name not in ("stays", "missing", "cost of what is missing"):
+        if any(numbers) or name not in RARE:
             exist = [plan.cost is not None for plan in plans]
             yield name, [one if exists else None for one, exists in zip(numbers, exist)]
 

@@ -10,7 +10,7 @@ from .competitions import competitions_of
 from .faults import bad_table
 from .figures import said
 from .periods import problem_of
-from .problem import NO_OPTIONS, Plan
+from .problem import KEPT, NO_OPTIONS, Plan
 from .report import balance_sentence, bottleneck_sentence
 from .roster import Roster
 from .words import TOLD_NAMES, listed
@@ -37,20 +37,17 @@ def name_text(key):
 
 class Folder:
     """The plan of a folder, from its answer: its cost, or why there is none; what each route
-    carries, or each chosen pair; what stays and what is missing at places, and what it costs that
-    something is missing; how many there are of what; and the SHA-256 of the answer."""
+    carries and each place keeps, or each chosen pair; what stays and what is missing at places, and
+    what it costs that something is missing or kept; how many there are of what; and the SHA-256 of
+    the answer."""
 
     def __init__(self, name):
         try:
             answer = Answer((pathlib.Path(name) / "answer.csv").read_bytes())
             self.mark, self.stays, self.missing, self.delivered = answer.shown_mark, {}, {}, {}
             self.counts, self.sha256 = {}, sha256_of(answer.data)
-            self.is_flow, self.cost, self.parts, self.penalties = (
-                not answer.rows["persons"],
-                None,
-                [],
-                0,
-            )
+            self.is_flow, self.cost, self.parts = not answer.rows["persons"], None, []
+            self.penalties = self.keeping = 0
             (self.read_flow if self.is_flow else self.read_pairs)(answer)
         except OSError as error:
             raise bad_table(f"{name}: this is no folder of a plan: answer.csv: {error.strerror}")
@@ -77,6 +74,11 @@ class Folder:
             (*problem.ends(route), result.carries)
             for route, result in zip(problem.routes, plan.routes)
         ]
+        self.parts += [
+            (problem.places[store.tail - 1].label, KEPT, result.carries)
+            for store, result in zip(problem.stores, plan.stores)
+        ]
+        self.keeping = sum(result.cost or 0 for result in plan.stores)
         self.stays, self.missing = (
             {place.label: amount for place, amount in plan.unmet(is_supply)}
             for is_supply in (True, False)

@@ -11,7 +11,7 @@ SPOT_HEADS = ("x", "y")
 ENDS = ("from", "to")
 BOUND_HEADS = ("least", "most", "cost")
 NO = ("", "no", "n", "0", "false", "nein")
-STAYS, MISSING, THROUGH = "(stays)", "(missing)", "(through)"
+STAYS, MISSING, THROUGH, KEPT = "(stays)", "(missing)", "(through)", "(kept)"
 # The options of a plan that is read again.
 NO_OPTIONS = argparse.Namespace(unused=False, short=False, penalty=None, ranges=False)
 

@@ -5,6 +5,9 @@ import re
 from support import PLACES, PLANS, ROUTES, WithFolder, run
 from test_diff import DECIMAL_PLACES, DECIMAL_ROUTES
 
+STOCK = "name,period,supply,keep most,keep cost\nMill,Mo,5,,\nHub,,,9,1\nWien,Tu,-5,,\n"
+LEAD = "from,to,most,cost,lead\nMill,Hub,,4,\nHub,Wien,,4,\nMill,Wien,,12,1\n"
+
 
 class Compare(WithFolder):
     """`mcf_plan compare`."""
@@ -116,6 +119,19 @@ class Compare(WithFolder):
         (self.folder / "b").mkdir()
         plans = [self.made(f"{name}/plan", PLACES, ROUTES) for name in "ab"]
         self.assertIn(f"  {plans[0]}  {plans[1]}\n", run("compare", *plans)[1])
+
+    def test_what_places_keep(self):
+        plans = [self.made("much", STOCK, LEAD), self.made("less", STOCK.replace("9", "2"), LEAD)]
+        run("compare", *plans, "-o", self.folder / "c")
+        self.assertEqual(
+            (self.folder / "c/compare.csv").read_text(encoding="utf-8"),
+            "figure,from,to,much,less\ncost,,,45,54\ndelivered,,,5,5\n"
+            "cost of what is kept,,,5,2\nroutes,,,5,5\nroutes that carry something,,,2,3\n"
+            "full routes,,,0,0\ncarries,Mill (Mo),Hub (Mo),5,2\ncarries,Mill (Tu),Hub (Tu),0,0\n"
+            "carries,Hub (Mo),Wien (Mo),0,0\ncarries,Hub (Tu),Wien (Tu),5,2\n"
+            "carries,Mill (Mo),Wien (Tu),0,3\ncarries,Hub (Mo),(kept),5,2\n",
+        )
+        self.assertIn("\n  Hub (Mo) -> (kept): 5, now 2 (-3)\n", run("diff", *plans)[1])
 
     def test_pairs(self):
         plans = []
