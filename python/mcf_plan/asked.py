@@ -6,7 +6,7 @@ import os
 import pathlib
 import shlex
 
-from .faults import bad_table
+from .faults import Stop, bad_table
 from .words import line_of
 
 NAME, FORMAT = "asked.json", 1
@@ -69,6 +69,15 @@ def read(name):
     except (AttributeError, LookupError, RecursionError, TypeError, ValueError):
         pass
     raise bad_table(f"{name}: its {NAME} isn't as this version writes it: make the plan again")
+
+
+def answer_sha256_of(name):
+    """The SHA-256 of the answer of the run that made the plan of a folder, or None if that isn't
+    known."""
+    try:
+        return read(name).answer_sha256
+    except Stop:
+        return None
 
 
 def options_text(asked):

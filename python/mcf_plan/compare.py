@@ -3,7 +3,7 @@ import csv
 import os
 
 from . import comparepage
-from .diff import TOLD, Folder, by_name, name_text
+from .diff import CHANGED, TOLD, Folder, by_name, name_text
 from .faults import bad_table
 from .figures import figure
 from .folder import COMPARISON, results_in
@@ -56,8 +56,10 @@ class Comparison:
         return sorted(found, key=lambda row: (-self.difference(row[1]), row[0]))
 
     def notes(self):
-        """Lines on plans that don't exist, and on plans that deliver different amounts."""
-        lines = [
+        """Lines on plans that were changed, or don't exist, or deliver different amounts."""
+        pairs = zip(self.labels, self.plans)
+        lines = [f"{label}: {CHANGED}" for label, plan in pairs if plan.is_changed]
+        lines += [
             f"{label}: no plan exists: {' '.join(plan.why_not)}"
             for label, plan in zip(self.labels, self.plans)
             if plan.cost is None

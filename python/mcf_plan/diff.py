@@ -4,7 +4,7 @@ import csv
 import pathlib
 
 from .answer import Answer
-from .asked import sha256_of
+from .asked import answer_sha256_of, sha256_of
 from .bottlenecks import bottlenecks_of
 from .competitions import competitions_of
 from .faults import bad_table
@@ -15,6 +15,11 @@ from .report import balance_sentence, bottleneck_sentence
 from .roster import Roster
 from .words import TOLD_NAMES, listed
 
+# What is told of a plan whose answer isn't that of its run.
+CHANGED = (
+    "Its answer.csv has changed since the run, so nothing of it is proved: mcf_plan verify says"
+    " what differs."
+)
 # The most lines of a kind to print, unless the options ask for all.
 TOLD = 20
 
@@ -38,14 +43,15 @@ def name_text(key):
 class Folder:
     """The plan of a folder, from its answer: its cost, or why there is none; what each route
     carries and each place keeps, or each chosen pair; what stays and what is missing at places, and
-    what it costs that something is missing or kept; how many there are of what; and the SHA-256 of
-    the answer."""
+    what it costs that something is missing or kept; how many there are of what; the SHA-256 of the
+    answer, and whether it is another one than that of the run."""
 
     def __init__(self, name):
         try:
             answer = Answer((pathlib.Path(name) / "answer.csv").read_bytes())
             self.mark, self.stays, self.missing, self.delivered = answer.shown_mark, {}, {}, {}
             self.counts, self.sha256 = {}, sha256_of(answer.data)
+            self.is_changed = answer_sha256_of(name) not in (None, self.sha256)
             self.is_flow, self.cost, self.parts = not answer.rows["persons"], None, []
             self.penalties = self.keeping = 0
             (self.read_flow if self.is_flow else self.read_pairs)(answer)
@@ -169,9 +175,10 @@ class Comparison:
 
     def plan_lines(self, word, plan):
         """Lines on the cost of a plan, what stays and what is missing, or on why there is none."""
+        changed = [f"  {CHANGED}"] if plan.is_changed else []
         if plan.cost is None:
-            return [f"{word}: no plan exists: {' '.join(plan.why_not)}"]
-        lines = [f"{word}: cost {self.text(plan.cost)}"]
+            return [f"{word}: no plan exists: {' '.join(plan.why_not)}", *changed]
+        lines = [f"{word}: cost {self.text(plan.cost)}", *changed]
         for side, words, none in (
             ("stays", "stay at", "Nothing stays."),
             ("missing", "are missing at", "Nothing is missing."),

@@ -120,6 +120,21 @@ class Compare(WithFolder):
         plans = [self.made(f"{name}/plan", PLACES, ROUTES) for name in "ab"]
         self.assertIn(f"  {plans[0]}  {plans[1]}\n", run("compare", *plans)[1])
 
+    def test_an_answer_that_was_changed(self):
+        one, other = (self.made(name, PLACES, ROUTES) for name in ("one", "other"))
+        text = (other / "answer.csv").read_text(encoding="utf-8")
+        changed = text.replace('"cost","171"', '"cost","17"')
+        (other / "answer.csv").write_text(changed, encoding="utf-8")
+        told = (
+            "ts answer.csv has changed since the run, so nothing of it is proved: mcf_plan verify"
+        )
+        self.assertIn(f"\nother: I{told}", run("compare", one, other)[1])
+        said = run("diff", one, other)[1]
+        self.assertIn(f"\nnew: cost 17\n  I{told}", said)
+        self.assertEqual(said.count("has changed"), 1)
+        (other / "asked.json").unlink()
+        self.assertNotIn("has changed", run("compare", one, other)[1])
+
     def test_what_places_keep(self):
         plans = [self.made("much", STOCK, LEAD), self.made("less", STOCK.replace("9", "2"), LEAD)]
         run("compare", *plans, "-o", self.folder / "c")
