@@ -225,7 +225,7 @@ def wish_lines(table, count, needs):
 
 def prepared_lines(tables):
     """The notes of tables on what was changed before they were read."""
-    return [line for table in tables if table for line in table.changes]
+    return [line for table in tables if table for line in table.notes + table.changes]
 
 
 def supply_lines(problem):

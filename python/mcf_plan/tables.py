@@ -49,13 +49,13 @@ class Table:
     by their lines and places, `width` the number of its columns; `sha256` is that of its file, once
     it was read. If an answer reads it as a matrix of costs, `matrix` has the heads of that, and
     `columns` the places of those that stand once; if as a sheet of wishes, `matrix` has the heads
-    of that, and `places` those of its own columns, by their places in the list. `changes` say what
-    the answer changed."""
+    of that, and `places` those of its own columns, by their places in the list. `notes` say how the
+    table was found, and `changes` what the answer changed in it."""
 
     def __init__(self, name, text, has_mark=False, book=None, figures=None):
         self.name, self.has_mark, self.book, self.figures = name, has_mark, book, figures or {}
         self.width, self.matrix, self.columns, self.places = None, [], {}, {}
-        self.changes = []
+        self.notes, self.changes = [], []
         self.text, self.own, self.sha256 = unicodedata.normalize("NFC", with_feeds(text)), {}, None
         if not self.text.strip(BLANKS):
             raise bad_table(

@@ -6,8 +6,8 @@
 //! It builds on `mcf_table`, `mcf_decimal` and `mcf_names`. The definitions are in `specs/`:
 //! `Cells` names cells and columns; `Totals` says what a row of totals is, and `Sums` which numbers
 //! add up; `Matrices` says which table is a matrix, and its routes; `Wishes` which one is a sheet
-//! of wishes, and its pairs, and `Ranks` which heads are those of wishes; `Filled` which cells take
-//! the one above them.
+//! of wishes, and its pairs, and `Ranks` which heads say a rank; `Filled` which cells take the one
+//! above them.
 
 mod cells;
 mod columns;

@@ -279,11 +279,11 @@ fn rows_from(alloc: Global, records: &Records, first: usize) -> Result<Records, 
 /// or more whose heads say the ranks 1, 2 and so on, in their order: as a number of one or two
 /// digits, perhaps with a point, st, nd, rd or th, or as a word from first to fifth, or in German
 /// from erst to fünft, perhaps with e or er; each perhaps with the word wish, choice, Wunsch or
-/// Wahl in front of it or behind it. A cell of such a column is a wish unless it is empty or a dash;
-/// fewer wishes are numbers than names, where x is neither. The list has the columns who, what and
-/// cost, and then all others of the sheet. Each wish is a pair that costs its rank, and has the line
-/// of its row; a person who wishes nothing can't have the first thing that the sheet names. In a
-/// column needs, the first cell that isn't empty stands for those that are.
+/// Wahl in front of it or behind it. A cell of such a column is a wish unless it is empty or a
+/// dash; fewer wishes are numbers than names, where x is neither. The list has the columns who,
+/// what and cost, and then all others of the sheet. Each wish is a pair that costs its rank, and
+/// has the line of its row; a person who wishes nothing can't have the first thing that the sheet
+/// names. In a column needs, the first cell that isn't empty stands for those that are.
 ///
 /// # Errors
 ///

@@ -126,8 +126,8 @@ table_rows options costs rows (Choice answer) =
 abbrev pub both_broken : BrokenTexts → List (List (List ℕ))
 both_broken broken = faulty.broken_rows costs_word broken.costs ++ faulty.broken_rows faulty.groups_word broken.groups
 
--- what was done to two tables: to that of persons and things, and the columns of the other that were
--- filled down
+-- what was done to two tables: to that of persons and things, and the columns of the other that
+-- were filled down
 abbrev pub both_done : SaidGroups → List (List (List ℕ))
 both_done said = done_rows said.costs said.done ++ map (filled_row faulty.groups_word said.groups) said.filled.items
 
