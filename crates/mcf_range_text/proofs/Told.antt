@@ -6,6 +6,7 @@ use Rattle.std.proofs.lemmas.List.{drop_all, length-append}
 use Rattle.mcf_answer_rows.proofs.RowTexts.{rows_are_table, rows_text_append}
 use Rattle.mcf_answer_rows.specs.Lines.{rows_text}
 use Rattle.mcf_answer_rows.specs.declared.texts.PlanText.{PlanText}
+use Rattle.mcf_flow_tables.specs.PeriodTableAnswers.{IsPeriodTableAnswer}
 use Rattle.mcf_flow_tables.specs.TableAnswers.{FlowBytes, IsFlowAnswer, IsProblemAnswer, IsTableAnswer}
 use Rattle.mcf_flow_tables.specs.declared.answering.ProblemAnswer.{ProblemAnswer}
 use Rattle.mcf_flow_tables.specs.declared.answering.ProblemAnswer.TheVariants.{TooGreat, Improper, Solved}
@@ -14,13 +15,16 @@ use Rattle.mcf_flow_tables.specs.declared.answering.TableAnswer.TheVariants.{Fau
 use Rattle.mcf_flow_tables.specs.declared.flow_answer.FlowAnswer.{FlowAnswer}
 use Rattle.mcf_flow_tables.specs.declared.flow_answer.FlowAnswer.TheVariants.{NoColumns, NoTables, Tables}
 use Rattle.mcf_flow_tables.specs.declared.options.Options.{Options}
+use Rattle.mcf_flow_tables.specs.declared.period_answer.PeriodAnswer.{PeriodAnswer}
+use Rattle.mcf_flow_tables.specs.declared.period_answer.PeriodAnswer.TheVariants as period
 use Rattle.mcf_places.specs.declared.answering.LeastPlannerPlan.{LeastPlannerPlan}
 use Rattle.mcf_places.specs.Planners.{Planner, row_count}
 use Rattle.mcf_places.specs.Planning.{plan_in}
 use Rattle.mcf_plan_ranges.specs.PlanRanges.{AreWithinLimits}
 use Rattle.mcf_plan_text.specs.PlanTexts.{answer_kind, answer_rows}
 use Rattle.mcf_planner_ranges.specs.PlannerRanges.{IsPlannerRange}
-use Rattle.mcf_range_text.specs.Private.Solved.{IsSolvedAnswer, IsSolvedProblem, IsSolvedTable, IsToldWithRanges}
+use Rattle.mcf_range_text.specs.PeriodRangeTexts.{AreRouteRanges, IsRouteRange}
+use Rattle.mcf_range_text.specs.Private.Solved.{IsSolvedAnswer, IsSolvedPeriods, IsSolvedProblem, IsSolvedTable, IsToldWithRanges}
 use Rattle.mcf_range_text.specs.RangeTexts.{AreRanges, AreRowRanges, IsRangedText, IsRowRange, has_way_back, range_rows, told_rows}
 use Rattle.mcf_ranges.specs.declared.range.CostRange.{CostRange}
 use Rattle.mcf_reading.specs.Reading.{Entries}
@@ -35,32 +39,29 @@ solved_problem said terms (TooGreat faults) h = tt
 solved_problem said terms (Improper faults) h = tt
 solved_problem said terms (Solved s) h = h.5
 
+solved_periods : (places routes : List Record) (options : Options) (answer : PeriodAnswer) → IsPeriodTableAnswer places routes options answer → IsSolvedPeriods answer
+solved_periods places routes options (period.Faults faults) h = tt
+solved_periods places routes options (period.TooGreat faults) h = tt
+solved_periods places routes options (period.Improper made) h = tt
+solved_periods places routes options (period.Solved s) h = h.4.6
+
 solved_table : (places routes : List Record) (options : Options) (answer : TableAnswer) → IsTableAnswer places routes options answer → IsSolvedTable answer
 solved_table places routes options (Faults faults) h = tt
 solved_table places routes options (Problem answer) h = solved_problem h.1 options.terms answer h.3
-solved_table places routes options (Periods answer) h = tt
+solved_table places routes options (Periods answer) h = solved_periods places routes options answer h.1
 
 pub solved_answer : (texts : FlowBytes) (options : Options) (answer : FlowAnswer) → IsFlowAnswer texts options answer → IsSolvedAnswer answer
 solved_answer texts options (NoTables broken) h = tt
 solved_answer texts options (NoColumns numbers) h = tt
 solved_answer texts options (Tables said) h = solved_table said.places said.routes options said.answer h.answers.1.answers
 
--- ---- what is told of a row
+-- ---- what is told of the first ones
 
-module _ (P : Planner) (p : LeastPlannerPlan) where
-  pub returning : (row : ℕ) → has_way_back P row ≡ true → IsRowRange P p row None
-  returning row h = record { exact = tt; none = inl h }
-
-  pub row_told : {E : Type 0} (result : Result (Option CostRange) E) (row : ℕ) → IfOk result (λ told. IfSome told (IsPlannerRange P (plan_in p.plan) row))
-      → IfOk result (λ told. IfNone told (¬ AreWithinLimits p.shown.model p.shown.prices.items p.shown.carries.items)) → IfOk result (IsRowRange P p row)
-  row_told (Ok (Some range)) row exact none = record { exact = exact; none = tt }
-  row_told (Ok None) row exact none = record { exact = tt; none = inr none }
-  row_told (Err e) row exact none = tt
-
-  -- the ranges of the first rows
+module _ (Tells : ℕ → Option CostRange → Type 0) where
+  -- the ranges of the first ones, of which each has a number, from 1
   pub record AreFirst (count : ℕ) (ranges : List (Option CostRange)) : Type 0 where
     pub long : length ranges ≡ count
-    pub each : (place : ℕ) → place < count → IsRowRange P p (suc place) (get_or ranges place None)
+    pub each : (place : ℕ) → place < count → Tells (suc place) (get_or ranges place None)
 
   pub none_told : AreFirst 0 []
   none_told = record { long = refl; each = λ place h. absurd (omega (arith, h)) }
@@ -77,7 +78,7 @@ module _ (P : Planner) (p : LeastPlannerPlan) where
   before_last (y ∷ xs) x (suc i) h = before_last xs x i (omega arith)
 
   pub one_told : (count : ℕ) (ranges after : List (Option CostRange)) (told : Option CostRange) → AreFirst count ranges → after ≡ ranges ++ told ∷ []
-      → IsRowRange P p (count + 1) told → AreFirst (count + 1) after
+      → Tells (count + 1) told → AreFirst (count + 1) after
   one_told count ranges after told first e is =
       let long = first.long in
       subst (AreFirst (count + 1)) (sym e) (record {
@@ -85,20 +86,45 @@ module _ (P : Planner) (p : LeastPlannerPlan) where
         each = λ place h. go place h (cases_eq place count);
       })
     where
-      go : (place : ℕ) → place < count + 1 → (place ≡ count) ⊎ (place ≢ count) → IsRowRange P p (suc place) (get_or (ranges ++ told ∷ []) place None)
+      go : (place : ℕ) → place < count + 1 → (place ≡ count) ⊎ (place ≢ count) → Tells (suc place) (get_or (ranges ++ told ∷ []) place None)
       go place h (inr other) =
           let l : place < count = omega (arith, h, other) in
-          subst (IsRowRange P p (suc place)) (sym (before_last ranges told place (omega (arith, l, first.long)))) (first.each place l)
+          subst (Tells (suc place)) (sym (before_last ranges told place (omega (arith, l, first.long)))) (first.each place l)
       go place h (inl e) =
           let row : suc place ≡ count + 1 = omega (arith, e) in
-          subst (λ r. IsRowRange P p r (get_or (ranges ++ told ∷ []) place None)) (sym row)
-          (subst (IsRowRange P p (count + 1)) (sym (last_of ranges told place (first.long ∙ sym e))) is)
+          subst (λ r. Tells r (get_or (ranges ++ told ∷ []) place None)) (sym row)
+          (subst (Tells (count + 1)) (sym (last_of ranges told place (first.long ∙ sym e))) is)
 
-  pub all_told : (count : ℕ) (ranges : List (Option CostRange)) (place : ℕ) → AreFirst place ranges → count ≡ row_count P → place ≡ count → AreRowRanges P p ranges
+-- ---- what is told of rows and of routes
+
+module _ (P : Planner) (p : LeastPlannerPlan) where
+  pub returning : (row : ℕ) → has_way_back P row ≡ true → IsRowRange P p row None
+  returning row h = record { exact = tt; none = inl h }
+
+  pub row_told : {E : Type 0} (result : Result (Option CostRange) E) (row : ℕ) → IfOk result (λ told. IfSome told (IsPlannerRange P (plan_in p.plan) row))
+      → IfOk result (λ told. IfNone told (¬ AreWithinLimits p.shown.model p.shown.prices.items p.shown.carries.items)) → IfOk result (IsRowRange P p row)
+  row_told (Ok (Some range)) row exact none = record { exact = exact; none = tt }
+  row_told (Ok None) row exact none = record { exact = tt; none = inr none }
+  row_told (Err e) row exact none = tt
+
+  pub route_told : {E : Type 0} (result : Result (Option CostRange) E) (k : ℕ) → IfOk result (λ told. IfSome told (IsPlannerRange P (plan_in p.plan) k))
+      → IfOk result (λ told. IfNone told (¬ AreWithinLimits p.shown.model p.shown.prices.items p.shown.carries.items)) → IfOk result (IsRouteRange P p k)
+  route_told (Ok told) k exact none = record { exact = exact; none = none }
+  route_told (Err e) k exact none = tt
+
+  pub all_told : (count : ℕ) (ranges : List (Option CostRange)) (place : ℕ) → AreFirst (IsRowRange P p) place ranges → count ≡ row_count P → place ≡ count
+      → AreRowRanges P p ranges
   all_told count ranges place first e f =
       let g : place ≡ row_count P = f ∙ e in
-      let all = subst (λ n. AreFirst n ranges) g first in
+      let all = subst (λ n. AreFirst (IsRowRange P p) n ranges) g first in
       record { by_row = all.long; each = all.each }
+
+  pub all_routes_told : (count : ℕ) (ranges : List (Option CostRange)) (place : ℕ) → AreFirst (IsRouteRange P p) place ranges → count ≡ length P.routes
+      → place ≡ count → AreRouteRanges P p ranges
+  all_routes_told count ranges place first e f =
+      let g : place ≡ length P.routes = f ∙ e in
+      let all = subst (λ n. AreFirst (IsRouteRange P p) n ranges) g first in
+      record { by_route = all.long; each = all.each }
 
 -- ---- rows
 

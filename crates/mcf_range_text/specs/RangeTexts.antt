@@ -20,12 +20,14 @@ use Rattle.mcf_places.specs.Planners.{Planner, row_count}
 use Rattle.mcf_places.specs.Planning.{plan_in}
 use Rattle.mcf_plan_ranges.specs.PlanRanges.{AreWithinLimits}
 use Rattle.mcf_plan_rows.specs.Cells.{rate_text, text_if}
-use Rattle.mcf_plan_text.specs.PlanTexts.{IsPlanText, answer_kind, answer_rows}
+use Rattle.mcf_plan_rows.specs.FaultRows.{TwoTables}
+use Rattle.mcf_plan_text.specs.PlanTexts.{IsPlanText, answer_kind, answer_rows, said_tables}
 use Rattle.mcf_planner_ranges.specs.PlannerRanges.{IsPlannerRange}
 use Rattle.mcf_ranges.specs.declared.range.CostRange.{CostRange}
 use Rattle.mcf_table.specs.Texts.{Record}
 use Rattle.mcf_table.specs.Written.{table_text}
 use Rattle.mcf_units.specs.declared.scales.Scales.{Scales}
+use Rattle.mcf_range_text.specs.PeriodRangeTexts.{ArePeriodRanges, period_range_rows}
 
 -- ---- ranges
 
@@ -56,11 +58,11 @@ AreProblemRanges (TooGreat faults) ranges = ranges ≡ []
 AreProblemRanges (Improper faults) ranges = ranges ≡ []
 AreProblemRanges (Solved s) ranges = AreSolvedRanges s.planner s.answer ranges
 
--- of the answer to the rows of two tables; nothing is told over periods
+-- of the answer to the rows of two tables; over periods, of each store and each departure
 abbrev pub AreTableRanges : TableAnswer → List (Option CostRange) → Type 0
 AreTableRanges (Faults faults) ranges = ranges ≡ []
 AreTableRanges (Problem answer) ranges = AreProblemRanges answer ranges
-AreTableRanges (Periods answer) ranges = ranges ≡ []
+AreTableRanges (Periods answer) ranges = ArePeriodRanges answer ranges
 
 -- of the answer to two texts
 abbrev pub AreRanges : FlowAnswer → List (Option CostRange) → Type 0
@@ -90,21 +92,21 @@ problem_range_rows routes (Improper faults) ranges = []
 problem_range_rows routes (Solved s) ranges = told_rows s.scales routes 1 ranges
 
 -- of the answer to the rows of two tables
-abbrev pub table_range_rows : List Record → TableAnswer → List (Option CostRange) → List (List (List ℕ))
-table_range_rows routes (Faults faults) ranges = []
-table_range_rows routes (Problem answer) ranges = problem_range_rows routes answer ranges
-table_range_rows routes (Periods answer) ranges = []
+abbrev pub table_range_rows : TwoTables → TableAnswer → List (Option CostRange) → List (List (List ℕ))
+table_range_rows two (Faults faults) ranges = []
+table_range_rows two (Problem answer) ranges = problem_range_rows two.routes answer ranges
+table_range_rows two (Periods answer) ranges = period_range_rows two answer ranges
 
 -- of the answer to two texts
 abbrev pub range_rows : FlowAnswer → List (Option CostRange) → List (List (List ℕ))
 range_rows (NoTables broken) ranges = []
 range_rows (NoColumns numbers) ranges = []
-range_rows (Tables said) ranges = table_range_rows said.routes said.answer ranges
+range_rows (Tables said) ranges = table_range_rows (said_tables said) said.answer ranges
 
 -- ---- the text
 
--- the text says an answer to two texts, and then the ranges of its routes: its rows, each cell
--- between quotes, with commas between them
+-- the text says an answer to two texts, and then the ranges of its routes, or of its departures and
+-- its stores: its rows, each cell between quotes, with commas between them
 pub record IsRangedText (texts : FlowBytes) (options : Options) (text : PlanText) : Type 0 where
   pub answer : FlowAnswer
   pub answers : IsFlowAnswer texts options answer

@@ -2,10 +2,13 @@
 ghost use Rattle.std.specs.Prelude.{◌≡◌, ◌∷◌, ◌++◌, [], IfOk, OnOk};
 ghost use Rattle.mcf_answer_rows.specs.Lines.{row_line, rows_text};
 ghost use Rattle.mcf_plan_rows.specs.Cells.{rate_text, text_if};
+ghost use Rattle.mcf_plan_rows.specs.FaultRows.{tables_in};
 ghost use Rattle.mcf_range_text.specs.RangeTexts.{problem_range_rows, range_row, range_rows, table_range_rows, told_rows};
 
+use crate::period_rows::put_period_ranges;
 use mcf_answer_rows::{cell_under, decimal_cell, line_cell, put_line};
 use mcf_flow_tables::{FlowAnswer, ProblemAnswer, TableAnswer};
+use mcf_plan_rows::Two;
 use mcf_planner_ranges::CostRange;
 use mcf_table::Records;
 use mcf_text::NoMemory;
@@ -13,7 +16,11 @@ use mcf_units::Scales;
 use std::alloc::Global;
 
 // Returns an end of a range as a cell, which is empty without a limit.
-fn end_cell(alloc: Global, scales: Scales, end: Option<i128>) -> Result<Vec<u8>, NoMemory>
+pub(crate) fn end_cell(
+    alloc: Global,
+    scales: Scales,
+    end: Option<i128>,
+) -> Result<Vec<u8>, NoMemory>
     ensures { IfOk result (λ made. made.items ≡ text_if (rate_text scales) end) }
 {
     match end {
@@ -94,16 +101,16 @@ fn put_problem_ranges(
 fn put_table_ranges(
     alloc: Global,
     out: &mut Vec<u8>,
-    routes: &Records,
+    two: Two<'_>,
     answer: &TableAnswer,
     ranges: &[Option<CostRange>],
 ) -> Result<(), NoMemory>
-    ensures { OnOk result (out.new.items ≡ out.old.items ++ rows_text (table_range_rows routes.now answer.now ranges.now)) }
+    ensures { OnOk result (out.new.items ≡ out.old.items ++ rows_text (table_range_rows (tables_in two.entry) answer.now ranges.now)) }
 {
     match answer {
         TableAnswer::Faults(_) => Ok(()),
-        TableAnswer::Problem(answer) => put_problem_ranges(alloc, out, routes, answer, ranges),
-        TableAnswer::Periods(_) => Ok(()),
+        TableAnswer::Problem(answer) => put_problem_ranges(alloc, out, two.routes, answer, ranges),
+        TableAnswer::Periods(answer) => put_period_ranges(alloc, out, two, answer, ranges),
     }
 }
 
@@ -122,7 +129,11 @@ pub(crate) fn put_ranges(
 {
     match answer {
         FlowAnswer::Tables(said) => {
-            put_table_ranges(alloc, out, &said.routes, &said.answer, ranges)
+            let two = Two {
+                places: &said.places,
+                routes: &said.routes,
+            };
+            put_table_ranges(alloc, out, two, &said.answer, ranges)
         }
         _ => Ok(()),
     }

@@ -46,9 +46,16 @@ fn ranged_text<S: Solves>(
 /// is told: `range`, its line, its ends, and by how much the cost of each unit on it may fall and
 /// may rise while the plan stays least, if all other costs stay as they are; a cell is empty
 /// without a limit. All steps of a route change by the same, and so do both directions of a route
-/// both ways, of which no cost may fall below 0. There is no row over periods, nor for a route
-/// both ways that has bounds at one of its ends, nor for any route if a number is beyond the limits
-/// of `planner_cost_range`. It then searches the network twice for each route.
+/// both ways, of which no cost may fall below 0. There is no row for a route both ways that has
+/// bounds at one of its ends, nor for any route if a number is beyond the limits of
+/// `planner_cost_range`. It then searches the network twice for each route.
+///
+/// Over periods, there is such a row for each departure, with the place that it leaves from and the
+/// one that it arrives at, and at its end the periods in which it leaves and arrives: the cost of
+/// this departure alone changes, in this direction and period. After them comes a row for each
+/// place and period after which the place may keep something: `keep range`, the line and the name
+/// of the place, by how much the cost of each unit that is kept may fall and may rise, that period,
+/// and the next one.
 ///
 /// # Errors
 ///

@@ -8,6 +8,8 @@ use Rattle.mcf_flow_tables.specs.declared.answering.TableAnswer.{TableAnswer}
 use Rattle.mcf_flow_tables.specs.declared.answering.TableAnswer.TheVariants.{Faults, Periods, Problem}
 use Rattle.mcf_flow_tables.specs.declared.flow_answer.FlowAnswer.{FlowAnswer}
 use Rattle.mcf_flow_tables.specs.declared.flow_answer.FlowAnswer.TheVariants.{NoColumns, NoTables, Tables}
+use Rattle.mcf_flow_tables.specs.declared.period_answer.PeriodAnswer.{PeriodAnswer}
+use Rattle.mcf_flow_tables.specs.declared.period_answer.PeriodAnswer.TheVariants as period
 use Rattle.mcf_places.specs.Answers.{IsPlannerAnswer}
 use Rattle.mcf_plan_text.specs.PlanTexts.{answer_kind, answer_rows}
 use Rattle.mcf_range_text.specs.RangeTexts.{AreRanges, range_rows}
@@ -19,11 +21,18 @@ IsSolvedProblem (TooGreat faults) = Unit {0}
 IsSolvedProblem (Improper faults) = Unit {0}
 IsSolvedProblem (Solved s) = IsPlannerAnswer s.planner s.answer
 
+-- the answer to two tables over periods
+abbrev pub IsSolvedPeriods : PeriodAnswer → Type 0
+IsSolvedPeriods (period.Faults faults) = Unit {0}
+IsSolvedPeriods (period.TooGreat faults) = Unit {0}
+IsSolvedPeriods (period.Improper improper) = Unit {0}
+IsSolvedPeriods (period.Solved s) = IsPlannerAnswer s.planner s.answer
+
 -- the answer to the rows of two tables
 abbrev pub IsSolvedTable : TableAnswer → Type 0
 IsSolvedTable (Faults faults) = Unit {0}
 IsSolvedTable (Problem answer) = IsSolvedProblem answer
-IsSolvedTable (Periods answer) = Unit {0}
+IsSolvedTable (Periods answer) = IsSolvedPeriods answer
 
 -- the answer to two texts
 abbrev pub IsSolvedAnswer : FlowAnswer → Type 0

@@ -1,0 +1,8 @@
+use Rattle.mcf_range_text.specs.PeriodRangeTexts.{IsRouteRange}
+use Rattle.mcf_range_text.proofs.Told.{one_told}
+use Rattle.mcf_range_text.proofs.ranges.route_ranges.Goals as goal
+
+pub loop-place-preserved : goal.loop-place-preserved
+loop-place-preserved c =
+    one_told (IsRouteRange c.args.planner.now c.args.least.now) c.loop-place.place c.loop-place.made.items c.push.new.self.items c.in_ok-told.told
+    c.loop-place.invariant c.in_ok-push.ensures.items c.in_ok-told.ensures
