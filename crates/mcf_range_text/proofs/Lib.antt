@@ -1,1 +1,3 @@
 mod Told
+mod DearerPeriods
+mod PeriodRangeLaws

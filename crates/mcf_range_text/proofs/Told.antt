@@ -43,7 +43,7 @@ solved_periods : (places routes : List Record) (options : Options) (answer : Per
 solved_periods places routes options (period.Faults faults) h = tt
 solved_periods places routes options (period.TooGreat faults) h = tt
 solved_periods places routes options (period.Improper made) h = tt
-solved_periods places routes options (period.Solved s) h = h.4.6
+solved_periods places routes options (period.Solved s) h = h.answers.solved.6
 
 solved_table : (places routes : List Record) (options : Options) (answer : TableAnswer) → IsTableAnswer places routes options answer → IsSolvedTable answer
 solved_table places routes options (Faults faults) h = tt

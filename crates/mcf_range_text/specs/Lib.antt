@@ -2,6 +2,11 @@ pub use Rattle.mcf_plan_text.specs.PlanTexts
 pub use Rattle.mcf_planner_ranges.specs.PlannerRanges
 pub use Rattle.mcf_period_text.specs.PeriodAnswerRows
 pub use Rattle.mcf_period_text.specs.TimedTables
+pub use Rattle.mcf_periods.specs.Flat
+pub use Rattle.mcf_periods.specs.PeriodAnswers
+pub use Rattle.mcf_periods.specs.PeriodLaws
+pub use Rattle.mcf_periods.specs.Periods
 pub mod PeriodRangeTexts
+pub mod PeriodRanges
 pub mod RangeTexts
 pub mod Private
