@@ -143,15 +143,30 @@ const ROUTES: &[u8] = b"from,to,most,cost\nMill,Graz,2,1.5\nMill,Graz,,4\n";
 const RANGE_ROWS: &[u8] =
     b"\n\"range\",\"2\",\"Mill\",\"Graz\",\"\",\"2.5\"\n\"range\",\"3\",\"Mill\",\"Graz\",\"2.5\",\"\"\n";
 
-#[test]
-fn texts_end_with_ranges(rt: HostRuntime) -> Result<(), Fail> {
+// A mill gives all in January, and a shop wants some in each of the next months; the route, used
+// both ways, takes a month, and is full in February. A unit that left in January instead would
+// save 0.5 for being kept at the mill, and cost 2 for being kept at the shop.
+const MONTHLY_PLACES: &[u8] = b"name,supply,period,keep most,keep cost\n\
+Mill,10,Jan,,0.5\n\
+Shop,-3,Feb,5,2\n\
+Shop,-7,March,,\n";
+
+const MONTHLY_ROUTES: &[u8] = b"from,to,most,cost,both,lead\nMill,Shop,6,2,yes,1\n";
+
+const MONTHLY_RANGES: &[u8] = b"\n\
+\"range\",\"2\",\"Mill\",\"Shop\",\"1.5\",\"\",\"Jan\",\"Feb\"\n\
+\"range\",\"2\",\"Shop\",\"Mill\",\"\",\"\",\"Jan\",\"Feb\"\n\
+\"range\",\"2\",\"Mill\",\"Shop\",\"\",\"1.5\",\"Feb\",\"March\"\n\
+\"range\",\"2\",\"Shop\",\"Mill\",\"\",\"\",\"Feb\",\"March\"\n\
+\"keep range\",\"2\",\"Mill\",\"\",\"1.5\",\"Jan\",\"Feb\"\n\
+\"keep range\",\"3\",\"Shop\",\"1.5\",\"\",\"Feb\",\"March\"\n";
+
+// Returns whether the answer to two tables, with ranges, ends with these rows.
+fn ends_with(alloc: Global, places: &[u8], routes: &[u8], rows: &[u8]) -> Result<bool, NoMemory> {
     let mut engine = Engine {
         choice: Choice::default(),
     };
-    let texts = Texts {
-        places: PLACES,
-        routes: ROUTES,
-    };
+    let texts = Texts { places, routes };
     let options = Options {
         mark: None,
         terms: Terms {
@@ -160,7 +175,20 @@ fn texts_end_with_ranges(rt: HostRuntime) -> Result<(), Fail> {
             penalty: None,
         },
     };
-    let told = told_text(rt.alloc(), &mut engine, texts, options, true)?;
-    assert!(rt; told.text.ends_with(RANGE_ROWS));
+    let told = told_text(alloc, &mut engine, texts, options, true)?;
+    Ok(told.text.ends_with(rows))
+}
+
+#[test]
+fn texts_end_with_ranges(rt: HostRuntime) -> Result<(), Fail> {
+    let found = ends_with(rt.alloc(), PLACES, ROUTES, RANGE_ROWS)?;
+    assert!(rt; found);
+    Ok(())
+}
+
+#[test]
+fn texts_over_periods_end_with_ranges(rt: HostRuntime) -> Result<(), Fail> {
+    let found = ends_with(rt.alloc(), MONTHLY_PLACES, MONTHLY_ROUTES, MONTHLY_RANGES)?;
+    assert!(rt; found);
     Ok(())
 }
