@@ -27,10 +27,6 @@ export function markIn(text) {
   return thousands === mark ? null : mark || (thousands === '.' ? ',' : '.');
 }
 
-// This function says whether a cell is a number as people write it.
-/** @type {(cell: string) => boolean} */
-export const isNumber = (cell) => /[0-9]/.test(cell) && MARKED.test(plainMinus(cell));
-
 // This function returns the number that a text writes with a mark before its decimals: its sign,
 // its digits and that mark count, and all else only stands between thousands.
 /** @type {(text: string, mark?: string | null) => Exact} */

@@ -131,10 +131,8 @@ class Table:
         """Notes that an answer reads the table as a sheet of wishes, whose list it has: after the
         person, the thing and the cost stand the sheet's own columns, in their order."""
         self.matrix = self.fields(sheet.head_line)
-        heads = iter(enumerate(self.matrix))
-        own = [
-            next((k for k, head in heads if head == title), None) for title in sheet.titles[OWN:]
-        ]
+        heads, titles = iter(enumerate(self.matrix)), sheet.titles[OWN:]
+        own = [next((k for k, head in heads if head == title), None) for title in titles]
         self.places = dict(enumerate(own, OWN))
         sheet.narrow(self.width and OWN + sum(k is not None and k < self.width for k in own))
 

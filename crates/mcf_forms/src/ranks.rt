@@ -1,7 +1,7 @@
 //! Heads that say a rank.
-ghost use Rattle.std.specs.Prelude.{◌≡◌, ◌-◌, ◌<◌, length, map, take};
+ghost use Rattle.std.specs.Prelude.{◌≡◌, map};
 ghost use Rattle.std.specs.Str.{str_eq_ignore_ascii_case};
-ghost use Rattle.mcf_forms.specs.Ranks.{number_rank, rank_of, said_rank, without_back, without_front, without_words, word_rank};
+ghost use Rattle.mcf_forms.specs.Ranks.{number_rank, rank_of, without_back, without_front, without_words, word_rank};
 
 use crate::cells::is_word;
 use mcf_text::leading_digits;
