@@ -1,0 +1,6 @@
+mod UnitCosts
+mod Rooms
+mod OneWay
+mod SpanLaws
+mod Products
+mod FinerSpans
