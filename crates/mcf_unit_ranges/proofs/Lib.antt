@@ -1,6 +1,9 @@
+mod Products
 mod UnitCosts
 mod Rooms
 mod OneWay
 mod SpanLaws
-mod Products
 mod FinerSpans
+mod Supplies
+mod SpanPlans
+mod Holding

@@ -15,10 +15,10 @@ use Rattle.mcf_unit_ranges.proofs.OneWay.{drop, from_span, high, limited, low, m
 use Rattle.mcf_unit_ranges.proofs.Rooms.{IsAtMost, rooms_total}
 use Rattle.mcf_unit_ranges.proofs.UnitCosts.{at_least, fits_less, is_below, is_not_below, no_less_above}
 
-equal : (x y : ℤ) → x ≡ y → int_eq x y ≡ true
+pub equal : (x y : ℤ) → x ≡ y → int_eq x y ≡ true
 equal x y h = grind (arith, ints)
 
-not_equal : (x y : ℤ) → y <ℤ x → int_eq x y ≡ false
+pub not_equal : (x y : ℤ) → y <ℤ x → int_eq x y ≡ false
 not_equal x y h = grind (arith, ints)
 
 -- ---- no cost is below 0
