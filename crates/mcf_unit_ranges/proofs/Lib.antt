@@ -7,3 +7,4 @@ mod FinerSpans
 mod Supplies
 mod SpanPlans
 mod Holding
+mod Ranging

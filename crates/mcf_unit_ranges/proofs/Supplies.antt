@@ -63,7 +63,7 @@ module _ (m : Model) (u w : ℕ) (d : ℤ) (hu : IsNode (length m.supplies) u) (
   hw' : IsNode (length first) w
   hw' = (hw.0, omega (arith, hw.1, as_long))
 
-  units_supply : (v : ℕ) → IsNode (length m.supplies) v → at_node (with_units m u w d).supplies v ≡ at_node m.supplies v +ℤ d *ℤ unit_at u w v
+  pub units_supply : (v : ℕ) → IsNode (length m.supplies) v → at_node (with_units m u w d).supplies v ≡ at_node m.supplies v +ℤ d *ℤ unit_at u w v
   units_supply v hv =
       omega (
         arith,
