@@ -1,10 +1,15 @@
 mod Products
 mod UnitCosts
-mod Rooms
+mod CheapRooms
 mod OneWay
 mod SpanLaws
 mod FinerSpans
 mod Supplies
 mod SpanPlans
 mod Holding
-mod Ranging
+mod SpareUnits
+mod SmallNumbers
+mod RoomSteps
+mod SpanRows
+mod MadeModels
+mod ToldRanges

@@ -10,7 +10,7 @@ use Rattle.mcf_model.specs.Faults.{first_cost}
 use Rattle.mcf_model.specs.Model.{Adds, CostAtLeast, Fits, IsLimited, MayCarry, Rises, Route, charge}
 use Rattle.mcf_model.specs.Prices.{IsBestAt, price_drop}
 use Rattle.mcf_unit_ranges.specs.Spans.{highest, lowest, room_below, room_up_to}
-use Rattle.mcf_unit_ranges.proofs.Rooms.{IsAtMost, past_from, past_to, up_fits, up_from, up_to}
+use Rattle.mcf_unit_ranges.proofs.CheapRooms.{IsAtMost, past_from, past_to, up_fits, up_from, up_to}
 use Rattle.mcf_unit_ranges.proofs.UnitCosts.{at_least, fits_less, from_first, is_below, is_not_below, is_not_up_to, is_up_to, no_less_above, no_less_below, unit_cost, unit_less, unit_more}
 
 at_most_last : (k : ℤ) (steps : List Step) (c : ℤ) → CostAtLeast k steps c → k ≤ℤ c

@@ -12,7 +12,7 @@ use Rattle.mcf_model.specs.Model.{Adds, AreRooms, CostAtLeast, Fits, IsLimited, 
 use Rattle.mcf_model.specs.Prices.{IsBestAt, price_drop, reduced_route_cost}
 use Rattle.mcf_unit_ranges.specs.Spans.{directed, goes_back, span, span_of, turned}
 use Rattle.mcf_unit_ranges.proofs.OneWay.{drop, from_span, high, limited, low, made, to_high, to_low}
-use Rattle.mcf_unit_ranges.proofs.Rooms.{IsAtMost, rooms_total}
+use Rattle.mcf_unit_ranges.proofs.CheapRooms.{IsAtMost, rooms_total}
 use Rattle.mcf_unit_ranges.proofs.UnitCosts.{at_least, fits_less, is_below, is_not_below, no_less_above}
 
 pub equal : (x y : ℤ) → x ≡ y → int_eq x y ≡ true

@@ -15,7 +15,7 @@ use Rattle.mcf_figures.proofs.PlanSums.{worth}
 use Rattle.mcf_unit_ranges.specs.Changes.{with_units}
 use Rattle.mcf_unit_ranges.proofs.Products.{mul-assoc}
 
-more_at : (supplies : List ℤ) (u : ℕ) (z : ℤ) (v : ℕ) → IsNode (length supplies) u → IsNode (length supplies) v
+pub more_at : (supplies : List ℤ) (u : ℕ) (z : ℤ) (v : ℕ) → IsNode (length supplies) u → IsNode (length supplies) v
     → at_node (with_more_at supplies u z) v ≡ at_node supplies v +ℤ when (eqb u v) z
 more_at supplies u z v hu hv =
     elim (cases_eq u v) [

@@ -1,4 +1,7 @@
+pub use Rattle.mcf_figures.specs.Figures
 pub use Rattle.mcf_figures.specs.FigureLaws
+pub use Rattle.mcf_instance.specs.Arrays
+pub use Rattle.mcf_model.specs.Arcs
 pub use Rattle.mcf_model.specs.Model
 pub use Rattle.mcf_model.specs.Prices
 pub use Rattle.mcf_model.specs.Scaling
@@ -6,3 +9,5 @@ pub mod Changes
 pub mod Spans
 pub mod SpanModels
 pub mod UnitRanges
+pub mod Told
+pub mod Private

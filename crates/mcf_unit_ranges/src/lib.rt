@@ -1,11 +1,23 @@
 #![tactic(auto)]
 
-//! For how many units the prices of a least plan tell what one more costs.
-ghost use Rattle.std.specs.Prelude.{◌≡◌};
+//! For how many units the prices of a least plan tell what one more costs (right-hand-side
+//! ranging).
+//!
+//! It builds on `mcf_model`, whose least plans come with prices that show them, and on
+//! `mcf_figures`. In `specs/`, `Changes` has models with units more from one place to another,
+//! `UnitRanges` what holds for how many units, `Spans` the amounts of least reduced cost of a
+//! route, `SpanModels` models whose plans are made of them, and `Told` of which models a range is
+//! told. No definition names a network.
 
-/// Returns a number.
-pub fn one(x: u32) -> u32
-    ensures { result ≡ x }
-{
-    x
-}
+mod laws;
+mod limits;
+mod models;
+mod ranging;
+mod rooms;
+mod rows;
+mod spans;
+
+pub use laws::units_cost_no_less;
+pub use limits::UNITS_LIMIT;
+pub use ranging::{UnitsRange, units_range};
+pub use rows::Ends;

@@ -189,6 +189,9 @@ module _ (m : Model) (prices plan : List ℤ) (u w : ℕ) (sound : IsSound m) (p
           absurd (omega (arith, ints, up, low, cost_of k (k *ℤ (most -ℤ d)) xs, cost_of k (k *ℤ b) (map (λ x. k *ℤ x) zs))))
           (λ more. more)
 
+      pub spare_at_most : b ≤ℤ most
+      spare_at_most = omega (arith, ints, no_more (pos 1) (pos 0) here (omega (arith, ints)) most0 stays)
+
       range_to : pos 0 <ℤ b → (d : ℤ) → pos 0 ≤ℤ d → HoldsFor m prices plan u w d → d ≤ℤ (most -ℤ b)
       range_to some d d0 holds =
           let k = holds.finer in
@@ -233,7 +236,6 @@ module _ (m : Model) (prices plan : List ℤ) (u w : ℕ) (sound : IsSound m) (p
     -- some plan has all units on the spare route
     pub some_plan : IsPlan spans (most ∷ here)
     some_plan =
-        let is = span_plan (pos 1) (pos 0) here (omega (arith, ints)) most0 stays in
         record {
           may_carry = (record { enough = most0; fits = tt }, zip_map MayCarry (span prices) m.routes here (ones m.routes here stays.may));
           meets_supplies = λ v h.

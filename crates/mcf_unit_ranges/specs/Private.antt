@@ -1,0 +1,3 @@
+-- What the proofs of this crate alone need: no public clause names it.
+pub mod Plans
+pub mod Rows
