@@ -1,6 +1,6 @@
--- The rooms of steps that cost less, or no more, than the price drop tell where the cost of one unit
--- more is as great as the drop, and where it is no greater.
-use Rattle.std.proofs.Common.{◌≡◌, Bool, true, false, List, [], ◌∷◌, refl, ap, arith, ℤ, pos, ◌+ℤ◌, ◌-ℤ◌, ◌≤ℤ◌, ◌<ℤ◌}
+-- The rooms of steps that cost less, or no more, than the price drop tell where the cost of one
+-- unit more is as great as the drop, and where it is no greater.
+use Rattle.std.proofs.Common.{◌≡◌, List, [], ◌∷◌, refl, ap, arith, ℤ, pos, ◌+ℤ◌, ◌-ℤ◌, ◌≤ℤ◌, ◌<ℤ◌}
 use Rattle.std.specs.Prelude.{Option, Some, None, IfSome, option_map}
 use Rattle.std.proofs.lemmas.Int.{ints, by_lt_z}
 use Rattle.mcf_model.specs.declared.rows.Step.{Step}

@@ -1,12 +1,10 @@
 -- The span of a route in finer units is its span, in finer units.
-use Rattle.std.proofs.Common.{◌≡◌, ℕ, Bool, true, false, List, [], ◌∷◌, map, refl, ap, sym, ◌∙◌, subst, arith, ℤ, pos, neg_ℤ, ◌+ℤ◌, ◌-ℤ◌, ◌≤ℤ◌, ◌<ℤ◌, if◌then◌else◌, int_lt}
+use Rattle.std.proofs.Common.{◌≡◌, ℕ, Bool, true, false, List, [], ◌∷◌, map, refl, ap, sym, ◌∙◌, subst, arith, ℤ, pos, neg_ℤ, ◌+ℤ◌, ◌-ℤ◌, ◌≤ℤ◌, if◌then◌else◌, int_lt}
 use Rattle.std.specs.Prelude.{Option, Some, None, int_le, option_map}
 use Rattle.std.specs.Int.{int_max, int_min}
-use Rattle.std.specs.List.{All, AllZip}
 use Rattle.std.proofs.Math.IntN.{◌*ℤ◌, *ℤ_comm}
 use Rattle.std.proofs.lemmas.Int.{ints, clamps, by_lt_z}
-use Rattle.std.proofs.lemmas.List.Elements.{All-cons, All-head, All-tail}
-use Rattle.mcf_flows.proofs.IntLaws.{mul-add, mul-mono, mul-neg, mul-sub, mul-zero, mul_at_least_zero, sub-mul}
+use Rattle.mcf_flows.proofs.IntLaws.{mul-add, mul-mono, mul-neg, mul-sub, mul-zero, mul_at_least_zero}
 use Rattle.mcf_model.specs.declared.rows.Step.{Step}
 use Rattle.mcf_model.specs.Bottlenecks.{limit_or_zero}
 use Rattle.mcf_model.specs.Faults.{first_cost}

@@ -1,25 +1,24 @@
 -- What the prices say holds for so many units just where amounts of the spans move them.
-use Rattle.std.proofs.Common.{◌≡◌, ℕ, ◌-◌, ◌≤◌, eqb, List, [], ◌∷◌, length, map, refl, ap, sym, ◌∙◌, subst, arith, ℤ, pos, ◌+ℤ◌, ◌-ℤ◌, ◌≤ℤ◌, ◌<ℤ◌}
-use Rattle.std.specs.Prelude.{Option, Some, None, IfSome, ◌↔◌}
+use Rattle.std.proofs.Common.{◌≡◌, ℕ, List, [], ◌∷◌, length, map, refl, ap, sym, ◌∙◌, subst, arith, ℤ, pos, ◌+ℤ◌, ◌-ℤ◌, ◌≤ℤ◌}
 use Rattle.std.specs.List.{All, AllZip}
-use Rattle.std.proofs.Math.IntN.{◌*ℤ◌, *ℤ_comm}
-use Rattle.std.proofs.lemmas.Int.{ints, by_lt_z}
+use Rattle.std.proofs.Math.IntN.{◌*ℤ◌}
+use Rattle.std.proofs.lemmas.Int.{ints}
 use Rattle.std.proofs.lemmas.List.Elements.{All-cons, All-head, All-tail}
-use Rattle.mcf_flows.specs.Network.{IsNode, at_node, when}
+use Rattle.mcf_flows.specs.Network.{IsNode, at_node}
 use Rattle.mcf_flows.proofs.AllZips.{AllZip-weaken}
 use Rattle.mcf_flows.proofs.IntLaws.{mul-add, mul-sub, mul-zero, one-mul}
-use Rattle.mcf_model.specs.Model.{IsPlan, IsSound, IsSoundRoute, MayCarry, Model, Route, arriving, leaving, plan_cost, plan_sum, route_cost}
+use Rattle.mcf_model.specs.Model.{IsPlan, IsSound, IsSoundRoute, MayCarry, Model, Route, arriving, leaving, plan_cost, plan_sum}
 use Rattle.mcf_model.specs.Prices.{IsBestAt, reduced_route_cost}
 use Rattle.mcf_model.specs.Scaling.{scaled, scaled_route}
 use Rattle.mcf_figures.specs.FigureLaws.{IsPriced}
-use Rattle.mcf_figures.proofs.PlanSums.{HasPlaces, have_places, plan_sum-le, reduced_total, worth}
+use Rattle.mcf_figures.proofs.PlanSums.{have_places, plan_sum-le, reduced_total, worth}
 use Rattle.mcf_unit_ranges.specs.Changes.{with_units}
 use Rattle.mcf_unit_ranges.specs.Spans.{span}
 use Rattle.mcf_unit_ranges.specs.UnitRanges.{HoldsFor, UnitsCostNoLess, told_cost}
 use Rattle.mcf_unit_ranges.proofs.FinerSpans.{best_finer, has_finer, may_finer, reduced_finer, route_finer, span_finer}
-use Rattle.mcf_unit_ranges.proofs.SpanLaws.{HasBest, has_best, of_span, span_amount, to_span}
-use Rattle.mcf_unit_ranges.proofs.SpanPlans.{amounts, amounts_twice, net, net_amounts, net_is, plan_sum-map, zip_map, zip_unmap}
-use Rattle.mcf_unit_ranges.proofs.Supplies.{as_long_both, as_long_finer, finer_supply, finer_worth, unit_at}
+use Rattle.mcf_unit_ranges.proofs.SpanLaws.{has_best, of_span, span_amount, to_span}
+use Rattle.mcf_unit_ranges.proofs.SpanPlans.{amounts, amounts_twice, net, net_amounts, net_is, zip_unmap}
+use Rattle.mcf_unit_ranges.proofs.Supplies.{as_long_finer, finer_supply, finer_worth, unit_at}
 
 -- ---- lists of routes
 

@@ -1,17 +1,16 @@
 -- The models of spans have no fault.
-use Rattle.std.proofs.Common.{◌≡◌, ℕ, zero, suc, ◌-◌, ◌*◌, ◌≤◌, eqb, take, Bool, true, false, List, [], ◌∷◌, length, map, refl, ap, sym, ◌∙◌, subst, arith, ℤ, pos, neg_ℤ, ◌+ℤ◌, ◌≤ℤ◌, inr}
+use Rattle.std.proofs.Common.{◌≡◌, ℕ, zero, suc, ◌-◌, ◌*◌, eqb, take, Bool, true, false, List, [], ◌∷◌, length, map, refl, ap, sym, ◌∙◌, subst, arith, ℤ, pos, neg_ℤ, ◌≤ℤ◌, inr}
 use Rattle.std.specs.Prelude.{Option, Some, None, option_map, replicate, slice_index_or, Result, Ok, Err, is_ok}
 use Rattle.std.specs.List.{All}
 use Rattle.std.proofs.Math.Seq.{drop-nil, take-nil}
 use Rattle.std.proofs.lemmas.Int.{ints}
 use Rattle.std.proofs.lemmas.List.{length-replicate}
 use Rattle.std.proofs.lemmas.List.Elements.{All-cons, All-head, All-nil, All-tail}
-use Rattle.mcf_flows.specs.Limits.{limits}
 use Rattle.mcf_flows.specs.Network.{IsNode, at_node, when}
 use Rattle.mcf_flows.specs.WellFormed.{IsUpTo}
 use Rattle.mcf_model.specs.declared.rows.RouteRow.{RouteRow}
 use Rattle.mcf_model.specs.declared.faults.ModelFault.{ModelFault}
-use Rattle.mcf_model.specs.Faults.{AreListed, model_unless}
+use Rattle.mcf_model.specs.Faults.{model_unless}
 use Rattle.mcf_model.specs.Laws.{IsProper, StepsTake}
 use Rattle.mcf_model.specs.Model.{CostAtLeast, IsSound, IsSoundRoute, MayBeBoth, Model, Route}
 use Rattle.mcf_model.specs.Tables.{model_of, own_steps, route_of, route_with}

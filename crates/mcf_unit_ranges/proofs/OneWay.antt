@@ -1,5 +1,5 @@
 -- The amounts of least reduced cost of a route one way are those of its span.
-use Rattle.std.proofs.Common.{◌≡◌, ℕ, Bool, true, false, List, [], ◌∷◌, refl, ap, sym, subst, arith, ℤ, pos, ◌+ℤ◌, ◌-ℤ◌, ◌≤ℤ◌, ◌<ℤ◌, if◌then◌else◌, int_lt}
+use Rattle.std.proofs.Common.{◌≡◌, ℕ, Bool, false, List, [], ◌∷◌, refl, ap, sym, subst, arith, ℤ, pos, ◌+ℤ◌, ◌-ℤ◌, ◌≤ℤ◌, ◌<ℤ◌, if◌then◌else◌, int_lt}
 use Rattle.std.specs.Prelude.{Option, Some, None, option_map, int_le}
 use Rattle.std.specs.Int.{int_max}
 use Rattle.std.proofs.Math.IntN.{◌*ℤ◌}
@@ -7,9 +7,9 @@ use Rattle.std.proofs.lemmas.Int.{ints, clamps, by_lt_z}
 use Rattle.mcf_flows.specs.Network.{at_node}
 use Rattle.mcf_model.specs.declared.rows.Step.{Step}
 use Rattle.mcf_model.specs.Faults.{first_cost}
-use Rattle.mcf_model.specs.Model.{Adds, CostAtLeast, Fits, IsLimited, MayCarry, Rises, Route, charge}
-use Rattle.mcf_model.specs.Prices.{IsBestAt, price_drop}
-use Rattle.mcf_unit_ranges.specs.Spans.{highest, lowest, room_below, room_up_to}
+use Rattle.mcf_model.specs.Model.{Adds, CostAtLeast, Fits, IsLimited, Rises, Route, charge}
+use Rattle.mcf_model.specs.Prices.{IsBestAt}
+use Rattle.mcf_unit_ranges.specs.Spans.{room_below, room_up_to}
 use Rattle.mcf_unit_ranges.proofs.CheapRooms.{IsAtMost, past_from, past_to, up_fits, up_from, up_to}
 use Rattle.mcf_unit_ranges.proofs.UnitCosts.{at_least, fits_less, from_first, is_below, is_not_below, is_not_up_to, is_up_to, no_less_above, no_less_below, unit_cost, unit_less, unit_more}
 

@@ -1,16 +1,16 @@
 -- The amounts of least reduced cost of a route are those that its span carries.
-use Rattle.std.proofs.Common.{◌≡◌, ℕ, Bool, true, false, List, [], ◌∷◌, refl, ap, sym, ◌∙◌, subst, arith, ℤ, pos, neg_ℤ, ◌+ℤ◌, ◌-ℤ◌, ◌≤ℤ◌, ◌<ℤ◌, if◌then◌else◌, int_lt}
-use Rattle.std.specs.Prelude.{Option, Some, None, ◌&&◌}
+use Rattle.std.proofs.Common.{◌≡◌, ℕ, Bool, true, false, List, [], ◌∷◌, refl, ap, sym, ◌∙◌, subst, arith, ℤ, pos, neg_ℤ, ◌-ℤ◌, ◌≤ℤ◌, ◌<ℤ◌, if◌then◌else◌}
+use Rattle.std.specs.Prelude.{Option, Some, None}
 use Rattle.std.specs.Int.{int_min}
 use Rattle.std.specs.Ordering.{int_eq}
 use Rattle.std.proofs.Math.IntN.{◌*ℤ◌}
 use Rattle.std.proofs.lemmas.Int.{ints, clamps, by_lt_z}
 use Rattle.mcf_flows.specs.Network.{at_node}
-use Rattle.mcf_flows.proofs.IntLaws.{mul-neg, mul-zero, mul_above_zero, neg-mul, mul_at_least_zero, sub-mul, zero-mul}
+use Rattle.mcf_flows.proofs.IntLaws.{mul-neg, mul-zero, mul_above_zero, sub-mul, zero-mul}
 use Rattle.mcf_model.specs.declared.rows.Step.{Step}
 use Rattle.mcf_model.specs.Model.{Adds, AreRooms, CostAtLeast, Fits, IsLimited, IsSoundRoute, MayBeBoth, MayCarry, Rises, Route, charge, charged, size}
 use Rattle.mcf_model.specs.Prices.{IsBestAt, price_drop, reduced_route_cost}
-use Rattle.mcf_unit_ranges.specs.Spans.{directed, goes_back, span, span_of, turned}
+use Rattle.mcf_unit_ranges.specs.Spans.{goes_back, span, span_of}
 use Rattle.mcf_unit_ranges.proofs.OneWay.{drop, from_span, high, limited, low, made, to_high, to_low}
 use Rattle.mcf_unit_ranges.proofs.CheapRooms.{IsAtMost, rooms_total}
 use Rattle.mcf_unit_ranges.proofs.UnitCosts.{at_least, fits_less, is_below, is_not_below, no_less_above}

@@ -1,5 +1,5 @@
 -- Amounts of spans, route by route: their sums, and what they make together.
-use Rattle.std.proofs.Common.{◌≡◌, ℕ, zero, suc, ◌-◌, ◌<◌, eqb, Bool, true, false, List, [], ◌∷◌, length, map, refl, ap, sym, ◌∙◌, subst, arith, ℤ, pos, neg_ℤ, ◌+ℤ◌, ◌-ℤ◌, ◌≤ℤ◌, ◌<ℤ◌, if◌then◌else◌}
+use Rattle.std.proofs.Common.{◌≡◌, ℕ, eqb, Bool, true, false, List, [], ◌∷◌, map, refl, ap, sym, ◌∙◌, subst, arith, ℤ, pos, neg_ℤ, ◌+ℤ◌, ◌-ℤ◌, ◌≤ℤ◌, if◌then◌else◌}
 use Rattle.std.specs.Prelude.{Option, Some, None, option_map}
 use Rattle.std.specs.List.{All, AllZip}
 use Rattle.std.specs.Int.{int_max}
@@ -8,13 +8,12 @@ use Rattle.std.proofs.Math.IntN.{◌*ℤ◌}
 use Rattle.std.proofs.lemmas.Int.{ints, clamps, by_lt_z}
 use Rattle.std.proofs.lemmas.List.Elements.{All-head, All-tail}
 use Rattle.mcf_flows.specs.Network.{when}
-use Rattle.mcf_flows.proofs.IntLaws.{mul-add, mul-mono, mul-neg, mul-one, mul-sub, mul-zero, add-mul, one-mul, zero-mul}
+use Rattle.mcf_flows.proofs.IntLaws.{mul-add, mul-mono, mul-neg, mul-sub, mul-zero, add-mul}
 use Rattle.mcf_model.specs.declared.rows.Step.{Step}
 use Rattle.mcf_model.specs.Faults.{first_cost}
-use Rattle.mcf_model.specs.Model.{Adds, CostAtLeast, Fits, IsRoom, IsSoundRoute, MayBeBoth, MayCarry, Rises, Route, arriving, charged, leaving, plan_sum, size}
+use Rattle.mcf_model.specs.Model.{CostAtLeast, Fits, IsRoom, IsSoundRoute, MayBeBoth, MayCarry, Route, arriving, charged, leaving, plan_sum, size}
 use Rattle.mcf_model.specs.Scaling.{scaled_route, scaled_step}
 use Rattle.mcf_unit_ranges.specs.Spans.{goes_back, span, span_of, turned}
-use Rattle.mcf_unit_ranges.specs.SpanModels.{freed}
 use Rattle.mcf_unit_ranges.proofs.OneWay.{drop, high, low, made}
 use Rattle.mcf_unit_ranges.proofs.Products.{mul-assoc}
 use Rattle.mcf_unit_ranges.proofs.SpanLaws.{equal, not_equal, span_amount, twice}

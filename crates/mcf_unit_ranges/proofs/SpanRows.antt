@@ -1,5 +1,5 @@
 -- The span of a route, from its parts.
-use Rattle.std.proofs.Common.{◌≡◌, Bool, List, [], ap, sym, ◌∙◌, ℤ, pos}
+use Rattle.std.proofs.Common.{◌≡◌, Bool, List, [], ap, ◌∙◌, ℤ, pos}
 use Rattle.std.specs.Prelude.{Option, ◌&&◌}
 use Rattle.std.specs.Ordering.{int_eq}
 use Rattle.mcf_model.specs.Model.{Route}

@@ -1,19 +1,18 @@
 -- The least plan of the spans tells for how many units what the prices say holds, and one unit on
 -- spans without a limit tells that it holds for any number.
-use Rattle.std.proofs.Common.{◌≡◌, ℕ, zero, suc, ◌-◌, ◌≤◌, eqb, Bool, true, false, List, [], ◌∷◌, length, map, refl, ap, sym, ◌∙◌, subst, arith, ℤ, pos, ◌+ℤ◌, ◌-ℤ◌, ◌≤ℤ◌, ◌<ℤ◌}
-use Rattle.std.specs.Prelude.{Option, Some, None, IfSome, ◌↔◌, option_map, replicate, slice_index_or}
-use Rattle.std.specs.List.{All, AllZip}
+use Rattle.std.proofs.Common.{◌≡◌, ℕ, zero, suc, ◌-◌, eqb, Bool, true, false, List, [], ◌∷◌, length, map, refl, ap, sym, ◌∙◌, subst, arith, ℤ, pos, ◌+ℤ◌, ◌-ℤ◌, ◌≤ℤ◌, ◌<ℤ◌}
+use Rattle.std.specs.Prelude.{Option, Some, None, option_map, replicate, slice_index_or}
+use Rattle.std.specs.List.{AllZip}
 use Rattle.std.proofs.Math.IntN.{◌*ℤ◌, *ℤ_comm}
 use Rattle.std.proofs.lemmas.Int.{ints, clamps, by_lt_z}
 use Rattle.std.proofs.lemmas.List.{length-replicate}
 use Rattle.mcf_flows.specs.Network.{IsNode, at_node, when}
 use Rattle.mcf_flows.proofs.IntLaws.{add-mul, mul-add, mul-mono_lt, mul-one, mul-sub, mul-zero, mul_above_zero, mul_at_least_zero, one-mul, sub-mul, zero-mul}
-use Rattle.mcf_model.specs.Model.{Fits, IsLeastPlan, IsPlan, IsSound, IsSoundRoute, MayBeBoth, MayCarry, Model, Route, arriving, charged, leaving, plan_cost, plan_sum, route_cost, size}
+use Rattle.mcf_model.specs.Model.{Fits, IsLeastPlan, IsPlan, IsSound, IsSoundRoute, MayBeBoth, MayCarry, Model, Route, arriving, charged, leaving, plan_cost, plan_sum, route_cost}
 use Rattle.mcf_model.specs.declared.rows.Step.{Step}
 use Rattle.mcf_model.specs.Scaling.{scaled, scaled_route, scaled_step}
 use Rattle.mcf_figures.specs.FigureLaws.{IsPriced}
-use Rattle.mcf_unit_ranges.specs.Changes.{with_units}
-use Rattle.mcf_unit_ranges.specs.SpanModels.{free_model, freed, span_model, spare, still}
+use Rattle.mcf_unit_ranges.specs.SpanModels.{free_model, freed, span_model, still}
 use Rattle.mcf_unit_ranges.specs.Spans.{span}
 use Rattle.mcf_unit_ranges.specs.UnitRanges.{HoldsFor, IsUnitsRange}
 use Rattle.mcf_unit_ranges.proofs.FinerSpans.{may_finer}
@@ -95,7 +94,7 @@ module _ (m : Model) (prices plan : List ℤ) (u w : ℕ) (sound : IsSound m) (p
             ∙ together p q a b c d1 d2 d s e total moved;
       }
 
-  abbrev here : List ℤ
+  abbrev pub here : List ℤ
   here = amounts prices m.routes plan
 
   stays : Moves (pos 1) (pos 0) here
@@ -305,7 +304,7 @@ module _ (m : Model) (prices plan : List ℤ) (u w : ℕ) (sound : IsSound m) (p
 
         go : (o : Option ℤ) → s.last_most ≡ o → MayCarry (scaled_route (pos 1) s) (pos 1 *ℤ x +ℤ d *ℤ y)
         go (Some mo) e =
-            let f : charged s.both y ≤ℤ pos 0 = subst (λ (ss : List Step) . Fits ss (option_map (λ most. pos 0) (Some mo)) (charged s.both y)) none
+            let f : charged s.both y ≤ℤ pos 0 = subst (λ (ss : List Step). Fits ss (option_map (λ most. pos 0) (Some mo)) (charged s.both y)) none
             (subst (λ o. Fits s.steps (option_map (λ most. pos 0) o) (charged s.both y)) e k.fits) in
             subst (MayCarry (scaled_route (pos 1) s)) (sym (same (nothing s.both k.enough f))) h
         go None e =

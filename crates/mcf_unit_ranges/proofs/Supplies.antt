@@ -1,13 +1,13 @@
 -- Supplies with units more at one place and less at another, and what they are worth.
-use Rattle.std.proofs.Common.{◌≡◌, ℕ, zero, suc, ◌-◌, ◌<◌, eqb, Bool, true, false, List, [], ◌∷◌, length, map, set, get_or, refl, ap, sym, ◌∙◌, subst, arith, ℤ, pos, neg_ℤ, ◌+ℤ◌, ◌-ℤ◌, inl, inr}
+use Rattle.std.proofs.Common.{◌≡◌, ℕ, zero, suc, ◌-◌, eqb, Bool, true, false, List, [], ◌∷◌, length, map, refl, ap, sym, ◌∙◌, subst, arith, ℤ, pos, neg_ℤ, ◌+ℤ◌, ◌-ℤ◌, inl, inr}
 use Rattle.std.specs.Prelude.{slice_index_or}
 use Rattle.std.proofs.Math.IntN.{◌*ℤ◌, *ℤ_comm}
 use Rattle.std.proofs.lemmas.Int.{ints}
 use Rattle.std.proofs.lemmas.Bool.{cases_eq, eq-eqb, ne_eqb}
 use Rattle.std.proofs.lemmas.Grind.{get_or-set_at}
 use Rattle.std.proofs.lemmas.List.{get_or-set_other, length-set}
-use Rattle.mcf_flows.specs.Network.{IsNode, at_node, node_sum, when}
-use Rattle.mcf_flows.proofs.IntLaws.{mul-add, mul-neg, mul-one, mul-zero, sub-mul, mul-sub}
+use Rattle.mcf_flows.specs.Network.{IsNode, at_node, when}
+use Rattle.mcf_flows.proofs.IntLaws.{mul-add, mul-neg, mul-one, mul-zero, mul-sub}
 use Rattle.mcf_flows.proofs.NodeSums.{node_sum-add, node_sum-at, node_sum-mul, node_sum-same}
 use Rattle.mcf_model.specs.Model.{Model}
 use Rattle.mcf_figures.specs.Changes.{with_more_at}

@@ -1,7 +1,6 @@
 -- From least plans of the models of spans to what is told.
-use Rattle.std.proofs.Common.{◌≡◌, ℕ, suc, ◌≤◌, List, [], ◌∷◌, length, map, refl, ap, sym, ◌∙◌, subst, arith, ℤ, pos, ◌-ℤ◌, ◌≤ℤ◌, ◌<ℤ◌, inl, inr}
-use Rattle.std.specs.Prelude.{Option, Some, None, slice_index_or, ◌⊎◌}
-use Rattle.std.specs.List.{AllZip}
+use Rattle.std.proofs.Common.{◌≡◌, ℕ, ◌≤◌, List, [], ◌∷◌, length, map, sym, ◌∙◌, subst, arith, ℤ, pos, ◌-ℤ◌, ◌≤ℤ◌, ◌<ℤ◌, inl, inr}
+use Rattle.std.specs.Prelude.{Option, Some, None, IfNone, IfSome, slice_index_or, ◌⊎◌}
 use Rattle.std.proofs.Math.IntN.{◌*ℤ◌}
 use Rattle.std.proofs.lemmas.Int.{ints}
 use Rattle.mcf_flows.specs.Limits.{limits}
@@ -16,9 +15,10 @@ use Rattle.mcf_model.specs.Model.{IsLeastPlan, IsPlan, IsSound, MayCarry, Model}
 use Rattle.mcf_model.specs.Planning.{HasNoPlan, IsBestPlan}
 use Rattle.mcf_model.specs.Scaling.{scaled}
 use Rattle.mcf_unit_ranges.specs.declared.limits.TheConstants.{UNITS_LIMIT}
+use Rattle.mcf_unit_ranges.specs.declared.ranging.UnitsRange.{UnitsRange}
 use Rattle.mcf_unit_ranges.specs.Private.Plans.{CarriesFirst, HasPlan}
 use Rattle.mcf_unit_ranges.specs.SpanModels.{free_model, span_model}
-use Rattle.mcf_unit_ranges.specs.Told.{AreWithinLimits, FitsLimits, IsRangeAt, IsUntold}
+use Rattle.mcf_unit_ranges.specs.Told.{FitsLimits, IsRangeAt, IsUntold}
 use Rattle.mcf_unit_ranges.proofs.SpareUnits.{here, holds_all, range_is, range_is_free, some_plan, spare_at_most}
 
 pub no_fit : (m : Model) (fault : ArrayFault) → array_fault limits (network_of (reach_of m) m) ≡ Some fault → ¬ FitsLimits m
@@ -57,12 +57,12 @@ module _ (m : Model) (prices : List ℤ) (u w : ℕ) (sound : IsSound m) (hu : I
       let f = subst (λ s. CarriesFirst s b) e first in range_is m prices plan u w sound priced hu hw most most0 b f.rest f.is_plan f.least some
 
   pub untold_free : (made : Model) → made ≡ free_model prices m u w → ¬ FitsLimits made → IsUntold m prices u w
-  untold_free made e no = inl (λ within. no (subst FitsLimits (sym e) within.free_fits))
+  untold_free made e unfit = inl (λ within. unfit (subst FitsLimits (sym e) within.free_fits))
 
   pub untold_spans : (made : Model) → made ≡ spans → (¬ FitsLimits made) ⊎ (¬ HasPlan made) → IsUntold m prices u w
-  untold_spans made e (inl no) = inl (λ within. no (subst FitsLimits (sym e) within.spans_fit))
-  untold_spans made e (inr no) =
-      inr (λ plan priced. absurd (no (subst HasPlan (sym e)
+  untold_spans made e (inl unfit) = inl (λ within. unfit (subst FitsLimits (sym e) within.spans_fit))
+  untold_spans made e (inr none) =
+      inr (λ plan priced. absurd (none (subst HasPlan (sym e)
       (most ∷ here m prices plan u w sound priced hu hw, some_plan m prices plan u w sound priced hu hw most most0))))
 
   pub untold_beside : (made : Model) (b : ℤ) → made ≡ spans → CarriesFirst made b → (b ≤ℤ pos 0) ⊎ (most <ℤ b) → IsUntold m prices u w
@@ -73,3 +73,13 @@ module _ (m : Model) (prices : List ℤ) (u w : ℕ) (sound : IsSound m) (hu : I
   untold_beside made b e first (inr above) =
       let f = subst (λ s. CarriesFirst s b) e first in
       inr (λ plan priced. absurd (omega (arith, ints, above, spare_at_most m prices plan u w sound priced hu hw most most0 b f.rest f.is_plan f.least)))
+
+-- ---- cases of options
+
+pub some_range : (P : Option ℤ → Type 0) (A : Type 0) (told : Option ℤ) (o : Option UnitsRange) → IfSome o (λ r. A × (r.most ≡ told)) → (A → P told) → IfSome o (λ r. P r.most)
+some_range P A told (Some r) h f = subst P (sym h.1) (f h.0)
+some_range P A told None h f = tt
+
+pub none_from : {X : Type 0} (o : Option X) (A P : Type 0) → IfNone o A → (A → P) → IfNone o P
+none_from (Some x) A P h f = tt
+none_from None A P h f = f h

@@ -1,6 +1,6 @@
 -- The cost of one unit more on a route, which rises; so amounts next to an amount tell of all
 -- others.
-use Rattle.std.proofs.Common.{◌≡◌, ℕ, zero, suc, Bool, true, false, List, [], ◌∷◌, refl, ap, sym, ◌∙◌, arith, ℤ, pos, negsuc, ◌+ℤ◌, ◌-ℤ◌, ◌≤ℤ◌, ◌<ℤ◌, if◌then◌else◌, int_lt}
+use Rattle.std.proofs.Common.{◌≡◌, ℕ, zero, suc, true, false, List, [], ◌∷◌, refl, ap, sym, ◌∙◌, arith, ℤ, pos, negsuc, ◌+ℤ◌, ◌-ℤ◌, ◌≤ℤ◌, ◌<ℤ◌, if◌then◌else◌, int_lt}
 use Rattle.std.specs.Prelude.{Option, Some, None, int_le}
 use Rattle.std.specs.Int.{int_min}
 use Rattle.std.proofs.Math.IntN.{◌*ℤ◌}

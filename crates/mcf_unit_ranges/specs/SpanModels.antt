@@ -1,6 +1,6 @@
 -- Models whose plans are made of amounts of least reduced cost.
 -- Source: own
-use Rattle.std.specs.Prelude.{ℕ, false, List, [], ◌∷◌, length, map, replicate, ℤ, pos, Option, None, option_map}
+use Rattle.std.specs.Prelude.{ℕ, false, List, [], ◌∷◌, length, map, replicate, ℤ, pos, None, option_map}
 use Rattle.mcf_model.specs.Model.{Model, Route}
 use Rattle.mcf_unit_ranges.specs.Changes.{with_units}
 use Rattle.mcf_unit_ranges.specs.Spans.{span}

@@ -150,19 +150,20 @@ fn range_within<S: Solves>(
     }
 }
 
-/// Returns for how many units what the prices of a least plan say of one more holds (right-hand-side
-/// ranging; Ahuja, Magnanti and Orlin, Network Flows, section 9.11): how many units more may come
-/// in at one place and be taken out at another at just the difference of both prices each, in some
-/// finer units. It holds for the number returned, for all smaller ones and for no greater one; no
+/// Returns for how many units the prices of a least plan tell the cost (right-hand-side ranging;
+/// Ahuja, Magnanti and Orlin, Network Flows, section 9.11): how many units more may come in at one
+/// place and be taken out at another, each at just the difference of both prices, in some finer
+/// units. It holds for the number returned and for all smaller ones, and for no greater one; no
 /// plan ever costs less. So one more unit of room on a full route saves what the prices say for as
-/// many units as hold from its head to its tail.
+/// many units as the range has from the route's head to its tail.
 ///
-/// The result is that of each plan that the prices show to be least. It searches a least plan of
-/// two models of spans, the amounts of least reduced cost of the routes.
+/// The result is that of each plan that the prices show to be least. It searches least plans of two
+/// models of spans, the amounts of least reduced cost of the routes.
 ///
 /// It is `None` if a number is beyond the limits: a price of more than 10^36, a supply of more than
-/// 10^18 at one of both places, a number of a model of spans. And it is `None` if what the prices
-/// say holds for 10^15 units, and no span without a limit shows that it holds for any number.
+/// 10^18 at one of both places, or a number of a model of spans. And it is `None` if what the
+/// prices say holds for 10^15 units, and no spans without a limit show that it holds for any
+/// number.
 ///
 /// # Errors
 ///

@@ -38,13 +38,7 @@ fn last_below(last_cost: i64, last_most: Option<i64>, drop: i128) -> i128
 {
     let cheap = costs_less(last_cost, drop);
     match last_most {
-        Some(most) => {
-            if cheap {
-                i128::from(most)
-            } else {
-                0
-            }
-        }
+        Some(most) => { if cheap { i128::from(most) } else { 0 } }
         None => 0,
     }
 }
@@ -86,12 +80,7 @@ fn with_last(total: i128, last: Option<i64>) -> Option<i128>
 
 // Returns the room of the first steps, as far as a unit of them costs no more than the price drop;
 // `None` is no limit.
-fn room_up_to(
-    own: &[Step],
-    last_cost: i64,
-    last_most: Option<i64>,
-    drop: i128,
-) -> Option<i128>
+fn room_up_to(own: &[Step], last_cost: i64, last_most: Option<i64>, drop: i128) -> Option<i128>
     ensures { result ≡ room_up_to drop own.now last_cost last_most }
 {
     let mut total = 0i128;

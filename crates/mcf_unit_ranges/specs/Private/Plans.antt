@@ -1,5 +1,5 @@
 -- Plans of models of spans, as the code finds them.
-use Rattle.std.specs.Prelude.{List, ◌∷◌, map, ℤ, pos, ◌*ℤ◌, ◌≤ℤ◌, Bool, true, ◌≡◌}
+use Rattle.std.specs.Prelude.{List, ◌∷◌, map, ℤ, pos, ◌*ℤ◌, ◌≤ℤ◌}
 use Rattle.mcf_model.specs.Model.{IsLeastPlan, IsPlan, Model}
 use Rattle.mcf_model.specs.Scaling.{scaled}
 

@@ -1,4 +1,4 @@
-use Rattle.std.proofs.Common.{◌≡◌, ap, sym, ◌∙◌, subst}
+use Rattle.std.proofs.Common.{ap, sym, ◌∙◌, subst}
 use Rattle.mcf_model.specs.Faults.{AreListed}
 use Rattle.mcf_model.specs.Laws.{IsProper}
 use Rattle.mcf_model.specs.Tables.{model_of}
