@@ -13,3 +13,4 @@ mod RoomSteps
 mod SpanRows
 mod MadeModels
 mod ToldRanges
+mod RoomUnits

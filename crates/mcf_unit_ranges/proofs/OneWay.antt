@@ -13,7 +13,7 @@ use Rattle.mcf_unit_ranges.specs.Spans.{room_below, room_up_to}
 use Rattle.mcf_unit_ranges.proofs.CheapRooms.{IsAtMost, past_from, past_to, up_fits, up_from, up_to}
 use Rattle.mcf_unit_ranges.proofs.UnitCosts.{at_least, fits_less, from_first, is_below, is_not_below, is_not_up_to, is_up_to, no_less_above, no_less_below, unit_cost, unit_less, unit_more}
 
-at_most_last : (k : ℤ) (steps : List Step) (c : ℤ) → CostAtLeast k steps c → k ≤ℤ c
+pub at_most_last : (k : ℤ) (steps : List Step) (c : ℤ) → CostAtLeast k steps c → k ≤ℤ c
 at_most_last k [] c h = h
 at_most_last k (s ∷ steps) c h = at_most_last k steps c h.1
 

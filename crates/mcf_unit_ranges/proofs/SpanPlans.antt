@@ -57,6 +57,9 @@ net_is f routes plan v =
     ∙ ap (λ z. plan_sum (λ r x. when (eqb (f r).tail v) x) routes plan -ℤ z) (plan_sum-map (λ r x. when (eqb r.head v) x) f routes plan)
     ∙ sym (plan_sum-sub (λ r x. when (eqb (f r).tail v) x) (λ r x. when (eqb (f r).head v) x) routes plan)
 
+pub net_self : (routes : List Route) (plan : List ℤ) (v : ℕ) → leaving routes plan v -ℤ arriving routes plan v ≡ net (λ r. r) routes plan v
+net_self routes plan v = sym (plan_sum-sub (λ r x. when (eqb r.tail v) x) (λ r x. when (eqb r.head v) x) routes plan)
+
 -- ---- amounts of routes and of their spans
 
 abbrev pub amounts : List ℤ → List Route → List ℤ → List ℤ
@@ -68,7 +71,7 @@ when_neg : (t : Bool) (x : ℤ) → when t (neg_ℤ x) ≡ neg_ℤ (when t x)
 when_neg true x = refl
 when_neg false x = refl
 
-one_net : (prices : List ℤ) (r : Route) (x : ℤ) (v : ℕ) → when (eqb (span prices r).tail v) x -ℤ when (eqb (span prices r).head v) x
+pub one_net : (prices : List ℤ) (r : Route) (x : ℤ) (v : ℕ) → when (eqb (span prices r).tail v) x -ℤ when (eqb (span prices r).head v) x
     ≡ when (eqb r.tail v) (span_amount prices r x) -ℤ when (eqb r.head v) (span_amount prices r x)
 one_net prices r x v = go (goes_back prices r)
   where

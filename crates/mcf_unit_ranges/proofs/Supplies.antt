@@ -95,7 +95,7 @@ module _ (m : Model) (u w : ℕ) (d : ℤ) (hu : IsNode (length m.supplies) u) (
     abbrev finer : List ℤ
     finer = map (λ z. k *ℤ z) (with_units m u w d).supplies
 
-    finer_at : (xs : List ℤ) (i : ℕ) → slice_index_or (map (λ z. k *ℤ z) xs) i (pos 0) ≡ k *ℤ slice_index_or xs i (pos 0)
+    pub finer_at : (xs : List ℤ) (i : ℕ) → slice_index_or (map (λ z. k *ℤ z) xs) i (pos 0) ≡ k *ℤ slice_index_or xs i (pos 0)
     finer_at [] i = sym (mul-zero k)
     finer_at (x ∷ xs) zero = refl
     finer_at (x ∷ xs) (suc i) = finer_at xs i

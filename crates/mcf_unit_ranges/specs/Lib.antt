@@ -5,6 +5,7 @@ pub use Rattle.mcf_model.specs.Arcs
 pub use Rattle.mcf_model.specs.Model
 pub use Rattle.mcf_model.specs.Prices
 pub use Rattle.mcf_model.specs.Scaling
+pub use Rattle.mcf_model.specs.Tables
 pub mod Changes
 pub mod Spans
 pub mod SpanModels

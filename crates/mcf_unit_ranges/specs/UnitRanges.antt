@@ -1,11 +1,14 @@
 -- For how many units the prices of a least plan tell what one more costs.
 -- Source: own, after AMO 9.11 (changes of supplies)
-use Rattle.std.specs.Prelude.{ℕ, List, length, ℤ, pos, ◌+ℤ◌, ◌-ℤ◌, ◌*ℤ◌, ◌≤ℤ◌, Option, IfSome, ◌↔◌}
+use Rattle.std.specs.Prelude.{ℕ, List, length, ℤ, pos, ◌+ℤ◌, ◌-ℤ◌, ◌*ℤ◌, ◌≤ℤ◌, ◌<ℤ◌, Option, IfSome, ◌↔◌}
 use Rattle.mcf_flows.specs.Network.{IsNode, at_node}
 use Rattle.mcf_model.specs.Model.{IsPlan, IsSound, Model, plan_cost}
 use Rattle.mcf_model.specs.Scaling.{scaled}
+use Rattle.mcf_model.specs.Tables.{IsRouteNumber, route_at}
+use Rattle.mcf_figures.specs.Figures.{saving}
 use Rattle.mcf_figures.specs.FigureLaws.{HasPlanAt, IsPriced}
-use Rattle.mcf_unit_ranges.specs.Changes.{with_units}
+use Rattle.mcf_unit_ranges.specs.Changes.{with_room, with_units}
+use Rattle.mcf_unit_ranges.specs.Spans.{directed}
 
 -- what d units more from u to w make of the cost of a plan, if each costs the difference of the
 -- prices of u and w
@@ -28,3 +31,20 @@ UnitsCostNoLess =
     (m : Model) (prices plan other : List ℤ) (u w : ℕ) (d k : ℤ) → IsSound m → IsPriced m prices plan → IsNode (length m.supplies) u
     → IsNode (length m.supplies) w → pos 1 ≤ℤ k → IsPlan (scaled k (with_units m u w d)) other
     → (k *ℤ told_cost m prices plan u w d) ≤ℤ plan_cost (scaled k (with_units m u w d)) other
+
+-- ---- room on a route
+
+-- in some finer units, some plan with d units more room on route k costs less by just d savings
+pub record SavingHoldsFor (m : Model) (prices plan : List ℤ) (k : ℕ) (d : ℤ) : Type 0 where
+  pub finer : ℤ
+  pub is_finer : pos 1 ≤ℤ finer
+  pub reached : HasPlanAt (scaled finer (with_room m k d)) (finer *ℤ (plan_cost m plan -ℤ d *ℤ saving prices (route_at m k)))
+
+-- where room on a route saves something, it saves that for so many units as units from the route's
+-- head to its tail cost what the prices say: the route carries them back
+abbrev pub RoomIsUnits : Type 0
+RoomIsUnits =
+    (m : Model) (prices plan : List ℤ) (k : ℕ) (d : ℤ) → IsSound m → IsPriced m prices plan → IsRouteNumber m k
+    → pos 0 <ℤ saving prices (route_at m k) → pos 0 ≤ℤ d
+    → SavingHoldsFor m prices plan k d
+    ↔ HoldsFor m prices plan (directed prices (route_at m k)).head (directed prices (route_at m k)).tail d

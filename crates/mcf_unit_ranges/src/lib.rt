@@ -17,7 +17,7 @@ mod rooms;
 mod rows;
 mod spans;
 
-pub use laws::units_cost_no_less;
+pub use laws::{room_is_units, units_cost_no_less};
 pub use limits::UNITS_LIMIT;
 pub use ranging::{UnitsRange, units_range};
 pub use rows::Ends;
