@@ -78,7 +78,7 @@ export class Problem {
 
   // This method returns lines on how the tables were read, beside sums by these columns.
   /** @type {(policy: Policy, by?: import('./sums.js').FlowColumn[]) => string[]} */
-  told({ short, ranges }, by = []) {
+  told({ short }, by = []) {
     const { placeTable, routeTable } = this, hasSpots = placeTable.has(SPOT_HEADS);
     const cells = numberCells({ places: placeTable, routes: routeTable });
     const known = [
@@ -95,9 +95,6 @@ export class Problem {
       ...(empty ? [`${countOf(empty, 'empty supply is', 'empty supplies are')} read as 0.`] : []),
       ...(isUnused
         ? [`Penalties aren't used, since no demand may be short (${words().short}).`]
-        : []),
-      ...(ranges && this.periods.length
-        ? ['Over periods no ranges of costs are told: they are unknown.']
         : []),
       ...carriedLines([
         ...carriedOf(placeTable, known, placesIn('places')),

@@ -64,6 +64,13 @@ export class FlowPlan {
       problem.routes.map((route) => this.keyOf(route))
     );
     this.ranges = problem.routes.map((route, k) => this.range(route, changes[k]));
+    const keeping = new Map(answer.rows('keep range').map(([, name, down, up, period]) =>
+      [JSON.stringify([name, period]), [down, up]]
+    ));
+    this.storeRanges = problem.stores.map((store) => this.range(
+      store,
+      keeping.get(JSON.stringify([problem.places[store.tail - 1].name, store.departs]))
+    ));
     /** @type {Map<string, number>} */
     const groups = new Map();
     /** @type {PlaceResult[]} */

@@ -51,7 +51,7 @@ export function flowsTable(plan) {
   const rows = problem.routes.map((route, k) => [
     route.cells,
     [
-      ...cellsOf(plan, plan.routes[k]), ...rangeCells(plan, k),
+      ...cellsOf(plan, plan.routes[k]), ...rangeCells(plan, plan.ranges[k]),
       ...periods(route.departs, route.arrives),
     ],
   ]);
@@ -83,20 +83,20 @@ export function stockTables(plan) {
     ? [{
       name: 'stock',
       like: problem.placeTable,
-      heads: STOCK,
-      rows: problem.stores.map(({ tail, departs, arrives }, k) =>
-        [problem.places[tail - 1].name, departs, arrives, ...cellsOf(plan, plan.stores[k])]
-      ),
-      figures: STOCK.map((_, k) => k).slice(3),
+      heads: plan.hasRanges ? [...STOCK, ...RANGE_RESULTS] : STOCK,
+      rows: problem.stores.map(({ tail, departs, arrives }, k) => [
+        problem.places[tail - 1].name, departs, arrives, ...cellsOf(plan, plan.stores[k]),
+        ...rangeCells(plan, plan.storeRanges[k]),
+      ]),
+      figures: [...STOCK, ...plan.hasRanges ? RANGE_RESULTS : []].map((_, k) => k).slice(3),
     }]
     : [];
 }
 
 // This function returns from what to what the cost of a route may change, if the plan has ranges.
-/** @type {(plan: FlowPlan, k: number) => string[]} */
-export function rangeCells({ hasRanges, ranges, problem: { units } }, k) {
+/** @type {(plan: FlowPlan, range: CostRange | null) => string[]} */
+export function rangeCells({ hasRanges, problem: { units } }, range) {
   if (!hasRanges) return [];
-  const range = ranges[k];
   return range ? [units.rate(range.low), units.rate(range.high)] : ['unknown', 'unknown'];
 }
 

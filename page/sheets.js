@@ -67,7 +67,7 @@ export function planShown(plan) {
       'No plan for these tables costs less.',
       ...besideLines(plan),
       ...problem.told(plan.policy, [views.columns[views.chosen]]),
-      ...(plan.hasRanges && !plan.problem.periods.length ? [RANGES] : []),
+      ...(plan.hasRanges ? [RANGES] : []),
     ],
     facts,
     findings: [],
@@ -176,7 +176,7 @@ function routesSheet(plan) {
         saves ? units.rate(saves) : '',
         saves ? (isExact ? 'exactly' : 'at most') : '',
         units.rate(dearer),
-        ...rangeCells(plan, k),
+        ...rangeCells(plan, plan.ranges[k]),
         ...own.map((place) => cellAt(route.cells, place)),
       ],
     };

@@ -69,7 +69,7 @@ def plan_page(plan, options, pictures, sums):
         facts += [(shown_number(problem, total, options.unit), words)] if found else []
     lead = warnings(problem) + ["No plan for these tables costs less."]
     lead += report.beside_lines(plan) + notes_of(problem)
-    lead += [report.RANGES] * (plan.has_ranges and not problem.periods)
+    lead += [report.RANGES] * plan.has_ranges
     return Page(
         options.title or "A least-cost plan",
         f"Least cost: {shown_number(problem, plan.cost, options.currency)}",

@@ -244,19 +244,12 @@ def penalty_lines(problem):
     return ["Penalties aren't used, since no demand may be short (--short allow lets it be short)."]
 
 
-def range_lines(problem):
-    """A line on ranges that can't be told, if they are asked for."""
-    is_asked = problem.options.ranges and problem.periods
-    return ["Over periods no ranges of costs are told: they are unknown."] if is_asked else []
-
-
 def notes_of(problem):
     """The notes on the tables of places and routes."""
     words, tables = ("places", "routes"), (problem.place_table, problem.route_table)
     sheets = problem.place_sheet, problem.route_sheet
     cells = [cell for one in zip(words, tables, sheets) for cell in number_cells(*one)]
     lines = prepared_lines(tables) + supply_lines(problem) + penalty_lines(problem)
-    lines += range_lines(problem)
     used = columns_named(problem.options.by, tables_of(problem))
     lines += carried_lines(words, tables, sheets, used)
     return lines + reading_lines(cells, problem, problem.options.decimal)

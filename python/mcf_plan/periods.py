@@ -125,3 +125,12 @@ class PeriodProblem(Problem):
         )
         found = told_in_turn(rows, map(self.key, self.routes))
         return [cost_range(*one) for one in zip(self.routes, found)]
+
+    def store_ranges(self):
+        """The ranges of the costs of what places keep, or None for one that isn't told."""
+        found = {
+            (name, period): (number_in(low), number_in(high))
+            for _, name, low, high, period, _ in self.answer.rows["keep range"]
+        }
+        keys = ((self.places[one.tail - 1].name, one.departs) for one in self.stores)
+        return [cost_range(*one) for one in zip(self.stores, map(found.get, keys))]

@@ -182,6 +182,10 @@ class Problem:
         found = told_in_turn(rows, [(route.line, *self.ends(route)) for route in self.routes])
         return [cost_range(*one) for one in zip(self.routes, found)]
 
+    def store_ranges(self):
+        """The ranges of the costs of what places keep."""
+        return []
+
 
 class Plan:
     """The results of a plan for each route and each place."""
@@ -192,6 +196,7 @@ class Plan:
         groups, rows = {}, problem.answer.rows["place"]
         self.places = [place_result(cells[2:], groups) for cells in rows]
         self.has_ranges, self.ranges = problem.options.ranges, problem.ranges()
+        self.store_ranges = problem.store_ranges()
 
     def is_full(self, number):
         """Whether a route carries its whole capacity, and more than 0."""

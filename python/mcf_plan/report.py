@@ -66,11 +66,12 @@ def write_stock(results, plan):
     """Writes stock.csv, if there are periods: what places keep from each to the next."""
     problem = plan.problem
     if problem.periods:
-        rows = [
-            [problem.places[one.tail - 1].name, one.departs, one.arrives, *result_cells(result)]
-            for one, result in zip(problem.stores, plan.stores)
-        ]
-        results.table("stock", problem.place_table, problem.place_sheet, STOCK, rows)
+        rows = []
+        for one, result, told in zip(problem.stores, plan.stores, plan.store_ranges):
+            cells = result_cells(result) + range_cells(plan, told)
+            rows.append([problem.places[one.tail - 1].name, one.departs, one.arrives, *cells])
+        heads = STOCK + RANGE_RESULTS * plan.has_ranges
+        results.table("stock", problem.place_table, problem.place_sheet, heads, rows)
 
 
 def result_cells(result):

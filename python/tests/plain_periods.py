@@ -135,6 +135,18 @@ class PeriodProblem:
             flat.append(["route", str(number), "", "", *found.pop(0)])
         return None if any(told.values()) else flat
 
+    def flat_ranges(self, rows, lines):
+        """The ranges of stores and departures as rows of ranges without periods."""
+        told = collections.defaultdict(list)
+        for word, count in (("keep range", 1), ("range", 2)):
+            for line, *cells in rows.by_word[word]:
+                told[(word, line, *cells[:count], *cells[-2:])].append(cells[count:-2])
+        for number, move in enumerate(self.moves()):
+            word = "keep range" if move.word == "keep" else "range"
+            found = told[(word, *self.key(move, lines)[1:])]
+            if found:
+                yield ["range", str(number), "", "", *found.pop(0)]
+
     def has_all_places(self, rows, lines):
         """Whether the rows of places are those of all places in all periods, in order."""
         wanted = [
@@ -151,6 +163,7 @@ class PeriodProblem:
         if flat is None or not self.has_all_places(rows, lines):
             return None
         flat += [["place", *cells[:-1]] for cells in rows.by_word["place"]]
+        flat += self.flat_ranges(rows, lines)
         words = ("answer", "cost", "missing", "supply", "demand")
         return Rows(flat + [[word, *cells] for word in words for cells in rows.by_word[word]])
 

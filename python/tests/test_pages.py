@@ -166,10 +166,7 @@ class Pages(WithFolder):
         for line in ("What places keep costs 10 of that", "Passing through places costs 10 of"):
             self.assertIn(f"\n{line}", said)
             self.assertIn(f"<p>{line}", self.page())
-        self.assertIn(
-            "<p>Over periods no ranges of costs are told: they are unknown.</p>", self.page()
-        )
-        self.assertNotIn("The plan stays least while", self.page())
+        self.assertIn("The plan stays least while", self.page())
 
     def test_what_blocks(self):
         self.flow("name,supply\nA,5\nB,-5\n", "from,to,most,cost\nA,B,4,1\n")

@@ -5,10 +5,11 @@ import unittest
 
 from plain_periods import period_tables, random_period_problem
 from plain_plans import is_bottleneck, why_no_plan, why_wrong_figures
+from plain_ranges import why_wrong_ranges
 from random_tables import Notation
 from test_planner import PROGRAM, Answering, repeated, rows_of
 
-CASES, FIGURE_CASES = 500, 60
+CASES, FIGURE_CASES, RANGE_CASES = 500, 60, 60
 
 
 def faulty(places, routes, *faults):
@@ -17,8 +18,26 @@ def faulty(places, routes, *faults):
     return places, routes, [tuple(fault.split(", ", 3)) for fault in faults]
 
 
-# Tables with faults about periods.
+# Tables with faults about periods. All faults of heads are told at once, and all of rows.
 FAULTS = [
+    faulty(
+        "nmae,supply,perod\nA,1,Jan\nA,-1,\n",
+        "from,to,most,cost,lead\nA,A,1,x,1\n",
+        "places, 1, name, no such column",
+        "places, 1, 1, nearly name",
+        "routes, 1, lead, not read without period",
+        "places, 1, 3, nearly period",
+    ),
+    faulty(
+        "name,supply,period,keep most\nA,x,Jan,y\nA,-1,Feb,\n",
+        "from,to,most,cost,lead,period\nA,B,1,x,1.5,May\n",
+        "places, 2, supply, no number",
+        "routes, 2, to, no such place",
+        "routes, 2, cost, no number",
+        "places, 2, keep most, no number",
+        "routes, 2, period, no such period",
+        "routes, 2, lead, no number of periods",
+    ),
     faulty(
         "name,supply,period\nA,1,Jan\nA,-1,Jan\n",
         "from,to,most,cost\nA,A,1,1\n",
@@ -83,9 +102,9 @@ FAULTS = [
 class Periods(Answering):
     """Random problems over periods, whose tables are written in random ways."""
 
-    def asked(self, rng, late):
+    def asked(self, rng, late, *more):
         """A random problem, the rows of its tables by line, and the status and the rows of the
-        answer."""
+        answer with further options."""
         notation = Notation(rng)
         problem = random_period_problem(rng, notation, late)
         texts = [notation.text(*table) for table in period_tables(rng, notation, problem)]
@@ -96,7 +115,7 @@ class Periods(Answering):
         words += ["--unused", "allow"] * policy.unused + ["--short", "allow"] * policy.short
         if policy.penalty is not None:
             words.append(f"--penalty={notation.plain(policy.penalty)}")
-        return problem, texts, tables, *self.answered(["flow", *words], texts)
+        return problem, texts, tables, *self.answered(["flow", *words, *more], texts)
 
     def lines(self, tables):
         """The lines of the rows below the heads of both tables."""
@@ -168,6 +187,18 @@ class Periods(Answering):
                 with self.subTest(texts=texts, policy=problem.policy):
                     told = problem.flat_plan(rows, self.lines(tables))
                     self.assertIsNone(why_wrong_figures(flat, told))
+
+    def test_random_ranges(self):
+        rng, seen = random.Random(20261130), collections.Counter()
+        while seen[0] < RANGE_CASES:
+            problem, texts, tables, status, rows = self.asked(rng, 0.0, "--ranges", "yes")
+            seen[status] += 1
+            if status == 0:
+                seen["keep"] += len(rows.by_word["keep range"])
+                with self.subTest(texts=texts, policy=problem.policy):
+                    told = problem.flat_plan(rows, self.lines(tables))
+                    self.assertIsNone(why_wrong_ranges(problem.flat(), told))
+        self.assertLess(RANGE_CASES / 2, seen["keep"])
 
 
 if __name__ == "__main__":
