@@ -1,3 +1,4 @@
 mod Told
 mod DearerPeriods
+mod OriginsOver
 mod PeriodRangeLaws

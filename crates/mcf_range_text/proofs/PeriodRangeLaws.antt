@@ -3,21 +3,28 @@ use Rattle.std.proofs.Common.{◌≡◌, ℕ, suc, ◌+◌, ◌-◌, Bool, true,
 use Rattle.std.specs.Prelude.{Option, Some, None, IfSome}
 use Rattle.std.proofs.lemmas.Int.{ints}
 use Rattle.std.proofs.lemmas.List.{length-set, take-append-drop}
+use Rattle.mcf_flow_tables.specs.declared.period_answer.SolvedPeriods.{SolvedPeriods}
 use Rattle.mcf_flows.specs.Network.{IsNode}
+use Rattle.mcf_period_units.specs.Made.{ComeFrom, periods_in}
+use Rattle.mcf_period_units.specs.PeriodEntries.{PeriodEntries}
 use Rattle.mcf_periods.specs.Flat.{flat, flat_plan, period_plan}
 use Rattle.mcf_periods.specs.PeriodAnswers.{plan_over}
 use Rattle.mcf_periods.specs.PeriodLaws.{IsTimely, LeastFlatPlansAreLeast, PeriodPlansAreFlat}
 use Rattle.mcf_periods.specs.Periods.{IsLeastPeriodPlan, IsNoWorseIn, PeriodPlan, Periods, all_missing, misses_least_in, period_cost}
 use Rattle.mcf_places.specs.declared.answering.LeastPlannerPlan.{LeastPlannerPlan}
+use Rattle.mcf_places.specs.PlannerFaults.{IsProperPlanner}
 use Rattle.mcf_places.specs.PlannerLaws.{IsSound}
 use Rattle.mcf_places.specs.Planners.{IsLeastPlan, IsNoWorse, IsPlan, Plan, Planner, cost, total_missing}
 use Rattle.mcf_places.specs.Planning.{plan_in}
 use Rattle.mcf_planner_ranges.specs.PlannerRanges.{IsPlannerRange, with_dearer}
-use Rattle.mcf_range_text.specs.PeriodRangeTexts.{AreRouteRanges}
-use Rattle.mcf_range_text.specs.PeriodRanges.{AreRangesOver, FlatRangesArePeriodRanges, IsDepartureRange, IsStoreRange, ToldRangesArePeriodRanges, dearer_store, no_store, with_dearer_departure, with_dearer_store}
+use Rattle.mcf_range_text.specs.PeriodRangeTexts.{AreFlatRanges, AreRouteRanges}
+use Rattle.mcf_range_text.specs.PeriodRanges.{AreRangesOver, FlatRangesArePeriodRanges, HaveOrigins, IsDepartureRange, IsStoreRange, ToldRangesArePeriodRanges, dearer_store, no_store, with_dearer_departure, with_dearer_store}
 use Rattle.mcf_range_text.proofs.DearerPeriods.{dearer_flat_sound, departure_flat, departure_number, departure_timely, store_flat, store_number, store_timely}
+use Rattle.mcf_range_text.proofs.OriginsOver.{have_origins}
 use Rattle.mcf_ranges.specs.declared.range.CostRange.{CostRange}
 use Rattle.mcf_ranges.specs.Ranges.{IsInRange}
+use Rattle.mcf_units.specs.declared.scales.Scales.{Scales}
+use Rattle.mcf_units.specs.declared.terms.Terms.{Terms}
 
 -- ---- least plans
 
@@ -108,5 +115,18 @@ module _ (law : FlatRangesArePeriodRanges) (P : Periods) (p : LeastPlannerPlan) 
   are_over : AreRangesOver P x ranges
   are_over = record { stores = store_told; departures = departure_told }
 
-pub told_ranges_lem : FlatRangesArePeriodRanges → ToldRangesArePeriodRanges
-told_ranges_lem law P p ranges timely sound told = are_over law P p ranges timely sound told
+module _ (law : FlatRangesArePeriodRanges) where
+  over_tables : (E : PeriodEntries) (terms : Terms) (s : SolvedPeriods) (p : LeastPlannerPlan) (ranges : List (Option CostRange)) (t : Scales)
+      → ComeFrom t E s.origins → s.planner ≡ flat (periods_in t E terms) → IsProperPlanner s.planner → AreRouteRanges s.planner p ranges
+      → IsTimely (periods_in t E terms)
+      → HaveOrigins (periods_in t E terms) s.origins × AreRangesOver (periods_in t E terms) (plan_over (periods_in t E terms) p) ranges
+  over_tables E terms s p ranges t come is proper told timely =
+      let P = periods_in t E terms in
+      let sound = (subst IsProperPlanner is proper).sound in
+      (have_origins t E terms s.origins come, are_over law P p ranges timely sound (subst (λ (F : Planner). AreRouteRanges F p ranges) is told))
+
+  pub told_ranges_lem : ToldRangesArePeriodRanges
+  told_ranges_lem E terms s p ranges h least told timely =
+      let scaled = sym h.1 in
+      over_tables E terms s p ranges s.scales (subst (λ t. ComeFrom t E s.origins) scaled h.3)
+      (h.4 ∙ ap (λ t. flat (periods_in t E terms)) scaled) h.5 (subst (λ a. AreFlatRanges s.planner a ranges) least told) timely

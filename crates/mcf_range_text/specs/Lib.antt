@@ -1,7 +1,9 @@
 pub use Rattle.mcf_plan_text.specs.PlanTexts
 pub use Rattle.mcf_planner_ranges.specs.PlannerRanges
+pub use Rattle.mcf_flow_tables.specs.PeriodTableAnswers
 pub use Rattle.mcf_period_text.specs.PeriodAnswerRows
 pub use Rattle.mcf_period_text.specs.TimedTables
+pub use Rattle.mcf_period_units.specs.Made
 pub use Rattle.mcf_periods.specs.Flat
 pub use Rattle.mcf_periods.specs.PeriodAnswers
 pub use Rattle.mcf_periods.specs.PeriodLaws

@@ -1,22 +1,30 @@
 -- By how much the cost of a unit that a store keeps, or that a departure carries, may change while
 -- a plan over periods stays least.
 -- Source: AMO 9.11, for problems over periods
-use Rattle.std.specs.Prelude.{ℕ, ◌+◌, ◌-◌, List, length, ℤ, pos, ◌+ℤ◌, Option, Some, None, IfSome, slice_index_or, slice_set, ◌↔◌}
+use Rattle.std.specs.Prelude.{◌≡◌, ℕ, ◌+◌, ◌-◌, List, length, ℤ, pos, ◌+ℤ◌, Option, Some, None, IfSome, slice_index_or, slice_set, ◌↔◌}
+use Rattle.mcf_flow_tables.specs.PeriodTableAnswers.{IsSolvedOver}
+use Rattle.mcf_flow_tables.specs.declared.period_answer.PeriodAnswer.TheVariants.{Solved}
+use Rattle.mcf_flow_tables.specs.declared.period_answer.SolvedPeriods.{SolvedPeriods}
 use Rattle.mcf_flows.specs.Network.{IsNode}
 use Rattle.mcf_model.specs.Tables.{no_route}
+use Rattle.mcf_period_units.specs.Made.{periods_in}
+use Rattle.mcf_period_units.specs.PeriodEntries.{PeriodEntries}
+use Rattle.mcf_period_units.specs.declared.origins.PeriodOrigins.{PeriodOrigins}
 use Rattle.mcf_periods.specs.declared.rows.Store.{Store}
 use Rattle.mcf_periods.specs.Flat.{flat, period_plan}
 use Rattle.mcf_periods.specs.PeriodAnswers.{plan_over}
 use Rattle.mcf_periods.specs.PeriodLaws.{IsTimely}
 use Rattle.mcf_periods.specs.Periods.{Departure, IsLeastPeriodPlan, PeriodPlan, Periods}
 use Rattle.mcf_places.specs.declared.answering.LeastPlannerPlan.{LeastPlannerPlan}
+use Rattle.mcf_places.specs.declared.answering.PlannerAnswer.TheVariants.{Least}
 use Rattle.mcf_places.specs.PlannerLaws.{IsSound}
 use Rattle.mcf_places.specs.Planners.{Plan}
 use Rattle.mcf_plan_ranges.specs.Changes.{dearer}
 use Rattle.mcf_planner_ranges.specs.PlannerRanges.{IsPlannerRange}
 use Rattle.mcf_ranges.specs.declared.range.CostRange.{CostRange}
 use Rattle.mcf_ranges.specs.Ranges.{IsInRange}
-use Rattle.mcf_range_text.specs.PeriodRangeTexts.{AreRouteRanges}
+use Rattle.mcf_units.specs.declared.terms.Terms.{Terms}
+use Rattle.mcf_range_text.specs.PeriodRangeTexts.{ArePeriodRanges}
 
 -- ---- dearer problems
 
@@ -71,8 +79,17 @@ pub record FlatRangesArePeriodRanges : Type 0 where
   pub departures : (P : Periods) (y : Plan) (k : ℕ) (range : CostRange) → IsTimely P → IsSound (flat P) → IsNode (length P.departures) k
       → IsPlannerRange (flat P) y (length P.stores + k) range → IsDepartureRange P (period_plan P y) k range
 
--- the ranges that are told of the problem without periods are ranges of the plan over periods
+-- each store and each departure of a problem has one origin
+pub record HaveOrigins (P : Periods) (origins : PeriodOrigins) : Type 0 where
+  pub by_store : length origins.stores.items ≡ length P.stores
+  pub by_departure : length origins.departures.items ≡ length P.departures
+
+-- What is told of the answer to what tables say over periods has a place for each store and each
+-- departure of their problem, in the order of their origins, and the ranges that are told are those
+-- of the plan over periods.
 abbrev pub ToldRangesArePeriodRanges : Type 0
 ToldRangesArePeriodRanges =
-    (P : Periods) (p : LeastPlannerPlan) (ranges : List (Option CostRange)) → IsTimely P → IsSound (flat P) → AreRouteRanges (flat P) p ranges
-    → AreRangesOver P (plan_over P p) ranges
+    (E : PeriodEntries) (terms : Terms) (s : SolvedPeriods) (p : LeastPlannerPlan) (ranges : List (Option CostRange)) → IsSolvedOver E terms (Solved s)
+    → s.answer ≡ Least p → ArePeriodRanges (Solved s) ranges → IsTimely (periods_in s.scales E terms)
+    → HaveOrigins (periods_in s.scales E terms) s.origins
+    × AreRangesOver (periods_in s.scales E terms) (plan_over (periods_in s.scales E terms) p) ranges

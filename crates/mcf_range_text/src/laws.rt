@@ -13,9 +13,10 @@ pub fn flat_ranges_are_period_ranges()
     least_flat_plans_are_least();
 }
 
-/// The ranges that are told of the problem without periods are those of the problem over periods:
-/// each change of the cost of what one store keeps, or one departure carries, keeps the plan over
-/// periods least exactly if it is in the range that is told of it.
+/// The ranges that are told of tables over periods are those of their problem over periods, with a
+/// place for each of its stores and each of its departures: each change of the cost of what one
+/// store keeps, or one departure carries, keeps the plan over periods least exactly if it is in the
+/// range that is told of it.
 pub fn told_ranges_are_period_ranges()
     ensures { ToldRangesArePeriodRanges }
 {
