@@ -19,7 +19,6 @@ use Rattle.mcf_places.specs.declared.answering.PlannerAnswer.TheVariants.{Beyond
 use Rattle.mcf_places.specs.Planners.{Planner, row_count}
 use Rattle.mcf_places.specs.Planning.{plan_in}
 use Rattle.mcf_plan_ranges.specs.PlanRanges.{AreWithinLimits}
-use Rattle.mcf_plan_rows.specs.Cells.{rate_text, text_if}
 use Rattle.mcf_plan_rows.specs.FaultRows.{TwoTables}
 use Rattle.mcf_plan_text.specs.PlanTexts.{IsPlanText, answer_kind, answer_rows, said_tables}
 use Rattle.mcf_planner_ranges.specs.PlannerRanges.{IsPlannerRange}
@@ -27,7 +26,7 @@ use Rattle.mcf_ranges.specs.declared.range.CostRange.{CostRange}
 use Rattle.mcf_table.specs.Texts.{Record}
 use Rattle.mcf_table.specs.Written.{table_text}
 use Rattle.mcf_units.specs.declared.scales.Scales.{Scales}
-use Rattle.mcf_range_text.specs.PeriodRangeTexts.{ArePeriodRanges, period_range_rows}
+use Rattle.mcf_range_text.specs.PeriodRangeTexts.{ArePeriodRanges, end_cells, period_range_rows}
 
 -- ---- ranges
 
@@ -72,12 +71,10 @@ AreRanges (Tables said) ranges = AreTableRanges said.answer ranges
 
 -- ---- their rows
 
--- the range of the route of a row: `range`, its line, its ends, and by how much the cost of a unit
--- may fall and rise; a cell is empty without a limit
+-- the range of the route of a row: `range`, its line, its ends, and the ends of the range
 abbrev pub range_row : Scales → List Record → ℕ → CostRange → List (List ℕ)
 range_row scales routes row range =
-    codes "range" ∷ decimal (line_at routes row) ∷ cell_under (codes "from") routes row ∷ cell_under (codes "to") routes row
-    ∷ text_if (rate_text scales) range.down ∷ text_if (rate_text scales) range.up ∷ []
+    codes "range" ∷ decimal (line_at routes row) ∷ cell_under (codes "from") routes row ∷ cell_under (codes "to") routes row ∷ end_cells scales range
 
 -- the ranges that are told of rows, of which the first has a given number
 abbrev pub told_rows : Scales → List Record → ℕ → List (Option CostRange) → List (List (List ℕ))
