@@ -2,6 +2,7 @@
 // The heads of results, and the columns that results copy.
 import { BadTable, listed, shown } from './faults.js';
 import { cellAt, fold } from './tables.js';
+import { words } from './words.js';
 
 /** @typedef {import('./tables.js').Table} Table */
 
@@ -102,6 +103,28 @@ const NO_FLOW = [
   ],
 ];
 
+// What a table says otherwise than by a column of its own: the word of the table, heads that
+// planners give it, and how it is said.
+/** @type {[word: string, heads: string, told: (name: string) => string][]} */
+const OTHERWISE = [
+  ['places', 'demand, demands, need, bedarf, nachfrage', () => 'a demand is a supply below 0'],
+  [
+    'places',
+    'lat, latitude, breite, breitengrad',
+    (name) => `in the picture it is y if you say so: ${words().named('y', name)}`,
+  ],
+  [
+    'places',
+    'lon, long, lng, longitude, länge, längengrad',
+    (name) => `in the picture it is x if you say so: ${words().named('x', name)}`,
+  ],
+  [
+    'costs',
+    'day, date, week, skill, qualification, tag, datum, woche, qualifikation',
+    () => `how many of each one a person or a thing gets, ${words().groups}`,
+  ],
+];
+
 // This function returns a line that lists the copied columns without a use, if there are any, and
 // one on each column about what no minimum-cost flow can do.
 /** @type {(columns: Carried[]) => string[]} */
@@ -114,12 +137,32 @@ export function carriedLines(columns) {
   ];
 }
 
+// This function returns lines on the copied columns without a use that say what a table says
+// otherwise. Positions and groups are told only where they aren't there, and groups only where
+// persons take several things.
+/** @type {(word: string, columns: Carried[], table: Table, hasGroups?: boolean) => string[]} */
+export function otherwiseLines(word, columns, table, hasGroups = false) {
+  const takes = table.reader(['takes']);
+  const isSaid = word === 'costs'
+    ? hasGroups || !table.rows.some(({ cells }) => takes(cells)[0])
+    : table.has(['x', 'y']);
+  return columns.filter(({ isUsed }) => !isUsed).flatMap(({ name }) =>
+    OTHERWISE.filter(([of, heads], k) =>
+      of === word && !(k && isSaid) && heads.split(', ').includes(bareHead(name))
+    ).map(([, , told]) => `Column ${name}: ${told(name)}.`)
+  );
+}
+
+// This function returns a head as it is compared, without a unit between brackets after it.
+/** @type {(name: string) => string} */
+const bareHead = (name) => fold(name.replace(/[([].*/, '').replace(/[-_ ]+/g, ' ').trim());
+
 // This function returns a line on a column, if its name is that of what no minimum-cost flow can
-// do. A unit between brackets after the name doesn't count.
+// do.
 /** @type {(name: string) => string[]} */
 function beyondLines(name) {
-  const head = fold(name.replace(/[([].*/, '').replace(/[-_ ]+/g, ' ').trim());
-  return NO_FLOW.filter(([heads]) => heads.split(', ').includes(head)).map(([, what, other]) =>
+  const found = NO_FLOW.filter(([heads]) => heads.split(', ').includes(bareHead(name)));
+  return found.map(([, what, other]) =>
     `Column ${name}: a minimum-cost flow can't ${what}; ${other} can.`
   );
 }

@@ -12,7 +12,7 @@ import {
   settledBy,
 } from './amounts.js';
 import { Faults, countOf } from './faults.js';
-import { carriedLines, carriedOf } from './heads.js';
+import { carriedLines, carriedOf, otherwiseLines } from './heads.js';
 import {
   departuresOf, firstOf, labelIn, periodsOf, placesOver, storesOf,
 } from './periods.js';
@@ -87,6 +87,7 @@ export class Problem {
     ];
     const placesIn = (/** @type {string} */ word) =>
       by.filter(([table]) => table === word).map(([, place]) => place);
+    const carried = carriedOf(placeTable, known, placesIn('places'));
     const isUnused = !short && this.places.some(({ penalty }) => penalty !== null);
     const supply = placeTable.heads.indexOf('supply');
     const empty = placeTable.rows.filter(({ cells: row }) => !cellAt(row, supply)).length;
@@ -97,9 +98,10 @@ export class Problem {
         ? [`Penalties aren't used, since no demand may be short (${words().short}).`]
         : []),
       ...carriedLines([
-        ...carriedOf(placeTable, known, placesIn('places')),
+        ...carried,
         ...carriedOf(routeTable, ROUTE_HEADS, placesIn('routes'), true),
       ]),
+      ...otherwiseLines('places', carried, placeTable),
       ...readLine(settledBy(cells, this.mark), this.mark, this.reading),
     ];
   }

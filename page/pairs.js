@@ -3,7 +3,7 @@
 import { Said, Units, decimalsOf, exactOf, scaled, settledBy } from './amounts.js';
 import { TOLD_NAMES, countOf, listed } from './faults.js';
 import { groupLines, leftOutLines } from './groups.js';
-import { carriedLines, carriedOf } from './heads.js';
+import { carriedLines, carriedOf, otherwiseLines } from './heads.js';
 import { partsOf } from './network.js';
 import { FORBIDDEN, NEEDED, isList, numberCells, readLine } from './sentences.js';
 import { Table, cellAt, fold, notesOf } from './tables.js';
@@ -118,12 +118,14 @@ export class Roster {
   // matrix has no unused columns.
   told(by = /** @type {number[]} */ ([])) {
     const known = [...NEEDED.costs, 'takes', 'needs'], cells = numberCells({ costs: this.table });
+    const carried = this.isList ? carriedOf(this.table, known, by) : [];
     return [
       ...this.notes,
       ...carriedLines([
-        ...(this.isList ? carriedOf(this.table, known, by) : []),
+        ...carried,
         ...(this.groupTable ? carriedOf(this.groupTable, GROUP_HEADS, []) : []),
       ]),
+      ...otherwiseLines('costs', carried, this.table, Boolean(this.groupTable)),
       ...readLine(settledBy(cells, this.mark), this.mark, this.reading),
     ];
   }

@@ -47,6 +47,7 @@ export const TOOL = {
   ofAll: 'or say --penalty N for all that have none',
   each: 'With --each what each thing would get a person',
   both: 'with --each both',
+  groups: 'a table of groups says (--groups)',
   leaves: '--crossing check leaves',
   limits: 'LIMITS in `man mcf`',
 };

@@ -185,6 +185,7 @@ interface Speech {
   ofAll: string;
   each: string;
   both: string;
+  groups: string;
   leaves: string;
   limits: string;
 }

@@ -19,6 +19,7 @@ const OWN_WORDS = {
   ofAll: 'or write one under Choices for all that have none',
   each: 'If you choose that each thing gets a person, each would get one',
   both: 'if you choose person and each thing under Choices,',
+  groups: 'a table of groups says',
   leaves: 'a choice leaves',
   limits: 'supplies and amounts go up to 10^18, costs up to 10^15',
 };

@@ -72,6 +72,26 @@ NO_FLOW = (
         "a vehicle-routing solver such as VROOM",
     ),
 )
+# What a table says otherwise than by a column of its own: the word of the table, heads that
+# planners give it, and how it is said.
+OTHERWISE = (
+    ("places", "demand, demands, need, bedarf, nachfrage", "a demand is a supply below 0"),
+    (
+        "places",
+        "lat, latitude, breite, breitengrad",
+        "in the picture it is y if you say so: --map y={name}",
+    ),
+    (
+        "places",
+        "lon, long, lng, longitude, länge, längengrad",
+        "in the picture it is x if you say so: --map x={name}",
+    ),
+    (
+        "costs",
+        "day, date, week, skill, qualification, tag, datum, woche, qualifikation",
+        "how many of each one a person or a thing gets, a table of groups says (--groups)",
+    ),
+)
 # The names of each table, and what stands for one in a row of totals.
 NAMES = {"places": ("name",), "routes": ("from", "to"), "costs": ("who", "what")}
 TOTALS = (
@@ -111,19 +131,44 @@ def carried_lines(words, tables, sheets, used):
     columns = [column for one in zip(words, tables, sheets) for column in carried(*one)]
     names = listed(list(dict.fromkeys(name for one, name in columns if one not in used)), NAMED)
     lines = [f"Columns carried along, not used: {names}."] if names else []
-    return lines + [
+    lines += [
         line for name in dict.fromkeys(name for _, name in columns) for line in beyond_lines(name)
+    ]
+    named = [(word, name) for (word, place), name in columns if (word, place) not in used]
+    has_own = has_otherwise(dict(zip(words, sheets)))
+    return lines + [
+        f"Column {name}: {told.format(name=name)}."
+        for word, name in named
+        for table, heads, told in OTHERWISE
+        if word == table and plain_head(name) in heads.split(", ") and not has_own[told]
     ]
 
 
+def has_otherwise(sheets):
+    """Whether tables say what the columns of OTHERWISE would, or don't need it: positions, and
+    groups, which count only where persons take several things."""
+    costs = sheets.get("costs")
+    takes = costs and any(cell_at(cells, costs.place("takes")) for _, cells in costs.rows)
+    is_said = {
+        "demand": False,
+        "lat": "places" in sheets and sheets["places"].has(SPOT_HEADS),
+        "lon": "places" in sheets and sheets["places"].has(SPOT_HEADS),
+        "day": "groups" in sheets or not takes,
+    }
+    return {told: is_said[heads.split(", ")[0]] for _, heads, told in OTHERWISE}
+
+
+def plain_head(name):
+    """A head as it is compared, without a unit between brackets after it."""
+    return re.sub("[-_ ]+", " ", re.sub(r"[(\[].*", "", name)).strip().casefold()
+
+
 def beyond_lines(name):
-    """A line on a column, if its name is that of what no minimum-cost flow can do. A unit between
-    brackets after the name doesn't count."""
-    head = re.sub("[-_ ]+", " ", re.sub(r"[(\[].*", "", name)).strip().casefold()
+    """A line on a column, if its name is that of what no minimum-cost flow can do."""
     return [
         f"Column {name}: a minimum-cost flow can't {what}; {other} can."
         for heads, what, other in NO_FLOW
-        if head in heads.casefold().split(", ")
+        if plain_head(name) in heads.casefold().split(", ")
     ]
 
 
