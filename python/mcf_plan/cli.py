@@ -11,7 +11,7 @@ from .compare import compare_command
 from .diff import diff_command
 from .faults import Stop, trouble
 from .results import Results
-from .tables import Reading
+from .tables import Reading, with_feeds
 from .verify import verify_command
 from .words import line_of
 
@@ -273,7 +273,7 @@ def add_writing(command):
 
 def reading_of(options):
     """How to read tables, from the options."""
-    named = [one for word in options.map for one in named_in(word)]
+    named = [one for word in options.map for one in named_in(word, options.encoding)]
     wrong = [
         (at, word)
         for at, word in named
@@ -286,16 +286,21 @@ def reading_of(options):
     return Reading(options.decimal, options.encoding, heads, options.fill_down)
 
 
-def named_in(word):
-    """What a word after `--map` names: itself, or the lines of a file, with where they are."""
+def named_in(word, encoding):
+    """What a word after `--map` names: itself, or the lines of a file, with where they are. The
+    file is in UTF-8, or in the encoding of the tables."""
     if "=" in word:
         return [("", word)]
     try:
-        lines = pathlib.Path(word).read_text(encoding="utf-8-sig").split("\n")
-    except (OSError, UnicodeError) as error:
-        why = getattr(error, "strerror", None) or "this isn't text in UTF-8"
+        data = pathlib.Path(word).read_bytes()
+        try:
+            text = data.decode("utf-8-sig")
+        except UnicodeError:
+            text = data.decode(encoding or "utf-8-sig")
+    except (LookupError, OSError, UnicodeError) as error:
+        why = getattr(error, "strerror", None) or f"this isn't text in {encoding or 'UTF-8'}"
         raise Stop(f"--map {word}: say --map HEAD=NAME, or name a file of such lines: {why}", 2)
-    numbered = enumerate((line.strip() for line in lines), 1)
+    numbered = enumerate((line.strip() for line in with_feeds(text).split("\n")), 1)
     return [(f"{word}, line {number}:", line) for number, line in numbered if line]
 
 

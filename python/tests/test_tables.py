@@ -204,6 +204,12 @@ class Reading(WithFolder):
         self.put("heads.txt", "from=Von\nnach=Nach\n")
         told = self.flow(PLACES, routes, "--map", heads)[2]
         self.assertIn("heads.txt, line 2: nach=Nach: say HEAD=NAME, where HEAD is one of", told)
+        heads.write_bytes("cost=Kosten (€)\r\n".encode("windows-1252"))
+        euros = ROUTES.replace("most,cost", "most,Kosten (€)").encode("windows-1252")
+        words = ["--map", heads, "--encoding", "windows-1252"]
+        self.assertEqual(self.flow(PLACES, euros, *words)[0], 0)
+        told = self.flow(PLACES, routes, "--map", heads)[2]
+        self.assertIn("name a file of such lines: this isn't text in UTF-8", told)
         told = self.flow(PLACES, routes, "--map", "no-file")[2]
         self.assertIn("--map no-file: say --map HEAD=NAME, or name a file of such lines", told)
 
