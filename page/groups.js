@@ -45,6 +45,14 @@ export const groupsTables = (roster) => (roster.groupTable ? [{
   figures: [],
 }] : []);
 
+// This function returns a line on the groups without numbers, if there are some.
+/** @type {(roster: Roster) => string[]} */
+export function idleLines(roster) {
+  const ranges = roster.groupTable ? [...rangesOf(roster)] : [];
+  const names = ranges.filter(([, ends]) => !ends.some(Boolean)).map(([name]) => name);
+  return names.length ? [`Groups without least and most ask for nothing: ${listed(names)}.`] : [];
+}
+
 // This function returns lines on the groups that were left out.
 /** @type {(roster: Roster) => string[]} */
 export function leftOutLines({ answer }) {

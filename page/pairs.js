@@ -2,7 +2,7 @@
 // Persons and things: which pairs an answer chooses, or who competes.
 import { Said, Units, decimalsOf, exactOf, scaled, settledBy } from './amounts.js';
 import { TOLD_NAMES, countOf, listed } from './faults.js';
-import { groupLines, leftOutLines } from './groups.js';
+import { groupLines, idleLines, leftOutLines } from './groups.js';
 import { carriedLines, carriedOf, otherwiseLines } from './heads.js';
 import { partsOf } from './network.js';
 import { FORBIDDEN, NEEDED, isList, numberCells, readLine } from './sentences.js';
@@ -121,6 +121,7 @@ export class Roster {
     const carried = this.isList ? carriedOf(this.table, known, by) : [];
     return [
       ...this.notes,
+      ...idleLines(this),
       ...carriedLines([
         ...carried,
         ...(this.groupTable ? carriedOf(this.groupTable, GROUP_HEADS, []) : []),

@@ -55,6 +55,13 @@ def rows_of(roster):
     ]
 
 
+def idle_lines(roster):
+    """A line on the groups without numbers, if there are some."""
+    ranges = ranges_of(roster) if roster.group_sheet else {}
+    names = [name for name, ends in ranges.items() if not any(ends)]
+    return [f"Groups without least and most ask for nothing: {listed(names)}."] if names else []
+
+
 def left_out_lines(roster):
     """Lines on the groups that were left out."""
     found = [f"{name} (crosses {other})" for _, name, other in roster.answer.rows["crossing"]]

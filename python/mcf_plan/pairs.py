@@ -10,7 +10,8 @@ from .words import TOLD_NAMES, count_of, listed
 def notes_of(roster):
     """Notes on how the table was read. All columns of a matrix are used."""
     table, sheet = roster.table, roster.sheet
-    lines, words = notes.prepared_lines([table, roster.group_table]), []
+    lines = notes.prepared_lines([table, roster.group_table]) + groups.idle_lines(roster)
+    words = []
     words += [("costs", table, sheet)] if roster.is_list else []
     words += [("groups", roster.group_table, roster.group_sheet)] if roster.group_sheet else []
     used = [("costs", place) for place in pair_columns(roster.options.by, roster)]
