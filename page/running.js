@@ -94,7 +94,11 @@ async function priced(solver, texts, reading, penalty, faults) {
     decimal = found.mark || markIn(penalty);
   }
   if (!isNumber || (mark && mark !== decimal)) {
-    throw new BadTable([`${words().penalty(penalty)}: this is no cost, written as in the tables`]);
+    const other = isNumber && decimal && markIn(penalty)
+      ? `: write ${penalty.replace(mark, decimal)}`
+      : '';
+    const told = `${words().penalty(penalty)}: this is no cost, written as in the tables`;
+    throw new BadTable([told + other]);
   }
   return { penalty, decimal: decimal || '' };
 }

@@ -219,7 +219,7 @@ async function penalties(expect) {
   await made('0.25', '5').then(
     () => expect(false, 'a penalty with another mark'),
     ({ lines: [told] }) => expect(
-      told === 'penalty 0.25 under Choices: this is no cost, written as in the tables',
+      told === 'penalty 0.25 under Choices: this is no cost, written as in the tables: write 0,25',
       told
     )
   );

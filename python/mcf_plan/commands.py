@@ -102,11 +102,14 @@ class Asking:
         """Settles the mark of a penalty, which is written as in the tables."""
         penalty, mark = self.options.penalty, re.search("[.,]", self.options.penalty)
         is_number = re.fullmatch("[0-9]{1,18}([.,][0-9]{1,18})?", penalty)
+        is_either = re.fullmatch("[1-9][0-9]{0,2}[.,][0-9]{3}", penalty)
         if is_number and mark and not self.decimal:
-            is_either = re.fullmatch("[1-9][0-9]{0,2}[.,][0-9]{3}", penalty)
             self.decimal = self.answer().shown_mark or (None if is_either else mark[0])
         if not is_number or (mark and mark[0] != self.decimal):
-            raise Stop(f"--penalty {penalty}: this is no cost, written as in the tables", 2)
+            told = f"--penalty {penalty}: this is no cost, written as in the tables"
+            if is_number and self.decimal and not is_either:
+                told += f": write {penalty.replace(mark[0], self.decimal)}"
+            raise Stop(told, 2)
 
 
 def policy_words(unused, short, penalty):
