@@ -4,6 +4,7 @@ use mcf_decimal::Mark;
 use mcf_flow_tables::{
     Broken, Done, FlowAnswer, Options, ProblemAnswer, SaidTables, TableAnswer, Texts, plan_tables,
 };
+use mcf_forms::Filling;
 use mcf_places::{LeastPlannerPlan, Origin, PlannerAnswer};
 use mcf_planner::Planner as Engine;
 use mcf_reading::{ColumnAt, Fault, FaultKind, Head, Location, Table};
@@ -27,12 +28,22 @@ const OPTIONS: Options = Options {
     },
 };
 
-// The answer to two texts.
-fn answer_to(alloc: Global, places: &[u8], routes: &[u8]) -> Result<FlowAnswer, NoMemory> {
+// The answer to texts.
+fn answer_for(alloc: Global, texts: Texts<'_>) -> Result<FlowAnswer, NoMemory> {
     let mut engine = Engine {
         choice: Choice::default(),
     };
-    plan_tables(alloc, &mut engine, Texts { places, routes }, OPTIONS)
+    plan_tables(alloc, &mut engine, texts, OPTIONS)
+}
+
+// The answer to two texts.
+fn answer_to(alloc: Global, places: &[u8], routes: &[u8]) -> Result<FlowAnswer, NoMemory> {
+    let texts = Texts {
+        places,
+        routes,
+        fill_down: &[],
+    };
+    answer_for(alloc, texts)
 }
 
 // Whether a plan is that of the tables, in tenths of a unit and hundredths of a cost: 10 units at
@@ -66,7 +77,7 @@ fn is_solved(said: &SaidTables) -> bool {
 fn is_planned(answer: &FlowAnswer) -> bool {
     match answer {
         FlowAnswer::Tables(said) => is_solved(said),
-        FlowAnswer::NoTables(_) => false,
+        _ => false,
     }
 }
 
@@ -108,7 +119,43 @@ fn a_matrix_is_a_list_and_totals_are_left_out(rt: HostRuntime) -> Result<(), Fai
             assert!(rt; said.done == done);
             assert!(rt; is_planned_at(&said, 125 * 15, 4));
         }
-        FlowAnswer::NoTables(_) => assert!(rt; false),
+        _ => assert!(rt; false),
+    }
+    Ok(())
+}
+
+// Whether the routes have one column that was filled down, with one cell that took another.
+fn is_filled(said: &SaidTables) -> bool {
+    let column = Filling { place: 0, count: 1 };
+    said.filled.places.is_empty() && said.filled.routes.as_slice() == [column].as_slice()
+}
+
+#[test]
+fn columns_are_filled_down(rt: HostRuntime) -> Result<(), Fail> {
+    let texts = Texts {
+        places: b"name;supply\nMill;12,5\nGraz;-2,5\nWien;-10\n",
+        routes: b"from;to;most;cost\nMill;Graz;;1\n;Wien;;2\n",
+        fill_down: b"FROM",
+    };
+    match answer_for(rt.alloc(), texts)? {
+        FlowAnswer::Tables(said) => {
+            assert!(rt; is_filled(&said) && is_planned_at(&said, 25 + 200, 3));
+        }
+        _ => assert!(rt; false),
+    }
+    Ok(())
+}
+
+#[test]
+fn columns_that_are_not_there_are_told(rt: HostRuntime) -> Result<(), Fail> {
+    let texts = Texts {
+        places: PLACES,
+        routes: ROUTES,
+        fill_down: b"from\nvia\nname\nkind",
+    };
+    match answer_for(rt.alloc(), texts)? {
+        FlowAnswer::NoColumns(numbers) => assert!(rt; numbers.as_slice() == [2, 4].as_slice()),
+        _ => assert!(rt; false),
     }
     Ok(())
 }
@@ -117,7 +164,7 @@ fn a_matrix_is_a_list_and_totals_are_left_out(rt: HostRuntime) -> Result<(), Fai
 fn broken(answer: &FlowAnswer) -> Option<Broken> {
     match answer {
         FlowAnswer::NoTables(found) => Some(*found),
-        FlowAnswer::Tables(_) => None,
+        _ => None,
     }
 }
 
@@ -143,7 +190,7 @@ fn is_fault(answer: &FlowAnswer, fault: Fault) -> bool {
             TableAnswer::Faults(faults) => faults.list() == [fault].as_slice(),
             TableAnswer::Problem(_) | TableAnswer::Periods(_) => false,
         },
-        FlowAnswer::NoTables(_) => false,
+        _ => false,
     }
 }
 
@@ -167,7 +214,7 @@ fn origin_of(answer: &FlowAnswer) -> Option<Origin> {
             TableAnswer::Problem(ProblemAnswer::Solved(solved)) => solved.origin,
             _ => None,
         },
-        FlowAnswer::NoTables(_) => None,
+        _ => None,
     }
 }
 

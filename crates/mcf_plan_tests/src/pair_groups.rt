@@ -90,6 +90,7 @@ fn told(alloc: Global, row: TextRow) -> Result<PlanText, NoMemory> {
     let texts = GroupTexts {
         costs: row.0,
         groups: row.1,
+        fill_down: &[],
     };
     group_text(alloc, &mut engine, texts, PLAIN, row.2)
 }
@@ -108,7 +109,7 @@ fn groups_are_told(rt: HostRuntime) -> Result<(), Fail> {
 fn is_refused(answer: &GroupsAnswer) -> bool {
     match answer {
         GroupsAnswer::Tables(said) => is_refused_in(&said.answer),
-        GroupsAnswer::NoTables(_) => false,
+        _ => false,
     }
 }
 
@@ -133,6 +134,7 @@ fn groups_that_cross_are_refused(rt: HostRuntime) -> Result<(), Fail> {
     let texts = GroupTexts {
         costs: ROWS[1].0,
         groups: ROWS[1].1,
+        fill_down: b"what",
     };
     let answer = plan_groups(rt.alloc(), &mut engine, texts, PLAIN, AtCrossing::Refuse)?;
     assert!(rt; is_refused(&answer));

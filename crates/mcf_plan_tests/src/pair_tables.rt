@@ -1,7 +1,8 @@
 //! Choices for the texts of tables of persons and things, by the engine of the suite.
 use mcf_choice::Choice;
 use mcf_pair_tables::{
-    ChoiceAnswer, Each, Options, PairAnswer, SaidTable, SolvedPairs, TableAnswer, plan_pairs,
+    ChoiceAnswer, CostTexts, Each, Options, PairAnswer, SaidTable, SolvedPairs, TableAnswer,
+    plan_pairs,
 };
 use mcf_planner::Planner as Engine;
 use mcf_roster::{Origin, RosterAnswer};
@@ -98,7 +99,11 @@ fn answer_to(alloc: Global, text: &[u8], options: Options) -> Result<PairAnswer,
     let mut engine = Engine {
         choice: Choice::default(),
     };
-    plan_pairs(alloc, &mut engine, text, options)
+    let texts = CostTexts {
+        costs: text,
+        fill_down: &[],
+    };
+    plan_pairs(alloc, &mut engine, texts, options)
 }
 
 // The answer for a roster, if that is the answer.
@@ -143,7 +148,7 @@ fn was_sheet(answer: &PairAnswer, count: usize, needs: &[u8]) -> bool {
         PairAnswer::Table(said) => {
             said.done.wishes == Some(count) && said.done.needs.as_slice() == needs
         }
-        PairAnswer::NoTable(_) => false,
+        _ => false,
     }
 }
 
@@ -158,6 +163,29 @@ fn wishes_of_pupils_are_pairs(rt: HostRuntime) -> Result<(), Fail> {
     let answer = answer_to(rt.alloc(), text, options)?;
     assert!(rt; has_cost(&answer, Some((4, 0))));
     assert!(rt; was_sheet(&answer, 5, b"0..2"));
+    Ok(())
+}
+
+#[test]
+fn columns_of_pairs_are_filled_down(rt: HostRuntime) -> Result<(), Fail> {
+    let mut engine = Engine {
+        choice: Choice::default(),
+    };
+    let costs = b"who,what,cost\nA,X,1\n,Y,2\nB,X,3\nTotal,,6\n";
+    let texts = CostTexts {
+        costs,
+        fill_down: b"who",
+    };
+    let answer = plan_pairs(rt.alloc(), &mut engine, texts, PLAIN)?;
+    assert!(rt; has_cost(&answer, Some((5, 0))));
+    let texts = CostTexts {
+        costs,
+        fill_down: b"room",
+    };
+    match plan_pairs(rt.alloc(), &mut engine, texts, PLAIN)? {
+        PairAnswer::NoColumns(numbers) => assert!(rt; numbers.as_slice() == [1].as_slice()),
+        _ => assert!(rt; false),
+    }
     Ok(())
 }
 
@@ -181,7 +209,7 @@ fn costs_beyond_the_limits_have_a_pair(rt: HostRuntime) -> Result<(), Fail> {
 fn rows_answer(answer: &PairAnswer) -> Option<&TableAnswer> {
     match answer {
         PairAnswer::Table(said) => Some(&said.answer),
-        PairAnswer::NoTable(_) => None,
+        _ => None,
     }
 }
 
@@ -194,7 +222,7 @@ fn texts_of_pairs_have_faults(rt: HostRuntime) -> Result<(), Fail> {
     };
     let is_fault = match &answer {
         PairAnswer::NoTable(found) => *found == fault,
-        PairAnswer::Table(_) => false,
+        _ => false,
     };
     assert!(rt; is_fault);
     Ok(())

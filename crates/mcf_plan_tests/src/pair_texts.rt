@@ -1,6 +1,6 @@
 //! Tests of answers to tables of persons and things as texts.
 use mcf_choice::Choice;
-use mcf_pair_tables::{Each, Options};
+use mcf_pair_tables::{CostTexts, Each, Options};
 use mcf_pair_text::{PlanText, TextKind, pair_text};
 use mcf_planner::Planner as Engine;
 use mcf_text::NoMemory;
@@ -100,7 +100,11 @@ fn text_for(alloc: Global, text: &[u8], options: Options) -> Result<PlanText, No
     let mut engine = Engine {
         choice: Choice::default(),
     };
-    pair_text(alloc, &mut engine, text, options)
+    let texts = CostTexts {
+        costs: text,
+        fill_down: &[],
+    };
+    pair_text(alloc, &mut engine, texts, options)
 }
 
 // The part of a text after so many bytes; nothing if it is shorter.

@@ -64,6 +64,8 @@ static FAULTY: [Faulty; 6] = [
         routes: b"from,to,most,cost,lead\nA,A,1,1,1.5\n",
         told: b"\"answer\",\"faults\"\n\
 \"fault\",\"places\",\"2\",\"supply\",\"no number\",\"x\"\n\
+\"fault\",\"places\",\"3\",\"first stock\",\"not in the first period\",\"2\"\n\
+\"fault\",\"routes\",\"2\",\"lead\",\"no number of periods\",\"1.5\"\n\
 \"mark\",\"\"\n",
     },
     Faulty {
@@ -120,7 +122,12 @@ fn text_for(alloc: Global, places: &[u8], routes: &[u8]) -> Result<PlanText, NoM
             penalty: None,
         },
     };
-    plan_text(alloc, &mut engine, Texts { places, routes }, options)
+    let texts = Texts {
+        places,
+        routes,
+        fill_down: &[],
+    };
+    plan_text(alloc, &mut engine, texts, options)
 }
 
 #[test]

@@ -96,7 +96,12 @@ fn text_with(
             penalty: None,
         },
     };
-    plan_text(alloc, &mut engine, Texts { places, routes }, options)
+    let texts = Texts {
+        places,
+        routes,
+        fill_down: &[],
+    };
+    plan_text(alloc, &mut engine, texts, options)
 }
 
 #[test]

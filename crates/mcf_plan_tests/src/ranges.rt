@@ -166,7 +166,11 @@ fn ends_with(alloc: Global, places: &[u8], routes: &[u8], rows: &[u8]) -> Result
     let mut engine = Engine {
         choice: Choice::default(),
     };
-    let texts = Texts { places, routes };
+    let texts = Texts {
+        places,
+        routes,
+        fill_down: &[],
+    };
     let options = Options {
         mark: None,
         terms: Terms {
