@@ -40,6 +40,7 @@ solved_periods E terms made mark answer origin law m h of_mark of_origin =
       h,
       law P answer m.5 (subst (λ (Q : Planner). IsPlannerAnswer Q answer) m.1 h),
       of_origin,
+      m.5,
     )
 
 module _ (mark : Option Mark) (places routes : List Record) (terms : Terms) (said : Entries) (times : PeriodTables)

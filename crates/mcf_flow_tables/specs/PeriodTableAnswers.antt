@@ -4,6 +4,7 @@ use Rattle.std.specs.Prelude.{◌≡◌, ◌⊎◌, List, [], Option, Some, None
 use Rattle.mcf_decimal.specs.declared.mark.Mark.{Mark}
 use Rattle.mcf_periods.specs.Flat.{flat}
 use Rattle.mcf_periods.specs.PeriodAnswers.{IsPeriodAnswer}
+use Rattle.mcf_periods.specs.PeriodLaws.{IsTimely}
 use Rattle.mcf_period_reading.specs.HeadFaults.{head_faults}
 use Rattle.mcf_period_reading.specs.PeriodReading.{IsReadOf, row_faults}
 use Rattle.mcf_period_reading.specs.declared.reading.PeriodTables.{PeriodTables}
@@ -36,13 +37,15 @@ TellsNone told = (told.cells ≡ None) × (told.periods.items ≡ [])
 -- The answer to what tables say over periods: what is too great, or too late; or all faults of the
 -- problem; or, if there are none of either, a least plan over periods, in the units of the tables,
 -- or that there is none, with a bottleneck of the problem without periods, or the first number
--- beyond the limits and where it comes from; and the mark before decimals.
+-- beyond the limits and where it comes from; and the mark before decimals. What is sent arrives by
+-- the last period.
 abbrev pub IsSolvedOver : PeriodEntries → Terms → PeriodAnswer → Type 0
 IsSolvedOver E terms (Solved solved) =
     let s = scales_over E terms.penalty in
     (solved.mark ≡ E.said.mark) × (solved.scales ≡ s) × (greats s E terms ≡ []) × ComeFrom s E solved.origins
     × (solved.planner ≡ flat (periods_in s E terms)) × IsProperPlanner solved.planner × IsPlannerAnswer solved.planner solved.answer
     × IsPeriodAnswer (periods_in s E terms) solved.answer × (solved.origin ≡ origin_in solved.planner solved.answer)
+    × IsTimely (periods_in s E terms)
 IsSolvedOver E terms (TooGreat faults) = IsMadeOver E terms (GreatOver faults)
 IsSolvedOver E terms (Improper made) = IsMadeOver E terms (ImproperOver made)
 IsSolvedOver E terms (Faults faults) = ⊥

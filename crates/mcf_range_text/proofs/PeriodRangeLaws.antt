@@ -126,7 +126,8 @@ module _ (law : FlatRangesArePeriodRanges) where
       (have_origins t E terms s.origins come, are_over law P p ranges timely sound (subst (λ (F : Planner). AreRouteRanges F p ranges) is told))
 
   pub told_ranges_lem : ToldRangesArePeriodRanges
-  told_ranges_lem E terms s p ranges h least told timely =
+  told_ranges_lem E terms s p ranges h least told =
       let scaled = sym h.1 in
       over_tables E terms s p ranges s.scales (subst (λ t. ComeFrom t E s.origins) scaled h.3)
-      (h.4 ∙ ap (λ t. flat (periods_in t E terms)) scaled) h.5 (subst (λ a. AreFlatRanges s.planner a ranges) least told) timely
+      (h.4 ∙ ap (λ t. flat (periods_in t E terms)) scaled) h.5 (subst (λ a. AreFlatRanges s.planner a ranges) least told)
+      (subst (λ t. IsTimely (periods_in t E terms)) scaled h.9)

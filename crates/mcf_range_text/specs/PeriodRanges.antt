@@ -90,6 +90,6 @@ pub record HaveOrigins (P : Periods) (origins : PeriodOrigins) : Type 0 where
 abbrev pub ToldRangesArePeriodRanges : Type 0
 ToldRangesArePeriodRanges =
     (E : PeriodEntries) (terms : Terms) (s : SolvedPeriods) (p : LeastPlannerPlan) (ranges : List (Option CostRange)) → IsSolvedOver E terms (Solved s)
-    → s.answer ≡ Least p → ArePeriodRanges (Solved s) ranges → IsTimely (periods_in s.scales E terms)
+    → s.answer ≡ Least p → ArePeriodRanges (Solved s) ranges
     → HaveOrigins (periods_in s.scales E terms) s.origins
     × AreRangesOver (periods_in s.scales E terms) (plan_over (periods_in s.scales E terms) p) ranges
