@@ -112,7 +112,8 @@ function namesIn(answer, word) {
 }
 
 // A text for the module, in normal form C, with a line feed at the end of each line. `own` has the
-// planner's titles by the heads that replace them in the text; `changes` say what an answer changed.
+// planner's titles by the heads that replace them in the text; `changes` say what an answer
+// changed.
 export class TableText {
   /**
    * @param {Source} source

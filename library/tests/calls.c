@@ -352,8 +352,7 @@ static int check_tables(void) {
     static const uint8_t places[] = "name,supply\nMill,3\nTown,-3\n";
     static const uint8_t routes[] = "from,to,most,cost\nMill,Town,5,1.5\n";
     static const uint8_t narrow[] = "from,to,most,cost\nMill,Town,2,1.5\n";
-    static const uint8_t merged[] =
-        "from,to,most,cost\nMill,Town,2,1.5\nMill,Town,2,\n";
+    static const uint8_t merged[] = "from,to,most,cost\nMill,Town,2,1.5\nMill,Town,2,\n";
     static const char plan[] = "\"answer\",\"plan\"\n\"cost\",\"4.5\"\n";
     static const char range[] = "\"range\",\"2\",\"Mill\",\"Town\",\"\",\"\"\n";
     struct mcf_plan_options options = {MCF_SHOWN_MARK, 0, 0, 0, (const uint8_t *)"", 0, NULL, 0};

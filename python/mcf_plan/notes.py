@@ -203,9 +203,9 @@ def number_cells(word, table, sheet):
 
 
 def changed_lines(word, table, answer, columns):
-    """Lines on what `mcfplan` changed in a table before it read it: a matrix or a sheet of wishes became a list, a row
-    of totals was left out, columns were filled down. Columns come as the user names them, by their
-    heads in lower case."""
+    """Lines on what `mcfplan` changed in a table before it read it: a matrix or a sheet of wishes
+    became a list, a row of totals was left out, columns were filled down. Columns come as the user
+    names them, by their heads in lower case."""
     lines = [
         f"{table.name} is a matrix: it is read as a list of"
         f" {count_of(int(count), 'route', 'routes')} without a limit, from the places on the left"
