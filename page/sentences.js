@@ -27,6 +27,10 @@ export const NEEDED = {
 const WISHES =
   '; if these are wishes, call the column of the names who ({named}) and those of the wishes 1, 2 '
     + 'and so on, or write a list with a line who, what, cost for each wish';
+const NUMBERED =
+  '; the row that says how many persons each thing needs begins with needs, the column of how many '
+    + 'things a person takes has the head takes';
+const RANGE = /^[0-9]+ ?(\.\.|-|–) ?[0-9]+$/;
 const TOO_GREAT = '{this} is beyond the limits, by itself or in total ({limits})';
 // What is wrong, as the module calls it, perhaps with its column, and the sentence.
 /** @type {Record<string, string>} */
@@ -55,7 +59,7 @@ const SENTENCES = {
   exponent: '{cell} is written with an exponent; write all its digits',
   'either of two numbers': '{cell} may be {digits} or a number with three decimals: {choose}',
   'other decimal mark': "{cell} isn't written with {mark} before decimals, {chosen}",
-  'no number': '{cell} is no number{wishes}',
+  'no number': '{cell} is no number{wishes}{range}',
   'too many digits': '{cell} has too many digits',
   'too great': TOO_GREAT,
   'beyond the limits': TOO_GREAT,
@@ -259,6 +263,7 @@ export class Teller {
       date: /[0-9]{4}-|\.\s?\w{3}/.test(cell) ? '; was it taken for a date?' : '',
       merges: () => this.merged(word, Number(line), column),
       wishes: () => this.wishes(word),
+      range: word === 'costs' && !isList(table) && RANGE.test(cell) ? NUMBERED : '',
       stock: table.reader(['last stock'])(row)[0] ? '; a last stock is a demand, too' : '',
       meant: shown(meant),
       heads: listed(table.titles.map(shown)),

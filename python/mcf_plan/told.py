@@ -28,6 +28,10 @@ WISHES = (
     " wishes 1, 2 and so on, or write a list with a line who, what, cost for each wish"
 )
 BEYOND = "{this} is beyond the limits, by itself or in total (LIMITS in `man mcf`)"
+NUMBERED = (
+    "; the row that says how many persons each thing needs begins with needs, the column of how"
+    " many things a person takes has the head takes"
+)
 # What is wrong, as `mcfplan` calls it, perhaps with its column, and the sentence.
 SENTENCES = {
     "quote not closed": "a quote that isn't closed",
@@ -60,7 +64,7 @@ SENTENCES = {
         " (what stands before decimals)"
     ),
     "other decimal mark": "{cell} isn't written with {mark} before decimals{says}",
-    "no number": "{cell} is no number{wishes}",
+    "no number": "{cell} is no number{wishes}{range}",
     "too many digits": "{cell} has too many digits",
     "too great": BEYOND,
     "beyond the limits": BEYOND,
@@ -139,6 +143,7 @@ SENTENCES = {
     "no thing": "no thing" + NOTHING,
     "no person": "no person" + NOTHING,
 }
+RANGE = re.compile("[0-9]+ ?([.][.]|-|–) ?[0-9]+")
 DATE = re.compile(r"[0-9]{4}-|\.\s?\w{3}")
 # What is wrong with a title that isn't read, and the head that it is about.
 TITLE = re.compile("(nearly|not read without) (.*)")
@@ -242,6 +247,7 @@ class Teller:
             "date": lambda: "; was it taken for a date?" if DATE.search(cell) else "",
             "merged": lambda: self.merged(word, line, column),
             "wishes": lambda: self.wishes(word),
+            "range": lambda: self.range(word, cell),
             "meant": lambda: shown(meant),
             "column": lambda: column,
             "heads": lambda: listed([shown(table.title(title)) for title in sheet.titles]),
@@ -321,6 +327,11 @@ class Teller:
             return ""
         title = shown(self.tables[word].title(sheet.titles[place]))
         return f"; if cells are merged in the spreadsheet, say --fill-down {title}"
+
+    def range(self, word, cell):
+        """A hint at where ranges stand in a matrix of costs, if a cell is one."""
+        is_range = word == "costs" and not is_list(self.sheets[word]) and RANGE.fullmatch(cell)
+        return NUMBERED if is_range else ""
 
     def stock(self, sheet, row):
         """A reminder that a last stock counts among demands, if a row of places has one."""
