@@ -54,6 +54,7 @@ const SENTENCES = {
   'named twice: name': 'a place {cell} is already on line {first}',
   'named twice: what': 'the pair of {pair} is already on line {first}',
   'named twice: 1': 'a person {cell} is already on line {first}',
+  'named twice: who': 'a person {cell} is already on line {first}',
   'no such place': 'there is no place {cell}{near}',
   empty: 'the number is empty; write 0 for none',
   exponent: '{cell} is written with an exponent; write all its digits',
@@ -140,6 +141,23 @@ const NUMBERS = {
   groups: /^(least|most)$/,
 };
 
+// This function returns faults, as an answer has them, of rows of a sheet of wishes whose person an
+// earlier row has.
+/** @type {(answer: Answer) => string[][]} */
+function secondRows(answer) {
+  /** @type {Map<string, number>} */
+  const lines = new Map();
+  /** @type {Map<number, string[]>} */
+  const found = new Map();
+  const isSheet = answer.rows('wishes').length > 0;
+  for (const { line, cells: [who] } of isSheet ? answer.tables.get('costs').rows : []) {
+    if (!lines.has(who)) lines.set(who, line);
+    const fault = ['costs', String(line), 'who', 'named twice', who];
+    if (lines.get(who) !== line) found.set(line, fault);
+  }
+  return [...found.values()];
+}
+
 // Tells the faults of an answer about texts, which have these words there.
 export class Teller {
   /**
@@ -162,7 +180,7 @@ export class Teller {
   // This method notes all faults of an answer, and then positions of places that are no numbers.
   /** @type {(answer: Answer) => void} */
   tell(answer) {
-    const found = answer.rows('fault');
+    const found = [...answer.rows('fault'), ...secondRows(answer)];
     if (!found.length) return;
     this.crossed = new Map(answer.rows('crossing').map(([line, , other]) => [line, other]));
     for (const [word, text] of Object.entries(this.texts)) {

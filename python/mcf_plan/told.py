@@ -56,6 +56,7 @@ SENTENCES = {
     "named twice: name": "a place {cell} is already on line {first}",
     "named twice: what": "the pair of {pair} is already on line {first}",
     "named twice: 1": "a person {cell} is already on line {first}",
+    "named twice: who": "a person {cell} is already on line {first}",
     "no such place": "there is no place {cell}{near}",
     "empty": "the number is empty; write 0 for none",
     "exponent": "{cell} is written with an exponent; write all its digits",
@@ -164,7 +165,7 @@ class Teller:
         for word, sheet in self.sheets.items():
             for line, cells in sheet.rows:
                 self.rows[word].setdefault(line, []).append(cells)
-        faults = answer.rows["fault"]
+        faults = answer.rows["fault"] + second_rows(answer)
         self.crossed = {int(line): other for line, _, other in answer.rows["crossing"]}
         tables = zip(self.tables, self.tables.values(), self.sheets.values()) if faults else ()
         cells = (cell for table in tables for cell in number_cells(*table))
@@ -349,6 +350,16 @@ class Teller:
 def has_letter(cell):
     """Whether a cell has a letter, so that it is no number."""
     return any(map(str.isalpha, cell))
+
+
+def second_rows(answer):
+    """Faults, as an answer has them, of rows of a sheet of wishes whose person an earlier row
+    has."""
+    lines, found = {}, {}
+    for line, cells in answer.sheets["costs"].rows if answer.rows["wishes"] else ():
+        if lines.setdefault(cells[0], line) != line:
+            found[line] = ["costs", str(line), "who", "named twice", cells[0]]
+    return list(found.values())
 
 
 def filled(sheet, heads, row):
