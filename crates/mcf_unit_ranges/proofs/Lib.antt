@@ -14,3 +14,4 @@ mod SpanRows
 mod MadeModels
 mod ToldRanges
 mod RoomUnits
+mod RoomRanges

@@ -1,6 +1,6 @@
 -- More room on a full route is as many units from its head to its tail.
-use Rattle.std.proofs.Common.{◌≡◌, ℕ, zero, suc, ◌-◌, ◌<◌, ◌≤◌, eqb, Bool, true, false, List, [], ◌∷◌, length, map, set, get_or, refl, ap, sym, ◌∙◌, subst, arith, ℤ, pos, neg_ℤ, ◌+ℤ◌, ◌-ℤ◌, ◌≤ℤ◌, ◌<ℤ◌, if◌then◌else◌, int_lt}
-use Rattle.std.specs.Prelude.{Option, Some, None, ◌&&◌, ◌↔◌, option_map, slice_index_or}
+use Rattle.std.proofs.Common.{◌≡◌, ℕ, zero, suc, ◌-◌, ◌<◌, eqb, Bool, true, false, List, [], ◌∷◌, length, map, set, get_or, refl, ap, sym, ◌∙◌, subst, arith, ℤ, pos, neg_ℤ, ◌+ℤ◌, ◌-ℤ◌, ◌≤ℤ◌, ◌<ℤ◌, if◌then◌else◌, int_lt}
+use Rattle.std.specs.Prelude.{Option, Some, None, ◌&&◌, ◌↔◌, option_map}
 use Rattle.std.specs.Int.{int_max, int_min}
 use Rattle.std.specs.List.{All, AllZip}
 use Rattle.std.specs.Ordering.{int_eq}
@@ -13,12 +13,12 @@ use Rattle.mcf_flows.proofs.AllZips.{AllZip-at, AllZip-weaken, length-AllZip}
 use Rattle.mcf_flows.proofs.IntLaws.{add-mul, mul-add, mul-neg, mul-sub}
 use Rattle.mcf_model.specs.declared.rows.Step.{Step}
 use Rattle.mcf_model.specs.Faults.{first_cost}
-use Rattle.mcf_model.specs.Model.{Adds, AreRooms, CostAtLeast, Fits, IsLimited, IsPlan, IsSound, IsSoundRoute, MayBeBoth, MayCarry, Model, Rises, Route, arriving, charge, charged, leaving, plan_cost, plan_sum, room, route_cost, size}
+use Rattle.mcf_model.specs.Model.{Adds, AreRooms, Fits, IsLimited, IsPlan, IsSound, IsSoundRoute, MayBeBoth, MayCarry, Model, Rises, Route, charge, charged, plan_cost, room, route_cost, size}
 use Rattle.mcf_model.specs.Prices.{IsBestAt, price_drop}
-use Rattle.mcf_model.specs.Scaling.{scaled, scaled_route, scaled_step}
+use Rattle.mcf_model.specs.Scaling.{scaled, scaled_route}
 use Rattle.mcf_model.specs.Tables.{IsRouteNumber, no_route, route_at}
 use Rattle.mcf_figures.specs.Figures.{gain, saving, saving_if}
-use Rattle.mcf_figures.specs.FigureLaws.{HasPlanAt, IsPriced}
+use Rattle.mcf_figures.specs.FigureLaws.{IsPriced}
 use Rattle.mcf_figures.proofs.PlanSums.{plan_sum-set, plan_sum-set_route}
 use Rattle.mcf_unit_ranges.specs.Changes.{wider, with_room, with_units}
 use Rattle.mcf_unit_ranges.specs.Spans.{directed, goes_back, room_below, room_up_to, span, span_of, turned}
@@ -27,7 +27,7 @@ use Rattle.mcf_unit_ranges.proofs.CheapRooms.{adds_later, rooms_total}
 use Rattle.mcf_unit_ranges.proofs.Holding.{IsSpanned, spanned_from, spanned_to}
 use Rattle.mcf_unit_ranges.proofs.OneWay.{at_most_last}
 use Rattle.mcf_unit_ranges.proofs.Products.{mul-assoc}
-use Rattle.mcf_unit_ranges.proofs.SpanLaws.{HasBest, has_best, not_equal, of_span, span_amount, to_span, twice}
+use Rattle.mcf_unit_ranges.proofs.SpanLaws.{has_best, not_equal, of_span, span_amount, to_span, twice}
 use Rattle.mcf_unit_ranges.proofs.SpanPlans.{amounts, net, net_self, one_net, span_sound}
 use Rattle.mcf_unit_ranges.proofs.Supplies.{as_long_both, as_long_finer, finer_at, finer_supply, unit_at, units_at, units_supply}
 use Rattle.mcf_unit_ranges.proofs.UnitCosts.{is_below, is_not_below, is_up_to}
@@ -60,7 +60,7 @@ charge_past (s ∷ steps) c m y h y0 =
     let e2 : (s.most +ℤ rest) -ℤ s.most ≡ rest = omega (arith, ints) in
     rw (full, full', e1, e2) (omega (arith, ints, charge_past steps c m y (adds_later steps (Some m) h) y0))
 
-room_more : (steps : List Step) (m d : ℤ) → room steps (m +ℤ d) ≡ room steps m +ℤ d
+pub room_more : (steps : List Step) (m d : ℤ) → room steps (m +ℤ d) ≡ room steps m +ℤ d
 room_more [] m d = refl
 room_more (s ∷ steps) m d = omega (arith, ints, room_more steps m d)
 

@@ -13,11 +13,15 @@ use Rattle.mcf_figures.specs.FigureLaws.{IsPriced}
 use Rattle.mcf_unit_ranges.specs.declared.limits.TheConstants.{UNITS_LIMIT}
 use Rattle.mcf_unit_ranges.specs.SpanModels.{free_model, span_model}
 use Rattle.mcf_unit_ranges.specs.Spans.{span}
-use Rattle.mcf_unit_ranges.specs.UnitRanges.{HoldsFor, IsUnitsRange}
+use Rattle.mcf_unit_ranges.specs.UnitRanges.{HoldsFor, IsRoomRange, IsUnitsRange}
 
 -- the range of each plan that the prices show to be least
 abbrev pub IsRangeAt : Model → List ℤ → ℕ → ℕ → Option ℤ → Type 0
 IsRangeAt m prices u w most = (plan : List ℤ) → IsPriced m prices plan → IsUnitsRange m prices plan u w most
+
+-- the same, of room on a route
+abbrev pub IsRoomRangeAt : Model → List ℤ → ℕ → Option ℤ → Type 0
+IsRoomRangeAt m prices k most = (plan : List ℤ) → IsPriced m prices plan → IsRoomRange m prices plan k most
 
 -- what the prices say holds for as many units as are looked at, with each plan that they show to be
 -- least

@@ -40,6 +40,10 @@ pub record SavingHoldsFor (m : Model) (prices plan : List ℤ) (k : ℕ) (d : �
   pub is_finer : pos 1 ≤ℤ finer
   pub reached : HasPlanAt (scaled finer (with_room m k d)) (finer *ℤ (plan_cost m plan -ℤ d *ℤ saving prices (route_at m k)))
 
+-- the saving holds for so many units and for no more; none is no limit
+abbrev pub IsRoomRange : Model → List ℤ → List ℤ → ℕ → Option ℤ → Type 0
+IsRoomRange m prices plan k most = (d : ℤ) → pos 0 ≤ℤ d → SavingHoldsFor m prices plan k d ↔ IfSome most (λ z. d ≤ℤ z)
+
 -- where room on a route saves something, it saves that for so many units as units from the route's
 -- head to its tail cost what the prices say: the route carries them back
 abbrev pub RoomIsUnits : Type 0

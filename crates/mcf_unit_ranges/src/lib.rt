@@ -15,9 +15,11 @@ mod models;
 mod ranging;
 mod rooms;
 mod rows;
+mod saving;
 mod spans;
 
 pub use laws::{room_is_units, units_cost_no_less};
 pub use limits::UNITS_LIMIT;
 pub use ranging::{UnitsRange, units_range};
 pub use rows::Ends;
+pub use saving::room_range;

@@ -29,10 +29,11 @@ fn price_of(prices: &[i128], node: u32) -> i128
     }
 }
 
-// Returns how far the price drops between two places.
-fn price_drop(prices: &[i128], tail: u32, head: u32) -> i128
+/// Returns how far the price drops between two places.
+pub(crate) fn price_drop(prices: &[i128], tail: u32, head: u32) -> i128
     requires { All (IsUpTo figure_limit) prices.now }
     ensures value { result ≡ at_node prices.now tail -ℤ at_node prices.now head }
+    ensures small { IsUpTo (2 * figure_limit) result }
 {
     price_of(prices, tail) - price_of(prices, head)
 }
@@ -52,8 +53,8 @@ fn turned_if(row: RouteRow, back: bool) -> RouteRow
     }
 }
 
-// Returns the route in the direction in which the price drops.
-fn directed(row: RouteRow, prices: &[i128]) -> RouteRow
+/// Returns the route in the direction in which the price drops.
+pub(crate) fn directed(row: RouteRow, prices: &[i128]) -> RouteRow
     requires { All (IsUpTo figure_limit) prices.now }
     ensures { (own : List Step) → route_with result own ≡ directed prices.now (route_with row own) }
 {
