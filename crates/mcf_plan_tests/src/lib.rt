@@ -47,3 +47,5 @@ mod roster;
 mod throughput;
 #[cfg(test)]
 mod tried;
+#[cfg(test)]
+mod unit_ranges;
