@@ -15,3 +15,5 @@ mod MadeModels
 mod ToldRanges
 mod RoomUnits
 mod RoomRanges
+mod FinerModels
+mod PlannerLaws

@@ -223,7 +223,7 @@ module _ (d : ℤ) (d0 : pos 0 ≤ℤ d) where
   both_wider true least steps o c h = (h.0, h.1, rooms_wider steps o h.2)
   both_wider false least steps o c h = tt
 
-  wider_sound : (n : ℕ) (r : Route) → IsSoundRoute n r → IsSoundRoute n (wider d r)
+  pub wider_sound : (n : ℕ) (r : Route) → IsSoundRoute n r → IsSoundRoute n (wider d r)
   wider_sound n r h =
       record {
         tail_is_place = h.tail_is_place;

@@ -18,7 +18,9 @@ mod rows;
 mod saving;
 mod spans;
 
-pub use laws::{room_is_units, units_cost_no_less};
+pub use laws::{
+    room_is_units, route_savings_are_the_models, units_are_the_models, units_cost_no_less,
+};
 pub use limits::UNITS_LIMIT;
 pub use ranging::{UnitsRange, units_range};
 pub use rows::Ends;
