@@ -17,3 +17,4 @@ mod RoomUnits
 mod RoomRanges
 mod FinerModels
 mod PlannerLaws
+mod PlannerRanges

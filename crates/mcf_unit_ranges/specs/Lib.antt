@@ -6,7 +6,9 @@ pub use Rattle.mcf_model.specs.Model
 pub use Rattle.mcf_model.specs.Prices
 pub use Rattle.mcf_model.specs.Scaling
 pub use Rattle.mcf_model.specs.Tables
+pub use Rattle.mcf_places.specs.Answers
 pub use Rattle.mcf_places.specs.FinerPlanners
+pub use Rattle.mcf_places.specs.LimitedPlanners
 pub use Rattle.mcf_places.specs.PlannerLaws
 pub use Rattle.mcf_plan_figures.specs.PlannerFigureLaws
 pub use Rattle.mcf_plan_figures.specs.PlannerFigures

@@ -1,10 +1,11 @@
 -- For how many units the prices of a planner's least plan tell what they cost, and what more room
 -- on a route saves. Its model tells both.
 -- Source: own
-use Rattle.std.specs.Prelude.{ℕ, ◌-◌, List, ◌∷◌, length, ℤ, pos, ◌+ℤ◌, ◌-ℤ◌, ◌*ℤ◌, ◌≤ℤ◌, Some, slice_set, ◌↔◌}
+use Rattle.std.specs.Prelude.{◌≡◌, ℕ, ◌-◌, List, ◌∷◌, length, ℤ, pos, ◌+ℤ◌, ◌-ℤ◌, ◌*ℤ◌, ◌≤ℤ◌, Option, Some, IfSome, slice_set, ◌↔◌}
 use Rattle.mcf_flows.specs.Network.{IsNode, at_node}
 use Rattle.mcf_model.specs.Model.{Route}
 use Rattle.mcf_figures.specs.FigureLaws.{IsPriced}
+use Rattle.mcf_places.specs.declared.answering.LeastPlannerPlan.{LeastPlannerPlan}
 use Rattle.mcf_places.specs.FinerPlanners.{finer}
 use Rattle.mcf_places.specs.Models.{exit_of, model_of, plain_route, plan_of}
 use Rattle.mcf_places.specs.PlannerLaws.{IsSound}
@@ -45,6 +46,19 @@ pub record UnitsHoldFor (most : ℤ) (P : Planner) (prices carries : List ℤ) (
   pub some_parts : pos 1 ≤ℤ parts
   pub reached : HasPlanAt (parts *ℤ most) (finer parts (with_units_between P u w d))
       (parts *ℤ (cost P (plan_of P carries) +ℤ d *ℤ (at_node prices u -ℤ at_node prices (exit_of P.places w))))
+
+-- what room on route k saves, in a least plan that was found in a model of the problem, holds for
+-- so many units and for no more; none is no limit
+abbrev pub IsRouteRange : Planner → LeastPlannerPlan → ℕ → Option ℤ → Type 0
+IsRouteRange P p k range =
+    (most : ℤ) → p.shown.model ≡ model_of most P → (d : ℤ) → pos 0 ≤ℤ d
+    → RouteSavingHoldsFor most P p.shown.prices.items p.shown.carries.items k d ↔ IfSome range (λ z. d ≤ℤ z)
+
+-- the same, of units that come in at u and are taken out at w
+abbrev pub IsUnitsRangeBetween : Planner → LeastPlannerPlan → ℕ → ℕ → Option ℤ → Type 0
+IsUnitsRangeBetween P p u w range =
+    (most : ℤ) → p.shown.model ≡ model_of most P → (d : ℤ) → pos 0 ≤ℤ d
+    → UnitsHoldFor most P p.shown.prices.items p.shown.carries.items u w d ↔ IfSome range (λ z. d ≤ℤ z)
 
 -- ---- the laws
 
