@@ -1,10 +1,13 @@
 //! For how many units the prices of a least plan hold, found by hand from the ways between places.
 use crate::plans::{PLAIN, model_of};
 use mcf_choice::Choice;
-use mcf_model::{PlanModel, RouteRow};
+use mcf_model::{PlanModel, RouteRow, Step};
+use mcf_places::{Place, Planner, PlannerAnswer, Policy, least};
 use mcf_planner::Planner as Engine;
 use mcf_text::NoMemory;
-use mcf_unit_ranges::{Ends, UnitsRange, room_range, units_range};
+use mcf_unit_ranges::{
+    Ends, UnitsRange, planner_room_range, planner_units_range, room_range, units_range,
+};
 use std::alloc::Global;
 use std::test::Fail;
 
@@ -142,5 +145,65 @@ fn room_has_its_ranges(rt: HostRuntime) -> Result<(), Fail> {
         let found = room_of(rt.alloc(), &model, place + 1)?;
         assert!(rt; found == Some(UnitsRange { most: ROOM[place] }));
     }
+    Ok(())
+}
+
+// Returns a place with a supply, without bounds.
+fn place(supply: i64) -> Place {
+    Place {
+        supply,
+        through: None,
+        penalty: None,
+    }
+}
+
+// Returns the same as a planner's problem.
+fn problem(alloc: Global) -> Result<Option<Planner>, NoMemory> {
+    let policy = Policy {
+        unused: false,
+        short: false,
+        penalty: None,
+    };
+    let places = vec![in alloc; place(30), place(-18), place(-12)]?;
+    let steps: Vec<Step> = Vec::new(alloc);
+    let rows = vec![in alloc; ROUTES[0], ROUTES[1], ROUTES[2]]?;
+    match Planner::of(alloc, places, steps, rows, policy)? {
+        Ok(planner) => Ok(Some(planner)),
+        Err(_) => Ok(None),
+    }
+}
+
+// Returns the range of the room of the first route, and that of units from the depot to the town.
+fn planner_ranges(
+    alloc: Global,
+    planner: &Planner,
+) -> Result<Option<(Option<UnitsRange>, Option<UnitsRange>)>, NoMemory> {
+    let mut engine = Engine {
+        choice: Choice::default(),
+    };
+    if planner.route_count() < 1 || planner.places().len() < 2 {
+        return Ok(None);
+    }
+    let PlannerAnswer::Least(found) = least(alloc, &mut engine, planner)? else {
+        return Ok(None);
+    };
+    let room = planner_room_range(alloc, &mut engine, planner, &found, 1)?;
+    let ends = Ends { from: 1, to: 2 };
+    let units = planner_units_range(alloc, &mut engine, planner, &found, ends)?;
+    Ok(Some((room, units)))
+}
+
+#[test]
+fn problems_have_their_ranges(rt: HostRuntime) -> Result<(), Fail> {
+    let Some(planner) = problem(rt.alloc())? else {
+        assert!(rt; false);
+        return Ok(());
+    };
+    let Some((room, units)) = planner_ranges(rt.alloc(), &planner)? else {
+        assert!(rt; false);
+        return Ok(());
+    };
+    assert!(rt; room == Some(UnitsRange { most: Some(3) }));
+    assert!(rt; units == Some(UnitsRange { most: Some(5) }));
     Ok(())
 }
