@@ -1,4 +1,6 @@
+mod AreFirsts
 mod Told
 mod DearerPeriods
 mod OriginsOver
 mod PeriodRangeLaws
+mod RoomLaws

@@ -23,9 +23,12 @@ use Rattle.mcf_places.specs.Planning.{plan_in}
 use Rattle.mcf_plan_ranges.specs.PlanRanges.{AreWithinLimits}
 use Rattle.mcf_plan_text.specs.PlanTexts.{answer_kind, answer_rows}
 use Rattle.mcf_planner_ranges.specs.PlannerRanges.{IsPlannerRange}
+use Rattle.mcf_range_text.proofs.AreFirsts.{AreFirst}
 use Rattle.mcf_range_text.specs.PeriodRangeTexts.{AreRouteRanges, IsRouteRange}
 use Rattle.mcf_range_text.specs.Private.Solved.{IsSolvedAnswer, IsSolvedPeriods, IsSolvedProblem, IsSolvedTable, IsToldWithRanges}
 use Rattle.mcf_range_text.specs.RangeTexts.{AreRanges, AreRowRanges, IsRangedText, IsRowRange, has_way_back, range_rows, told_rows}
+use Rattle.mcf_range_text.specs.UnitRangeTexts.{AreUnits, unit_rows}
+use Rattle.mcf_range_text.specs.declared.units.UnitRanges.{UnitRanges}
 use Rattle.mcf_ranges.specs.declared.range.CostRange.{CostRange}
 use Rattle.mcf_reading.specs.Reading.{Entries}
 use Rattle.mcf_table.specs.Texts.{Record}
@@ -54,46 +57,6 @@ pub solved_answer : (texts : FlowBytes) (options : Options) (answer : FlowAnswer
 solved_answer texts options (NoTables broken) h = tt
 solved_answer texts options (NoColumns numbers) h = tt
 solved_answer texts options (Tables said) h = solved_table said.places said.routes options said.answer h.answers.1.answers
-
--- ---- what is told of the first ones
-
-module _ (Tells : ℕ → Option CostRange → Type 0) where
-  -- the ranges of the first ones, of which each has a number, from 1
-  pub record AreFirst (count : ℕ) (ranges : List (Option CostRange)) : Type 0 where
-    pub long : length ranges ≡ count
-    pub each : (place : ℕ) → place < count → Tells (suc place) (get_or ranges place None)
-
-  pub none_told : AreFirst 0 []
-  none_told = record { long = refl; each = λ place h. absurd (omega (arith, h)) }
-
-  last_of : (xs : List (Option CostRange)) (x : Option CostRange) (i : ℕ) → length xs ≡ i → get_or (xs ++ x ∷ []) i None ≡ x
-  last_of [] x zero e = refl
-  last_of [] x (suc i) e = absurd (omega (arith, e))
-  last_of (y ∷ xs) x zero e = absurd (omega (arith, e))
-  last_of (y ∷ xs) x (suc i) e = last_of xs x i (omega arith)
-
-  before_last : (xs : List (Option CostRange)) (x : Option CostRange) (i : ℕ) → i < length xs → get_or (xs ++ x ∷ []) i None ≡ get_or xs i None
-  before_last [] x i h = absurd (omega arith)
-  before_last (y ∷ xs) x zero h = refl
-  before_last (y ∷ xs) x (suc i) h = before_last xs x i (omega arith)
-
-  pub one_told : (count : ℕ) (ranges after : List (Option CostRange)) (told : Option CostRange) → AreFirst count ranges → after ≡ ranges ++ told ∷ []
-      → Tells (count + 1) told → AreFirst (count + 1) after
-  one_told count ranges after told first e is =
-      let long = first.long in
-      subst (AreFirst (count + 1)) (sym e) (record {
-        long = omega (arith, length-append ranges (told ∷ []), long);
-        each = λ place h. go place h (cases_eq place count);
-      })
-    where
-      go : (place : ℕ) → place < count + 1 → (place ≡ count) ⊎ (place ≢ count) → Tells (suc place) (get_or (ranges ++ told ∷ []) place None)
-      go place h (inr other) =
-          let l : place < count = omega (arith, h, other) in
-          subst (Tells (suc place)) (sym (before_last ranges told place (omega (arith, l, first.long)))) (first.each place l)
-      go place h (inl e) =
-          let row : suc place ≡ count + 1 = omega (arith, e) in
-          subst (λ r. Tells r (get_or (ranges ++ told ∷ []) place None)) (sym row)
-          (subst (Tells (count + 1)) (sym (last_of ranges told place (first.long ∙ sym e))) is)
 
 -- ---- what is told of rows and of routes
 
@@ -165,15 +128,21 @@ module _ (scales : Scales) (routes : List Record) where
 
 -- ---- the text
 
-pub is_told : (answer : FlowAnswer) (ranges : List (Option CostRange)) (text : List ℕ) (told : PlanText) → AreRanges answer ranges
-    → text ≡ rows_text (answer_rows answer) → told.text.items ≡ text ++ rows_text (range_rows answer ranges) → told.kind ≡ answer_kind answer
-    → IsToldWithRanges answer told
-is_told answer ranges text told are first second kind =
+pub is_told : (answer : FlowAnswer) (ranges : List (Option CostRange)) (units : UnitRanges) (first second : List ℕ) (told : PlanText) → AreRanges answer ranges
+    → AreUnits answer units → first ≡ rows_text (answer_rows answer) → second ≡ first ++ rows_text (range_rows answer ranges)
+    → told.text.items ≡ second ++ rows_text (unit_rows answer units) → told.kind ≡ answer_kind answer → IsToldWithRanges answer told
+is_told answer ranges units first second told are are_units one two all kind =
+    let rows = answer_rows answer in
+    let costs = range_rows answer ranges in
+    let holds = unit_rows answer units in
     record {
       ranges = ranges;
       are_ranges = are;
-      text_is = second ∙ ap (λ (xs : List ℕ). xs ++ rows_text (range_rows answer ranges)) first
-          ∙ sym (rows_text_append (answer_rows answer) (range_rows answer ranges));
+      units = units;
+      are_units = are_units;
+      text_is = all ∙ ap (λ (xs : List ℕ). xs ++ rows_text holds) (two ∙ ap (λ (xs : List ℕ). xs ++ rows_text costs) one)
+          ∙ append_assoc (rows_text rows) (rows_text costs) (rows_text holds)
+          ∙ ap (λ (xs : List ℕ). rows_text rows ++ xs) (sym (rows_text_append costs holds)) ∙ sym (rows_text_append rows (costs ++ holds));
       kind_is = kind;
     }
 
@@ -186,6 +155,8 @@ is_ranged_text (Ok text) texts options answer answers told =
       answers = answers;
       ranges = told.ranges;
       are_ranges = told.are_ranges;
-      text_is = told.text_is ∙ rows_are_table (answer_rows answer ++ range_rows answer told.ranges);
+      units = told.units;
+      are_units = told.are_units;
+      text_is = told.text_is ∙ rows_are_table (answer_rows answer ++ (range_rows answer told.ranges ++ unit_rows answer told.units));
       kind_is = told.kind_is;
     }

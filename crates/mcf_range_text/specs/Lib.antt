@@ -1,6 +1,8 @@
 pub use Rattle.mcf_plan_text.specs.PlanTexts
 pub use Rattle.mcf_planner_ranges.specs.PlannerRanges
 pub use Rattle.mcf_flow_tables.specs.PeriodTableAnswers
+pub use Rattle.mcf_unit_ranges.specs.Told
+pub use Rattle.mcf_unit_ranges.specs.UnitRanges
 pub use Rattle.mcf_period_text.specs.PeriodAnswerRows
 pub use Rattle.mcf_period_text.specs.TimedTables
 pub use Rattle.mcf_period_units.specs.Made
@@ -10,5 +12,7 @@ pub use Rattle.mcf_periods.specs.PeriodLaws
 pub use Rattle.mcf_periods.specs.Periods
 pub mod PeriodRangeTexts
 pub mod PeriodRanges
+pub mod RoomRangeTexts
+pub mod UnitRangeTexts
 pub mod RangeTexts
 pub mod Private

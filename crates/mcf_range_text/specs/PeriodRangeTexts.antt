@@ -71,7 +71,7 @@ keep_range_row t scales s range =
 -- ---- all, in order
 
 -- the row of a range, if it is told
-abbrev pub row_if_told : (CostRange → List (List ℕ)) → Option CostRange → List (List (List ℕ))
+abbrev pub row_if_told : {X : Type 0} → (X → List (List ℕ)) → Option X → List (List (List ℕ))
 row_if_told row (Some range) = row range ∷ []
 row_if_told row None = []
 

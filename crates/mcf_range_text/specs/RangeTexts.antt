@@ -27,6 +27,8 @@ use Rattle.mcf_table.specs.Texts.{Record}
 use Rattle.mcf_table.specs.Written.{table_text}
 use Rattle.mcf_units.specs.declared.scales.Scales.{Scales}
 use Rattle.mcf_range_text.specs.PeriodRangeTexts.{ArePeriodRanges, end_cells, period_range_rows}
+use Rattle.mcf_range_text.specs.UnitRangeTexts.{AreUnits, unit_rows}
+use Rattle.mcf_range_text.specs.declared.units.UnitRanges.{UnitRanges}
 
 -- ---- ranges
 
@@ -102,14 +104,17 @@ range_rows (Tables said) ranges = table_range_rows (said_tables said) said.answe
 
 -- ---- the text
 
--- the text says an answer to two texts, and then the ranges of its routes, or of its departures and
--- its stores: its rows, each cell between quotes, with commas between them
+-- the text says an answer to two texts, then the ranges of its routes, or of its departures and its
+-- stores, and then for how many units the prices hold: its rows, each cell between quotes, with
+-- commas between them
 pub record IsRangedText (texts : FlowBytes) (options : Options) (text : PlanText) : Type 0 where
   pub answer : FlowAnswer
   pub answers : IsFlowAnswer texts options answer
   pub ranges : List (Option CostRange)
   pub are_ranges : AreRanges answer ranges
-  pub text_is : text.text.items ≡ table_text comma (answer_rows answer ++ range_rows answer ranges)
+  pub units : UnitRanges
+  pub are_units : AreUnits answer units
+  pub text_is : text.text.items ≡ table_text comma (answer_rows answer ++ (range_rows answer ranges ++ unit_rows answer units))
   pub kind_is : text.kind ≡ answer_kind answer
 
 -- the text is an answer to two texts, with the ranges of routes if they are asked

@@ -1,19 +1,24 @@
 #![tactic(auto)]
 
 //! The answer to two tables with the ranges of the costs of routes, as the text of a table. Over
-//! periods, it has those of departures, and of what places keep.
+//! periods, it has those of departures, and of what places keep. Without periods, it also tells for
+//! how many units the prices hold.
 //!
-//! It builds on `mcf_plan_text`, which has the text of an answer, and on `mcf_planner_ranges`,
-//! which has the ranges. The definitions are in `specs/`: `RangeTexts` says what the text is,
-//! `PeriodRangeTexts` which rows it has over periods, and `PeriodRanges` what ranges over periods
-//! are.
+//! It builds on `mcf_plan_text`, which has the text of an answer, on `mcf_planner_ranges`, which
+//! has the ranges, and on `mcf_unit_ranges`, which has the numbers of units. The definitions are in
+//! `specs/`: `RangeTexts` says what the text is, `PeriodRangeTexts` which rows it has over periods,
+//! `PeriodRanges` what ranges over periods are, `UnitRangeTexts` which rows tell for how many units
+//! the prices hold, and `RoomRangeTexts` for how many units of room on a route they do.
 
 mod laws;
 mod period_rows;
 mod ranges;
+mod rooms;
 mod rows;
 mod telling;
 mod timed;
+mod unit_rows;
+mod units;
 
 pub use laws::{flat_ranges_are_period_ranges, told_ranges_are_period_ranges};
 pub use telling::told_text;

@@ -6,6 +6,8 @@ ghost use Rattle.mcf_range_text.specs.RangeTexts.{IsFlowText, IsRangedText};
 
 use crate::ranges::ranges_of;
 use crate::rows::put_ranges;
+use crate::unit_rows::put_units;
+use crate::units::units_of;
 use mcf_flow_tables::{FlowAnswer, Options, Texts, plan_tables};
 use mcf_model::Solves;
 use mcf_plan_text::{PlanText, answer_text, plan_text};
@@ -13,14 +15,20 @@ use mcf_text::NoMemory;
 use std::alloc::Global;
 
 // Returns the text of an answer, with its ranges.
-fn told_with_ranges(alloc: Global, answer: &FlowAnswer) -> Result<PlanText, NoMemory>
+fn told_with_ranges<S: Solves>(
+    alloc: Global,
+    solver: &mut S,
+    answer: &FlowAnswer,
+) -> Result<PlanText, NoMemory>
     requires { IsSolvedAnswer answer.now }
     ensures { IfOk result (IsToldWithRanges answer.now) }
 {
     let ranges = ranges_of(alloc, answer)?;
+    let units = units_of(alloc, solver, answer)?;
     let told = answer_text(alloc, answer)?;
     let mut text = told.text;
     put_ranges(alloc, &mut text, answer, &ranges)?;
+    put_units(alloc, &mut text, answer, &units)?;
     Ok(PlanText {
         text,
         kind: told.kind,
@@ -37,7 +45,7 @@ fn ranged_text<S: Solves>(
     ensures { IfOk result (IsRangedText (bytes_in texts.entry) options) }
 {
     let answer = plan_tables(alloc, solver, texts, options)?;
-    told_with_ranges(alloc, &answer)
+    told_with_ranges(alloc, solver, &answer)
 }
 
 /// Plans the flow of two tables, as `plan_tables` does, and returns the answer as `plan_text` does.
@@ -56,6 +64,12 @@ fn ranged_text<S: Solves>(
 /// place and period after which the place may keep something: `keep range`, the line and the name
 /// of the place, by how much the cost of each unit that is kept may fall and may rise, that period,
 /// and the next one.
+///
+/// Without periods, further rows tell for how many units a figure holds: `room range`, the line and
+/// the ends of a route on which one more unit of room saves something by the prices, and for how
+/// many units, from the first on, each saves just that; the cell is empty without a limit. There is
+/// none if a number is beyond the limits of `units_range`, or if it holds for all units that are
+/// looked at. Each takes up to two further plans.
 ///
 /// # Errors
 ///

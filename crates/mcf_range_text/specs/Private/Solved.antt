@@ -13,6 +13,8 @@ use Rattle.mcf_flow_tables.specs.declared.period_answer.PeriodAnswer.TheVariants
 use Rattle.mcf_places.specs.Answers.{IsPlannerAnswer}
 use Rattle.mcf_plan_text.specs.PlanTexts.{answer_kind, answer_rows}
 use Rattle.mcf_range_text.specs.RangeTexts.{AreRanges, range_rows}
+use Rattle.mcf_range_text.specs.UnitRangeTexts.{AreUnits, unit_rows}
+use Rattle.mcf_range_text.specs.declared.units.UnitRanges.{UnitRanges}
 use Rattle.mcf_ranges.specs.declared.range.CostRange.{CostRange}
 
 -- the answer to what tables say
@@ -42,9 +44,12 @@ IsSolvedAnswer (Tables said) = IsSolvedTable said.answer
 
 -- ---- their texts
 
--- the text says an answer, and then the ranges of its routes
+-- the text says an answer, then the ranges of its routes, and then for how many units the prices
+-- hold
 pub record IsToldWithRanges (answer : FlowAnswer) (text : PlanText) : Type 0 where
   pub ranges : List (Option CostRange)
   pub are_ranges : AreRanges answer ranges
-  pub text_is : text.text.items ≡ rows_text (answer_rows answer ++ range_rows answer ranges)
+  pub units : UnitRanges
+  pub are_units : AreUnits answer units
+  pub text_is : text.text.items ≡ rows_text (answer_rows answer ++ (range_rows answer ranges ++ unit_rows answer units))
   pub kind_is : text.kind ≡ answer_kind answer

@@ -1,5 +1,5 @@
 use Rattle.mcf_range_text.specs.PeriodRangeTexts.{IsRouteRange}
-use Rattle.mcf_range_text.proofs.Told.{AreFirst}
+use Rattle.mcf_range_text.proofs.AreFirsts.{AreFirst}
 use Rattle.mcf_range_text.proofs.ranges.route_ranges.Given as goal
 
 abbrev pub invariant-loop-place : goal.invariant-loop-place

@@ -1,5 +1,5 @@
 use Rattle.mcf_range_text.specs.RangeTexts.{IsRowRange}
-use Rattle.mcf_range_text.proofs.Told.{one_told}
+use Rattle.mcf_range_text.proofs.AreFirsts.{one_told}
 use Rattle.mcf_range_text.proofs.ranges.row_ranges.Goals as goal
 
 pub loop-place-preserved : goal.loop-place-preserved

@@ -1,5 +1,5 @@
 use Rattle.mcf_range_text.specs.RangeTexts.{IsRowRange}
-use Rattle.mcf_range_text.proofs.Told.{AreFirst}
+use Rattle.mcf_range_text.proofs.AreFirsts.{AreFirst}
 use Rattle.mcf_range_text.proofs.ranges.row_ranges.Given as goal
 
 abbrev pub invariant-loop-place : goal.invariant-loop-place

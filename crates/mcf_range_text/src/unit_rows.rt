@@ -1,0 +1,166 @@
+//! The units for which prices hold, as rows of a table.
+ghost use Rattle.std.specs.Prelude.{◌≡◌, ◌++◌, IfOk, None, OnOk, slice_index_or, suc};
+ghost use Rattle.mcf_answer_rows.specs.Lines.{row_line, rows_text};
+ghost use Rattle.mcf_plan_rows.specs.Cells.{amount_text, text_if};
+ghost use Rattle.mcf_plan_rows.specs.FaultRows.{tables_in};
+ghost use Rattle.mcf_range_text.specs.PeriodRangeTexts.{row_if_told};
+ghost use Rattle.mcf_range_text.specs.RoomRangeTexts.{room_range_row, room_range_rows};
+ghost use Rattle.mcf_range_text.specs.UnitRangeTexts.{least_unit_rows, problem_unit_rows, solved_unit_rows, table_unit_rows, unit_rows};
+
+use crate::units::UnitRanges;
+use mcf_answer_rows::{cell_under, line_cell, put_line};
+use mcf_flow_tables::{FlowAnswer, ProblemAnswer, SolvedProblem, TableAnswer};
+use mcf_places::PlannerAnswer;
+use mcf_plan_rows::{Two, amount_cell};
+use mcf_table::Records;
+use mcf_text::NoMemory;
+use mcf_unit_ranges::UnitsRange;
+use mcf_units::Scales;
+use std::alloc::Global;
+
+// Returns a number of units as a cell, which is empty without a limit.
+fn units_cell(alloc: Global, scales: Scales, most: Option<i64>) -> Result<Vec<u8>, NoMemory>
+    ensures { IfOk result (λ made. made.items ≡ text_if (amount_text scales) most) }
+{
+    match most {
+        Some(most) => amount_cell(alloc, scales, i128::from(most)),
+        None => Ok(Vec::new(alloc)),
+    }
+}
+
+// Appends the range of the room on the route of a row.
+fn put_room(
+    alloc: Global,
+    out: &mut Vec<u8>,
+    routes: &Records,
+    scales: Scales,
+    row: usize,
+    range: UnitsRange,
+) -> Result<(), NoMemory>
+    ensures { OnOk result (out.new.items ≡ out.old.items ++ row_line (room_range_row scales routes.now row range)) }
+{
+    let line = line_cell(alloc, routes, row)?;
+    let tail = cell_under(routes, b"from", row);
+    let head = cell_under(routes, b"to", row);
+    let most = units_cell(alloc, scales, range.most)?;
+    put_line(out, &[b"room range", &line, tail, head, &most])
+}
+
+// Appends the range of the room on the route of a row, if it is told.
+fn put_told_room(
+    alloc: Global,
+    out: &mut Vec<u8>,
+    routes: &Records,
+    scales: Scales,
+    row: usize,
+    told: Option<UnitsRange>,
+) -> Result<(), NoMemory>
+    ensures { OnOk result (out.new.items ≡ out.old.items ++ rows_text (row_if_told (room_range_row scales routes.now row) told)) }
+{
+    match told {
+        Some(range) => put_room(alloc, out, routes, scales, row, range),
+        None => Ok(()),
+    }
+}
+
+// Appends the ranges of the room on the routes of all rows.
+fn put_rooms(
+    alloc: Global,
+    out: &mut Vec<u8>,
+    routes: &Records,
+    scales: Scales,
+    ranges: &[Option<UnitsRange>],
+) -> Result<(), NoMemory>
+    ensures { OnOk result (out.new.items ≡ out.old.items ++ rows_text (room_range_rows scales routes.now ranges.now)) }
+{
+    for place in 0..ranges.len() {
+        put_told_room(alloc, out, routes, scales, place + 1, ranges[place])?;
+    }
+    Ok(())
+}
+
+// Appends the ranges of a least plan.
+fn put_least_units(
+    alloc: Global,
+    out: &mut Vec<u8>,
+    two: Two<'_>,
+    scales: Scales,
+    ranges: &UnitRanges,
+) -> Result<(), NoMemory>
+    ensures { OnOk result (out.new.items ≡ out.old.items ++ rows_text (least_unit_rows (tables_in two.entry) scales ranges.now)) }
+{
+    put_rooms(alloc, out, two.routes, scales, &ranges.rooms)
+}
+
+// Appends the ranges of a problem that was solved.
+fn put_solved_units(
+    alloc: Global,
+    out: &mut Vec<u8>,
+    two: Two<'_>,
+    solved: &SolvedProblem,
+    ranges: &UnitRanges,
+) -> Result<(), NoMemory>
+    ensures { OnOk result (out.new.items ≡ out.old.items ++ rows_text (solved_unit_rows (tables_in two.entry) solved.now.scales solved.now.answer ranges.now)) }
+{
+    match &solved.answer {
+        PlannerAnswer::Least(_) => put_least_units(alloc, out, two, solved.scales, ranges),
+        _ => Ok(()),
+    }
+}
+
+// Appends the ranges of the answer to what tables say.
+fn put_problem_units(
+    alloc: Global,
+    out: &mut Vec<u8>,
+    two: Two<'_>,
+    answer: &ProblemAnswer,
+    ranges: &UnitRanges,
+) -> Result<(), NoMemory>
+    ensures { OnOk result (out.new.items ≡ out.old.items ++ rows_text (problem_unit_rows (tables_in two.entry) answer.now ranges.now)) }
+{
+    match answer {
+        ProblemAnswer::Solved(solved) => put_solved_units(alloc, out, two, solved, ranges),
+        _ => Ok(()),
+    }
+}
+
+// Appends the ranges of the answer to the rows of two tables.
+fn put_table_units(
+    alloc: Global,
+    out: &mut Vec<u8>,
+    two: Two<'_>,
+    answer: &TableAnswer,
+    ranges: &UnitRanges,
+) -> Result<(), NoMemory>
+    ensures { OnOk result (out.new.items ≡ out.old.items ++ rows_text (table_unit_rows (tables_in two.entry) answer.now ranges.now)) }
+{
+    match answer {
+        TableAnswer::Problem(answer) => put_problem_units(alloc, out, two, answer, ranges),
+        _ => Ok(()),
+    }
+}
+
+/// Appends the ranges of the units of an answer.
+///
+/// # Errors
+///
+/// `NoMemory` if an allocation is refused.
+pub(crate) fn put_units(
+    alloc: Global,
+    out: &mut Vec<u8>,
+    answer: &FlowAnswer,
+    ranges: &UnitRanges,
+) -> Result<(), NoMemory>
+    ensures { OnOk result (out.new.items ≡ out.old.items ++ rows_text (unit_rows answer.now ranges.now)) }
+{
+    match answer {
+        FlowAnswer::Tables(said) => {
+            let two = Two {
+                places: &said.places,
+                routes: &said.routes,
+            };
+            put_table_units(alloc, out, two, &said.answer, ranges)
+        }
+        _ => Ok(()),
+    }
+}
