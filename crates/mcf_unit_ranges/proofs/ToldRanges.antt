@@ -18,7 +18,7 @@ use Rattle.mcf_unit_ranges.specs.declared.limits.TheConstants.{UNITS_LIMIT}
 use Rattle.mcf_unit_ranges.specs.declared.ranging.UnitsRange.{UnitsRange}
 use Rattle.mcf_unit_ranges.specs.Private.Plans.{CarriesFirst, HasPlan}
 use Rattle.mcf_unit_ranges.specs.SpanModels.{free_model, span_model}
-use Rattle.mcf_unit_ranges.specs.Told.{FitsLimits, IsRangeAt, IsUntold}
+use Rattle.mcf_unit_ranges.specs.Told.{FitsLimits, IsClosed, IsRangeAt, IsUntold}
 use Rattle.mcf_unit_ranges.proofs.SpareUnits.{here, holds_all, range_is, range_is_free, some_plan, spare_at_most}
 
 pub no_fit : (m : Model) (fault : ArrayFault) → array_fault limits (network_of (reach_of m) m) ≡ Some fault → ¬ FitsLimits m
@@ -59,20 +59,33 @@ module _ (m : Model) (prices : List ℤ) (u w : ℕ) (sound : IsSound m) (hu : I
   pub untold_free : (made : Model) → made ≡ free_model prices m u w → ¬ FitsLimits made → IsUntold m prices u w
   untold_free made e unfit = inl (λ within. unfit (subst FitsLimits (sym e) within.free_fits))
 
-  pub untold_spans : (made : Model) → made ≡ spans → (¬ FitsLimits made) ⊎ (¬ HasPlan made) → IsUntold m prices u w
-  untold_spans made e (inl unfit) = inl (λ within. unfit (subst FitsLimits (sym e) within.spans_fit))
-  untold_spans made e (inr none) =
-      inr (λ plan priced. absurd (none (subst HasPlan (sym e)
-      (most ∷ here m prices plan u w sound priced hu hw, some_plan m prices plan u w sound priced hu hw most most0))))
+  pub untold_spans : (made : Model) → IsClosed m prices u w → made ≡ spans → (¬ FitsLimits made) ⊎ (¬ HasPlan made) → IsUntold m prices u w
+  untold_spans made closed e (inl unfit) = inl (λ within. unfit (subst FitsLimits (sym e) within.spans_fit))
+  untold_spans made closed e (inr none) =
+      inr (
+        closed,
+        λ plan priced. absurd (none (subst HasPlan (sym e)
+            (most ∷ here m prices plan u w sound priced hu hw, some_plan m prices plan u w sound priced hu hw most most0))),
+      )
 
-  pub untold_beside : (made : Model) (b : ℤ) → made ≡ spans → CarriesFirst made b → (b ≤ℤ pos 0) ⊎ (most <ℤ b) → IsUntold m prices u w
-  untold_beside made b e first (inl none) =
+  pub untold_beside : (made : Model) (b : ℤ) → IsClosed m prices u w → made ≡ spans → CarriesFirst made b → (b ≤ℤ pos 0) ⊎ (most <ℤ b) → IsUntold m prices u w
+  untold_beside made b closed e first (inl none) =
       let f = subst (λ s. CarriesFirst s b) e first in
       let enough = f.is_plan.may_carry.0.enough in
-      inr (λ plan priced. holds_all m prices plan u w sound priced hu hw most most0 b f.rest f.is_plan f.least (omega (arith, ints, none, enough)))
-  untold_beside made b e first (inr above) =
+      inr (
+        closed,
+        λ plan priced. holds_all m prices plan u w sound priced hu hw most most0 b f.rest f.is_plan f.least (omega (arith, ints, none, enough)),
+      )
+  untold_beside made b closed e first (inr above) =
       let f = subst (λ s. CarriesFirst s b) e first in
-      inr (λ plan priced. absurd (omega (arith, ints, above, spare_at_most m prices plan u w sound priced hu hw most most0 b f.rest f.is_plan f.least)))
+      inr (
+        closed,
+        λ plan priced. absurd (omega (arith, ints, above, spare_at_most m prices plan u w sound priced hu hw most most0 b f.rest f.is_plan f.least)),
+      )
+
+  -- where the code finds no plan, there is none
+  pub is_closed : (made : Model) → made ≡ free_model prices m u w → ¬ HasPlan made → IsClosed m prices u w
+  is_closed made e none plan is = none (plan, subst (λ s. IsPlan s plan) (sym e) is)
 
 -- ---- cases of options
 

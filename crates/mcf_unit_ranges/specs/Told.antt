@@ -7,7 +7,7 @@ use Rattle.mcf_flows.specs.Network.{at_node}
 use Rattle.mcf_flows.specs.WellFormed.{IsUpTo}
 use Rattle.mcf_instance.specs.Arrays.{array_fault}
 use Rattle.mcf_model.specs.Arcs.{network_of, reach_of}
-use Rattle.mcf_model.specs.Model.{Model, Route}
+use Rattle.mcf_model.specs.Model.{IsPlan, Model, Route}
 use Rattle.mcf_figures.specs.Figures.{figure_limit}
 use Rattle.mcf_figures.specs.FigureLaws.{IsPriced}
 use Rattle.mcf_unit_ranges.specs.declared.limits.TheConstants.{UNITS_LIMIT}
@@ -47,7 +47,11 @@ pub record AreWithinLimits (m : Model) (prices : List ℤ) (u w : ℕ) : Type 0 
   pub free_fits : FitsLimits (free_model prices m u w)
   pub spans_fit : FitsLimits (span_model prices m u w (pos UNITS_LIMIT))
 
--- why no range is told: a number is beyond the limits, or what the prices say holds for all units
--- that are looked at
+-- no plan moves a unit from u to w on spans without a limit
+abbrev pub IsClosed : Model → List ℤ → ℕ → ℕ → Type 0
+IsClosed m prices u w = (plan : List ℤ) → ¬ IsPlan (free_model prices m u w) plan
+
+-- why no range is told: a number is beyond the limits; or no unit moves on spans without a limit,
+-- and what the prices say holds for all units that are looked at
 abbrev pub IsUntold : Model → List ℤ → ℕ → ℕ → Type 0
-IsUntold m prices u w = (¬ AreWithinLimits m prices u w) ⊎ HoldsForAll m prices u w
+IsUntold m prices u w = (¬ AreWithinLimits m prices u w) ⊎ (IsClosed m prices u w × HoldsForAll m prices u w)

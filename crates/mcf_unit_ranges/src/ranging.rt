@@ -1,12 +1,12 @@
 //! For how many units what the prices say holds.
-ghost use Rattle.std.specs.Prelude.{◌≡◌, ◌≤◌, ◌⊎◌, ◌↔◌, ◌-ℤ◌, ◌≤ℤ◌, ◌<ℤ◌, IfNone, IfOk, IfSome, IsTrue, Some, length, pos, slice_index_or, true};
+ghost use Rattle.std.specs.Prelude.{◌≡◌, ◌≤◌, ◌⊎◌, ◌↔◌, ◌-ℤ◌, ◌≤ℤ◌, ◌<ℤ◌, IfNone, IfOk, IfSome, IsTrue, Some, false, length, pos, slice_index_or, true};
 ghost use Rattle.std.specs.List.{All};
 ghost use Rattle.mcf_figures.specs.Figures.{figure_limit};
 ghost use Rattle.mcf_flows.specs.Limits.{limits};
 ghost use Rattle.mcf_flows.specs.Network.{IsNode, at_node};
 ghost use Rattle.mcf_flows.specs.WellFormed.{IsUpTo};
 ghost use Rattle.mcf_unit_ranges.specs.Private.Plans.{CarriesFirst, HasPlan};
-ghost use Rattle.mcf_unit_ranges.specs.Told.{FitsLimits, HasSmallSpan, IsRangeAt, IsUntold};
+ghost use Rattle.mcf_unit_ranges.specs.Told.{FitsLimits, HasSmallSpan, IsClosed, IsRangeAt, IsUntold};
 
 use crate::limits::{UNITS_LIMIT, are_small_prices, is_small_supply};
 use crate::models::{free_model, span_model};
@@ -49,6 +49,7 @@ fn has_plan<S: Solves>(
     model: &PlanModel,
 ) -> Result<Option<bool>, NoMemory>
     ensures some { IfOk result (λ told. IfSome told (λ has. has ≡ true → HasPlan model.now)) }
+    ensures closed { IfOk result (λ told. IfSome told (λ has. has ≡ false → ¬ HasPlan model.now)) }
     ensures none { IfOk result (λ told. IfNone told (¬ FitsLimits model.now)) }
 {
     match plan(alloc, solver, model)? {
@@ -111,6 +112,7 @@ fn limited_range<S: Solves>(
     requires to { IsNode (length model.now.supplies) ends.to }
     requires first { IsUpTo limits.supply (at_node model.now.supplies ends.from) }
     requires second { IsUpTo limits.supply (at_node model.now.supplies ends.to) }
+    requires closed { IsClosed model.now prices.now ends.from ends.to }
     ensures some { IfOk result (λ told. IfSome told (λ range. IsRangeAt model.now prices.now ends.from ends.to range.most)) }
     ensures none { IfOk result (λ told. IfNone told (IsUntold model.now prices.now ends.from ends.to)) }
 {
@@ -162,8 +164,7 @@ fn range_within<S: Solves>(
 ///
 /// It is `None` if a number is beyond the limits: a price of more than 10^36, a supply of more than
 /// 10^18 at one of both places, or a number of a model of spans. And it is `None` if what the
-/// prices say holds for 10^15 units, and no spans without a limit show that it holds for any
-/// number.
+/// prices say holds for 10^15 units, while no unit can move on spans without a limit alone.
 ///
 /// # Errors
 ///

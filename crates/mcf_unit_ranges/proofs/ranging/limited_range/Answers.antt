@@ -26,10 +26,10 @@ returns-in-Some-clause-none g c =
     let read : to_z w128 (of_z w128 c.in-Some.spare) ≡ c.in-Some.spare = search rules in
     let first = subst (CarriesFirst c.in_ok-spans.spans) (sym read) (subst (λ (o : Option ℤ). IfSome o (CarriesFirst c.in_ok-spans.spans)) c.in-Some.is c.in_ok-spare.ensures.some) in
     none_from c.range_beside.result _ (IsUntold m prices u w) c.range_beside.ensures.none
-    (λ why. untold_beside m prices u w c.place_count-places.ensures.proper.sound c.requires.from c.requires.to c.in_ok-spans.spans _ c.in_ok-spans.ensures first why)
+    (λ why. untold_beside m prices u w c.place_count-places.ensures.proper.sound c.requires.from c.requires.to c.in_ok-spans.spans _ c.requires.closed c.in_ok-spans.ensures first why)
 
 pub returns-clause-none : goal.returns-clause-none
 returns-clause-none g c =
     untold_spans c.args.model.now c.args.prices.now c.args.ends.from c.args.ends.to c.place_count-places.ensures.proper.sound c.requires.from c.requires.to
-    c.in_ok-spans.spans c.in_ok-spans.ensures
+    c.in_ok-spans.spans c.requires.closed c.in_ok-spans.ensures
     (subst (λ (o : Option ℤ). IfNone o ((¬ FitsLimits c.in_ok-spans.spans) ⊎ (¬ HasPlan c.in_ok-spans.spans))) c.in-None.is c.in_ok-spare.ensures.none)
