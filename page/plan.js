@@ -64,6 +64,15 @@ export class FlowPlan {
       problem.routes.map((route) => this.keyOf(route))
     );
     this.ranges = problem.routes.map((route, k) => this.range(route, changes[k]));
+    // Over periods no ranges of room are told.
+    this.hasRooms = this.hasRanges && !problem.periods.length;
+    /** @type {(bigint | null | undefined)[]} */
+    this.rooms = toldInTurn(
+      answer.rows('room range').map(([line, from, to, most]) =>
+        [[line, from, to, ''], most ? this.amountOf(most) : null]
+      ),
+      problem.routes.map((route) => this.keyOf(route))
+    );
     const keeping = new Map(answer.rows('keep range').map(([, name, down, up, period]) =>
       [JSON.stringify([name, period]), [down, up]]
     ));

@@ -3,7 +3,8 @@
 import { balanceOf } from './blocked.js';
 import { TOLD_NAMES, countOf, listed } from './faults.js';
 import {
-  FLOW_RESULTS, PLACE_PERIOD, PLACE_RESULTS, RANGE_RESULTS, ROUTE_PERIODS, STOCK, THROUGH_RESULTS,
+  FLOW_RESULTS, PLACE_PERIOD, PLACE_RESULTS, RANGE_RESULTS, ROOM_RESULTS, ROUTE_PERIODS, STOCK,
+  THROUGH_RESULTS,
 } from './heads.js';
 import { labelIn } from './periods.js';
 import { MISSING, STAYS, THROUGH } from './plan.js';
@@ -26,7 +27,7 @@ import { words } from './words.js';
  * @returns {SavedTable}
  */
 function after(name, like, results, rows) {
-  const places = like.kept(...results, RANGE_RESULTS);
+  const places = like.kept(...results, RANGE_RESULTS, ROOM_RESULTS);
   const heads = [...places.map((place) => like.titles[place]), ...results.flat()];
   return {
     name,
@@ -44,14 +45,16 @@ export function flowsTable(plan) {
   const { problem } = plan;
   const { units } = problem;
   const hasPeriods = problem.periods.length > 0;
-  const own = plan.hasRanges ? [FLOW_RESULTS, RANGE_RESULTS] : [FLOW_RESULTS];
+  const own = [
+    FLOW_RESULTS, ...plan.hasRanges ? [RANGE_RESULTS] : [], ...plan.hasRooms ? [ROOM_RESULTS] : [],
+  ];
   /** @type {(departs: string, arrives: string) => string[]} */
   const periods = (departs, arrives) => (hasPeriods ? [departs, arrives] : []);
   /** @type {[string[], string[]][]} */
   const rows = problem.routes.map((route, k) => [
     route.cells,
     [
-      ...cellsOf(plan, plan.routes[k]), ...rangeCells(plan, plan.ranges[k]),
+      ...cellsOf(plan, plan.routes[k]), ...rangeCells(plan, plan.ranges[k]), ...roomCells(plan, k),
       ...periods(route.departs, route.arrives),
     ],
   ]);
@@ -98,6 +101,15 @@ export function stockTables(plan) {
 export function rangeCells({ hasRanges, problem: { units } }, range) {
   if (!hasRanges) return [];
   return range ? [units.rate(range.low), units.rate(range.high)] : ['unknown', 'unknown'];
+}
+
+// This function returns for how many units room on a route saves what one more does, if the plan
+// tells that. It is empty without a limit, and where room saves nothing.
+/** @type {(plan: FlowPlan, k: number) => string[]} */
+export function roomCells({ hasRooms, routes, rooms, problem: { units } }, k) {
+  if (!hasRooms) return [];
+  const told = routes[k].saves ? rooms[k] : null;
+  return [told === undefined ? 'unknown' : units.amount(told)];
 }
 
 /** @type {(plan: FlowPlan, result: RouteResult) => string[]} */

@@ -13,6 +13,7 @@ import {
   flowsTable,
   pricesTable,
   rangeCells,
+  roomCells,
   savingsOf,
   slips,
   stockTables,
@@ -131,8 +132,10 @@ const RANGE_COLUMNS = ['cost may fall to', 'cost may rise to'].map((head) =>
   number(head, 'while this plan stays least; empty: no limit')
 );
 
+const ROOM_COLUMN = number('saves for', 'so many units of room more; empty: no limit');
+
 /** @type {(plan: FlowPlan) => Column[]} */
-const routeColumns = ({ problem, hasRanges }) => [
+const routeColumns = ({ problem, hasRanges, hasRooms }) => [
   ...(problem.periods.length ? [column('departs in'), column('arrives in')] : []),
   column('from', 'where the route begins'),
   column('to', 'where it ends'),
@@ -146,6 +149,7 @@ const routeColumns = ({ problem, hasRanges }) => [
   column('exact', 'whether it saves just that'),
   number('one more carried costs', 'at least, if it has to carry one more; empty: full'),
   ...(hasRanges ? RANGE_COLUMNS : []),
+  ...(hasRooms ? [ROOM_COLUMN] : []),
   ...ownOf(problem.routeTable),
 ];
 
@@ -177,6 +181,7 @@ function routesSheet(plan) {
         saves ? (isExact ? 'exactly' : 'at most') : '',
         units.rate(dearer),
         ...rangeCells(plan, plan.ranges[k]),
+        ...roomCells(plan, k),
         ...own.map((place) => cellAt(route.cells, place)),
       ],
     };

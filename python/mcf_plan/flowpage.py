@@ -29,6 +29,7 @@ RANGE_COLUMNS = [
     ("cost may fall to", "while this plan stays least; empty: no limit"),
     ("cost may rise to", "while this plan stays least; empty: no limit"),
 ]
+ROOM_COLUMNS = [("saves for", "so many units of room more; empty: no limit")]
 PLACE_COLUMNS = [
     ("name", ""),
     ("supply", "above 0 it sends, below 0 it takes"),
@@ -113,7 +114,7 @@ def routes_sheet(plan):
         cells = [table.cell(route.line, route.cells, place) for place in own]
         rows.append((kind, route_cells(plan, number) + cells))
     rows, note = listed_rows(rows)
-    columns = ROUTE_COLUMNS + RANGE_COLUMNS * plan.has_ranges
+    columns = ROUTE_COLUMNS + RANGE_COLUMNS * plan.has_ranges + ROOM_COLUMNS * plan.has_rooms
     columns = DEPARTURE_COLUMNS * bool(problem.periods) + columns
     columns += [(table.title(sheet.titles[place]), "") for place in own]
     total = figure(sum(result.cost or 0 for result in plan.routes))
@@ -141,6 +142,7 @@ def route_cells(plan, number):
         exact if result.saves else "",
         figure(result.dearer),
         *report.range_cells(plan, plan.ranges[number]),
+        *report.room_cells(plan, number),
     ]
 
 

@@ -182,6 +182,15 @@ class Problem:
         found = told_in_turn(rows, [(route.line, *self.ends(route)) for route in self.routes])
         return [cost_range(*one) for one in zip(self.routes, found)]
 
+    def room_ranges(self):
+        """For how many units room on the routes saves what one more does, in a tuple; or None for a
+        route of which that isn't told."""
+        rows = (
+            ((int(line), tail, head), (number_in(most),))
+            for line, tail, head, most in self.answer.rows["room range"]
+        )
+        return told_in_turn(rows, [(route.line, *self.ends(route)) for route in self.routes])
+
     def store_ranges(self):
         """The ranges of the costs of what places keep."""
         return []
@@ -197,6 +206,9 @@ class Plan:
         self.places = [place_result(cells[2:], groups) for cells in rows]
         self.has_ranges, self.ranges = problem.options.ranges, problem.ranges()
         self.store_ranges = problem.store_ranges()
+        # Over periods no ranges of room are told.
+        self.has_rooms = self.has_ranges and not problem.periods
+        self.rooms = problem.room_ranges() if self.has_rooms else []
 
     def is_full(self, number):
         """Whether a route carries its whole capacity, and more than 0."""

@@ -7,6 +7,7 @@ from .results import (
     PLACE_PERIODS,
     PLACE_RESULTS,
     RANGE_RESULTS,
+    ROOM_RESULTS,
     ROUTE_PERIODS,
     STOCK,
     THROUGH_RESULTS,
@@ -26,10 +27,12 @@ def write_flows(results, plan):
     stays and what is missing."""
     problem = plan.problem
     has_periods = bool(problem.periods)
-    groups = [FLOW_RESULTS] + [RANGE_RESULTS] * plan.has_ranges + [ROUTE_PERIODS] * has_periods
+    groups = [FLOW_RESULTS] + [RANGE_RESULTS] * plan.has_ranges + [ROOM_RESULTS] * plan.has_rooms
+    groups += [ROUTE_PERIODS] * has_periods
     rows = []
-    for route, result, told in zip(problem.routes, plan.routes, plan.ranges):
-        cells = result_cells(result) + range_cells(plan, told)
+    for number, (route, result) in enumerate(zip(problem.routes, plan.routes)):
+        cells = result_cells(result) + range_cells(plan, plan.ranges[number])
+        cells += room_cells(plan, number)
         rows.append((route.line, route.cells, cells + [route.departs, route.arrives] * has_periods))
     for is_supply in (True, False):
         for place, amount in plan.unmet(is_supply):
@@ -86,6 +89,15 @@ def range_cells(plan, told):
     if not plan.has_ranges:
         return []
     return [UNKNOWN, UNKNOWN] if told is None else [*map(figure, told)]
+
+
+def room_cells(plan, number):
+    """For how many units room on a route saves what one more does, if the plan tells that. It is
+    empty without a limit, and where room saves nothing."""
+    if not plan.has_rooms:
+        return []
+    told = plan.rooms[number] if plan.routes[number].saves else (None,)
+    return [UNKNOWN] if told is None else [figure(told[0])]
 
 
 def write_bottlenecks(results, problem, bottlenecks):

@@ -10,6 +10,7 @@ FORMULA = ("=", "+", "-", "@", "\t", "\r")
 # The heads of results, in groups.
 FLOW_RESULTS = ("carries", "total", "free", "one_more_saves", "exact", "one_more_carried_costs")
 RANGE_RESULTS = ("cost_may_fall_to", "cost_may_rise_to")
+ROOM_RESULTS = ("one_more_saves_for",)
 PLACE_RESULTS = ("one_more_costs", "group")
 THROUGH_RESULTS = (
     "passes",
@@ -25,6 +26,7 @@ PLACE_PERIODS = ("in_period",)
 GROUPS = (
     FLOW_RESULTS,
     RANGE_RESULTS,
+    ROOM_RESULTS,
     PLACE_RESULTS,
     THROUGH_RESULTS,
     ROUTE_PERIODS,
@@ -78,7 +80,7 @@ class Results:
     def after(self, name, like, sheet, groups, rows):
         """Writes a table with the columns of another, followed by groups of results. Each row has a
         line and the cells of both."""
-        places = kept(sheet, [*groups, RANGE_RESULTS])
+        places = kept(sheet, [*groups, RANGE_RESULTS, ROOM_RESULTS])
         heads = [like.title(sheet.titles[place]) for place in places]
         heads += [head for group in groups for head in group]
         self.table(

@@ -224,8 +224,7 @@ class Teller:
     def text(self, word, line, column, what, cell):
         """The sentence about a fault."""
         what, meant = TITLE.fullmatch(what).groups() if TITLE.fullmatch(what) else (what, "")
-        sheet, table = self.sheets[word], self.tables[word]
-        row = self.row(word, line, column, cell)
+        sheet, table, row = self.sheets[word], self.tables[word], self.row(word, line, column, cell)
         heads = {"what": ["who", "what"], "most": ["least", "most"], "1": sheet.heads[:1]}
         if word == "groups":
             heads = {"who": ["group", "who"], "what": ["group", "what"]}

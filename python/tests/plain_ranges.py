@@ -60,3 +60,43 @@ def why_wrong_ranges(problem, rows, wide=Fraction(50)):
                 if stays_least(problem, rows, number, change) != is_in:
                     return f"route {number}: {ends} are told, and {change} is in it: {not is_in}"
     return None
+
+
+def unit_of_amounts(problem):
+    """The greatest power of ten of which all amounts are multiples, and no more than 1."""
+    amounts = [most for route in problem.routes for most, _ in route.steps]
+    amounts += [route.least for route in problem.routes]
+    amounts += [place.supply for place in problem.places]
+    amounts += [bound for place in problem.places if place.bounds for bound in place.bounds[:2]]
+    unit = Fraction(1)
+    while any(amount % unit for amount in amounts if amount is not None):
+        unit /= 10
+    return unit
+
+
+def with_room(problem, number, more):
+    """The problem with so many units more of room on a route."""
+    routes = list(problem.routes)
+    *steps, (most, cost) = routes[number].steps
+    routes[number] = routes[number]._replace(steps=(*steps, (most + more, cost)))
+    return Problem(problem.places, routes, problem.policy)
+
+
+def why_wrong_rooms(problem, rows, wide=Fraction(50)):
+    """What is wrong with the ranges of room of a plan in which nothing is missing for want of room;
+    None if nothing is. Where a range has no limit, a wide one is tried."""
+    lines = [cells[0] for cells in rows.by_word["route"]]
+    told = {lines.index(line): most for line, _, _, most in rows.by_word["room range"]}
+    saves = [Fraction(cells[6] or 0) for cells in rows.by_word["route"]]
+    if sorted(told) != [number for number, saving in enumerate(saves) if saving > 0]:
+        return "ranges of room of other routes are told"
+    for number, most in told.items():
+        if problem.routes[number].both and problem.is_bounded(problem.routes[number]):
+            continue
+        inside = Fraction(most) if most else wide
+        tries = [(inside, True)] + [(inside + unit_of_amounts(problem), False)] * bool(most)
+        for more, is_in in tries:
+            cost = with_room(problem, number, more).least()[0]
+            if (cost == rows.number("cost") - more * saves[number]) != is_in:
+                return f"route {number}: {most} is told, and {more} is in it: {not is_in}"
+    return None

@@ -19,7 +19,7 @@ from plain_plans import (
     why_no_plan,
     why_wrong_figures,
 )
-from plain_ranges import why_wrong_ranges
+from plain_ranges import why_wrong_ranges, why_wrong_rooms
 from random_tables import TIGHT, Notation, random_problem, round_problem, tables_of
 from support import TOP, WithFolder
 
@@ -149,6 +149,8 @@ class Plans(Answering):
             problem, texts, rows = self.planned_problem(rng, "--ranges", "yes")
             with self.subTest(case=case, texts=texts, policy=problem.policy):
                 self.assertIsNone(why_wrong_ranges(problem, rows))
+                if problem.names_penalty() or not rows.number("missing"):
+                    self.assertIsNone(why_wrong_rooms(problem, rows))
 
     def test_figures_of_all_amounts(self):
         """In some of these plans, all amounts pass through a place without a limit."""
