@@ -4,3 +4,5 @@ mod DearerPeriods
 mod OriginsOver
 mod PeriodRangeLaws
 mod RoomLaws
+mod SmallNumbers
+mod SupplyLaws

@@ -1,6 +1,6 @@
 -- For how many units more room saves what the prices say.
-use Rattle.std.proofs.Common.{◌≡◌, ℕ, suc, ◌<◌, Bool, true, false, if◌then◌else◌, List, length, ap, arith, subst, sym, ◌∙◌, ℤ, pos, ◌-ℤ◌, ◌<ℤ◌, ◌≤ℤ◌, inl, inr, Result, Ok, Err}
-use Rattle.std.specs.Prelude.{IfOk, IfNone, IfSome, Option, Some, None, ◌⊎◌, ◌↔◌, ◌-◌}
+use Rattle.std.proofs.Common.{◌≡◌, ℕ, Bool, true, false, if◌then◌else◌, List, length, ap, arith, subst, sym, ◌∙◌, ℤ, pos, ◌<ℤ◌, ◌≤ℤ◌, inl, inr, Result, Ok, Err}
+use Rattle.std.specs.Prelude.{IfOk, IfNone, IfSome, Option, Some, None, ◌⊎◌, ◌-◌}
 use Rattle.mcf_figures.specs.FigureLaws.{IsPriced}
 use Rattle.mcf_figures.specs.Told.{HasFigures}
 use Rattle.mcf_flows.specs.Network.{IsNode}
@@ -10,7 +10,7 @@ use Rattle.mcf_places.specs.declared.answering.LeastPlannerPlan.{LeastPlannerPla
 use Rattle.mcf_places.specs.declared.answering.ShownModel.{ShownModel}
 use Rattle.mcf_places.specs.Planners.{Planner, row_count}
 use Rattle.mcf_range_text.proofs.AreFirsts.{AreFirst}
-use Rattle.mcf_range_text.specs.RoomRangeTexts.{AreRoomRanges, HasNoRoomRange, HoldsUpTo, IsRoomRange, saving_in}
+use Rattle.mcf_range_text.specs.RoomRangeTexts.{AreRoomRanges, HoldsUpTo, IsRoomRange, saving_in}
 use Rattle.mcf_unit_ranges.specs.declared.ranging.UnitsRange.{UnitsRange}
 use Rattle.mcf_unit_ranges.specs.Spans.{directed, goes_back, turned}
 use Rattle.mcf_unit_ranges.specs.Told.{IsRangeAt, IsUntold}

@@ -1,8 +1,7 @@
 -- Ranges of answers, and their rows.
-use Rattle.std.proofs.Common.{◌≡◌, ◌≢◌, ℕ, zero, suc, ◌+◌, ◌<◌, ◌≤◌, true, List, [], ◌∷◌, ◌++◌, length, drop, drop-cons, get_or, refl, sym, ap, ◌∙◌, subst, arith, append_assoc, append-nil, Result, Ok, Err, Option, Some, None, inl, inr}
-use Rattle.std.specs.Prelude.{IfOk, IfNone, IfSome, ◌⊎◌}
-use Rattle.std.proofs.lemmas.Bool.{cases_eq}
-use Rattle.std.proofs.lemmas.List.{drop_all, length-append}
+use Rattle.std.proofs.Common.{◌≡◌, ℕ, suc, ◌+◌, ◌<◌, ◌≤◌, true, List, [], ◌∷◌, ◌++◌, length, drop, drop-cons, get_or, refl, sym, ap, ◌∙◌, subst, arith, append_assoc, append-nil, Result, Ok, Err, Option, Some, None, inl, inr}
+use Rattle.std.specs.Prelude.{IfOk, IfNone, IfSome}
+use Rattle.std.proofs.lemmas.List.{drop_all}
 use Rattle.mcf_answer_rows.proofs.RowTexts.{rows_are_table, rows_text_append}
 use Rattle.mcf_answer_rows.specs.Lines.{rows_text}
 use Rattle.mcf_answer_rows.specs.declared.texts.PlanText.{PlanText}

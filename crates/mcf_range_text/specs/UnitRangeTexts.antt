@@ -1,6 +1,6 @@
 -- For how many units the prices of a least plan hold, as rows of a table.
 -- Source: own
-use Rattle.std.specs.Prelude.{List, [], ℕ}
+use Rattle.std.specs.Prelude.{List, [], ◌++◌, ℕ}
 use Rattle.mcf_flow_tables.specs.declared.answering.ProblemAnswer.{ProblemAnswer}
 use Rattle.mcf_flow_tables.specs.declared.answering.ProblemAnswer.TheVariants.{TooGreat, Improper, Solved}
 use Rattle.mcf_flow_tables.specs.declared.answering.TableAnswer.{TableAnswer}
@@ -14,14 +14,17 @@ use Rattle.mcf_places.specs.Planners.{Planner}
 use Rattle.mcf_plan_rows.specs.FaultRows.{TwoTables}
 use Rattle.mcf_plan_text.specs.PlanTexts.{said_tables}
 use Rattle.mcf_range_text.specs.RoomRangeTexts.{AreRoomRanges, room_range_rows}
+use Rattle.mcf_range_text.specs.SupplyRangeTexts.{AreSupplyRanges, supply_range_rows}
 use Rattle.mcf_range_text.specs.declared.units.UnitRanges.{UnitRanges}
 use Rattle.mcf_units.specs.declared.scales.Scales.{Scales}
 
 -- ---- what is told
 
--- what is told of a least plan: of the room on the routes of all rows
+-- what is told of a least plan: of the room on the routes of all rows, and of the supplies and
+-- demands of all places
 pub record AreLeastUnits (P : Planner) (p : LeastPlannerPlan) (ranges : UnitRanges) : Type 0 where
   pub rooms : AreRoomRanges P p ranges.rooms.items
+  pub supplies : AreSupplyRanges P p ranges.supplies.items
 
 -- what is told of an answer, if it is a least plan
 abbrev pub AreSolvedUnits : Planner → PlannerAnswer → UnitRanges → Type 0
@@ -49,9 +52,9 @@ AreUnits (Tables said) ranges = AreTableUnits said.answer ranges
 
 -- ---- their rows
 
--- those of a least plan: the rooms of all rows
+-- those of a least plan: the rooms of all rows, and then the supplies and demands of all places
 abbrev pub least_unit_rows : TwoTables → Scales → UnitRanges → List (List (List ℕ))
-least_unit_rows two scales ranges = room_range_rows scales two.routes ranges.rooms.items
+least_unit_rows two scales ranges = room_range_rows scales two.routes ranges.rooms.items ++ supply_range_rows scales two.places ranges.supplies.items
 
 -- those of an answer, if it is a least plan
 abbrev pub solved_unit_rows : TwoTables → Scales → PlannerAnswer → UnitRanges → List (List (List ℕ))

@@ -8,13 +8,15 @@
 //! has the ranges, and on `mcf_unit_ranges`, which has the numbers of units. The definitions are in
 //! `specs/`: `RangeTexts` says what the text is, `PeriodRangeTexts` which rows it has over periods,
 //! `PeriodRanges` what ranges over periods are, `UnitRangeTexts` which rows tell for how many units
-//! the prices hold, and `RoomRangeTexts` for how many units of room on a route they do.
+//! the prices hold, `RoomRangeTexts` for how many units of room on a route they do, and
+//! `SupplyRangeTexts` for how many units of a supply or of a demand.
 
 mod laws;
 mod period_rows;
 mod ranges;
 mod rooms;
 mod rows;
+mod supplies;
 mod telling;
 mod timed;
 mod unit_rows;

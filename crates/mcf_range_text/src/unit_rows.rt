@@ -5,10 +5,12 @@ ghost use Rattle.mcf_plan_rows.specs.Cells.{amount_text, text_if};
 ghost use Rattle.mcf_plan_rows.specs.FaultRows.{tables_in};
 ghost use Rattle.mcf_range_text.specs.PeriodRangeTexts.{row_if_told};
 ghost use Rattle.mcf_range_text.specs.RoomRangeTexts.{room_range_row, room_range_rows};
+ghost use Rattle.mcf_range_text.specs.SupplyRangeTexts.{supply_range_row, supply_range_rows};
 ghost use Rattle.mcf_range_text.specs.UnitRangeTexts.{least_unit_rows, problem_unit_rows, solved_unit_rows, table_unit_rows, unit_rows};
 
+use crate::supplies::SupplyRange;
 use crate::units::UnitRanges;
-use mcf_answer_rows::{cell_under, line_cell, put_line};
+use mcf_answer_rows::{cell_under, decimal_cell, line_cell, put_line};
 use mcf_flow_tables::{FlowAnswer, ProblemAnswer, SolvedProblem, TableAnswer};
 use mcf_places::PlannerAnswer;
 use mcf_plan_rows::{Two, amount_cell};
@@ -79,6 +81,57 @@ fn put_rooms(
     Ok(())
 }
 
+// Appends the range of the supply, or of the demand, of a place.
+fn put_supply(
+    alloc: Global,
+    out: &mut Vec<u8>,
+    places: &Records,
+    scales: Scales,
+    row: usize,
+    range: SupplyRange,
+) -> Result<(), NoMemory>
+    ensures { OnOk result (out.new.items ≡ out.old.items ++ row_line (supply_range_row scales places.now row range)) }
+{
+    let line = line_cell(alloc, places, row)?;
+    let name = cell_under(places, b"name", row);
+    let cost = decimal_cell(alloc, range.cost, scales.costs)?;
+    let most = units_cell(alloc, scales, range.most)?;
+    put_line(out, &[b"supply range", &line, name, &cost, &most])
+}
+
+// Appends the range of the supply, or of the demand, of a place, if it is told.
+fn put_told_supply(
+    alloc: Global,
+    out: &mut Vec<u8>,
+    places: &Records,
+    scales: Scales,
+    row: usize,
+    told: Option<SupplyRange>,
+) -> Result<(), NoMemory>
+    ensures { OnOk result (out.new.items ≡ out.old.items ++ rows_text (row_if_told (supply_range_row scales places.now row) told)) }
+{
+    match told {
+        Some(range) => put_supply(alloc, out, places, scales, row, range),
+        None => Ok(()),
+    }
+}
+
+// Appends the ranges of the supplies and demands of all places.
+fn put_supplies(
+    alloc: Global,
+    out: &mut Vec<u8>,
+    places: &Records,
+    scales: Scales,
+    ranges: &[Option<SupplyRange>],
+) -> Result<(), NoMemory>
+    ensures { OnOk result (out.new.items ≡ out.old.items ++ rows_text (supply_range_rows scales places.now ranges.now)) }
+{
+    for place in 0..ranges.len() {
+        put_told_supply(alloc, out, places, scales, place + 1, ranges[place])?;
+    }
+    Ok(())
+}
+
 // Appends the ranges of a least plan.
 fn put_least_units(
     alloc: Global,
@@ -89,7 +142,8 @@ fn put_least_units(
 ) -> Result<(), NoMemory>
     ensures { OnOk result (out.new.items ≡ out.old.items ++ rows_text (least_unit_rows (tables_in two.entry) scales ranges.now)) }
 {
-    put_rooms(alloc, out, two.routes, scales, &ranges.rooms)
+    put_rooms(alloc, out, two.routes, scales, &ranges.rooms)?;
+    put_supplies(alloc, out, two.places, scales, &ranges.supplies)
 }
 
 // Appends the ranges of a problem that was solved.

@@ -6,6 +6,7 @@ ghost use Rattle.mcf_range_text.specs.Private.Solved.{IsSolvedAnswer, IsSolvedPr
 ghost use Rattle.mcf_range_text.specs.UnitRangeTexts.{AreLeastUnits, AreProblemUnits, AreSolvedUnits, AreTableUnits, AreUnits};
 
 use crate::rooms::room_ranges;
+use crate::supplies::{SupplyRange, supply_ranges};
 use mcf_flow_tables::{FlowAnswer, ProblemAnswer, SolvedProblem, TableAnswer};
 use mcf_model::Solves;
 use mcf_places::{LeastPlannerPlan, Planner, PlannerAnswer};
@@ -18,12 +19,15 @@ use std::alloc::Global;
 pub struct UnitRanges {
     /// More room on the routes of all rows.
     pub rooms: Vec<Option<UnitsRange>>,
+    /// More supply or demand at all places.
+    pub supplies: Vec<Option<SupplyRange>>,
 }
 
 // Returns no ranges.
 fn no_units(alloc: Global) -> UnitRanges {
     UnitRanges {
         rooms: Vec::new(alloc),
+        supplies: Vec::new(alloc),
     }
 }
 
@@ -38,7 +42,8 @@ fn least_units<S: Solves>(
     ensures { IfOk result (AreLeastUnits planner.now least.now) }
 {
     let rooms = room_ranges(alloc, solver, planner, least)?;
-    Ok(UnitRanges { rooms })
+    let supplies = supply_ranges(alloc, solver, planner, least)?;
+    Ok(UnitRanges { rooms, supplies })
 }
 
 // Returns what is told of a problem that was solved.

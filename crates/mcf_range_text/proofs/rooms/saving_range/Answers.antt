@@ -1,10 +1,6 @@
-use Rattle.std.proofs.Common.{ap, subst, sym, ◌∙◌, List, ℕ, ℤ}
 use Rattle.std.specs.Prelude.{IfNone, IfOk, IfSome}
-use Rattle.mcf_flows.specs.Network.{IsNode}
-use Rattle.mcf_model.specs.Tables.{route_at}
 use Rattle.mcf_range_text.proofs.RoomLaws.{from_is_node, moved, room_told, same_end, to_is_node}
 use Rattle.mcf_unit_ranges.specs.Told.{IsRangeAt, IsUntold}
-use Rattle.mcf_unit_ranges.specs.Spans.{directed}
 use Rattle.mcf_range_text.proofs.rooms.saving_range.Goals as goal
 
 pub units_range-requires-clause-from : goal.units_range-requires-clause-from
