@@ -137,11 +137,26 @@ fn routes_of_problems_have_their_ranges(rt: HostRuntime) -> Result<(), Fail> {
 
 const PLACES: &[u8] = b"name,supply\nMill,3\nGraz,-3\n";
 
-// The first route is full, and the rest goes over the second.
+// The first route is full, and the rest, one unit, goes over the second.
 const ROUTES: &[u8] = b"from,to,most,cost\nMill,Graz,2,1.5\nMill,Graz,,4\n";
 
 const RANGE_ROWS: &[u8] =
-    b"\n\"range\",\"2\",\"Mill\",\"Graz\",\"\",\"2.5\"\n\"range\",\"3\",\"Mill\",\"Graz\",\"2.5\",\"\"\n";
+    b"\n\"range\",\"2\",\"Mill\",\"Graz\",\"\",\"2.5\"\n\"range\",\"3\",\"Mill\",\"Graz\",\"2.5\",\"\"\n\
+\"room range\",\"2\",\"Mill\",\"Graz\",\"1\"\n";
+
+// The first plant is used up, and 3 units stay at the second, which sends 3 to each town. The one
+// unit from the first plant to the second town would rather go to the first town, if there were
+// room: that saves 5 - 1 and costs 6 - 4. One more unit at the first plant replaces one of the 3
+// from the second plant to the second town. And what towns want more comes from the 3 that stay.
+const PLANT_PLACES: &[u8] = b"name,supply\nP1,4\nP2,9\nA,-6\nB,-4\n";
+
+const PLANT_ROUTES: &[u8] = b"from,to,most,cost\nP1,A,3,1\nP1,B,,4\nP2,A,,5\nP2,B,,6\n";
+
+const PLANT_UNITS: &[u8] = b"\n\
+\"room range\",\"2\",\"P1\",\"A\",\"1\"\n\
+\"supply range\",\"2\",\"P1\",\"-2\",\"3\"\n\
+\"supply range\",\"4\",\"A\",\"5\",\"3\"\n\
+\"supply range\",\"5\",\"B\",\"6\",\"3\"\n";
 
 // A mill gives all in January, and a shop wants some in each of the next months; the route, used
 // both ways, takes a month, and is full in February. A unit that left in January instead would
@@ -161,8 +176,15 @@ const MONTHLY_RANGES: &[u8] = b"\n\
 \"keep range\",\"2\",\"Mill\",\"\",\"1.5\",\"Jan\",\"Feb\"\n\
 \"keep range\",\"3\",\"Shop\",\"1.5\",\"\",\"Feb\",\"March\"\n";
 
-// Returns whether the answer to two tables, with ranges, ends with these rows.
-fn ends_with(alloc: Global, places: &[u8], routes: &[u8], rows: &[u8]) -> Result<bool, NoMemory> {
+// Returns whether the answer to two tables, with ranges, ends with these rows, if supplies may
+// stay or not.
+fn ends_with(
+    alloc: Global,
+    places: &[u8],
+    routes: &[u8],
+    unused: bool,
+    rows: &[u8],
+) -> Result<bool, NoMemory> {
     let mut engine = Engine {
         choice: Choice::default(),
     };
@@ -174,7 +196,7 @@ fn ends_with(alloc: Global, places: &[u8], routes: &[u8], rows: &[u8]) -> Result
     let options = Options {
         mark: None,
         terms: Terms {
-            unused: false,
+            unused,
             short: false,
             penalty: None,
         },
@@ -185,14 +207,27 @@ fn ends_with(alloc: Global, places: &[u8], routes: &[u8], rows: &[u8]) -> Result
 
 #[test]
 fn texts_end_with_ranges(rt: HostRuntime) -> Result<(), Fail> {
-    let found = ends_with(rt.alloc(), PLACES, ROUTES, RANGE_ROWS)?;
+    let found = ends_with(rt.alloc(), PLACES, ROUTES, false, RANGE_ROWS)?;
     assert!(rt; found);
     Ok(())
 }
 
 #[test]
 fn texts_over_periods_end_with_ranges(rt: HostRuntime) -> Result<(), Fail> {
-    let found = ends_with(rt.alloc(), MONTHLY_PLACES, MONTHLY_ROUTES, MONTHLY_RANGES)?;
+    let found = ends_with(
+        rt.alloc(),
+        MONTHLY_PLACES,
+        MONTHLY_ROUTES,
+        false,
+        MONTHLY_RANGES,
+    )?;
+    assert!(rt; found);
+    Ok(())
+}
+
+#[test]
+fn texts_tell_for_how_many_units(rt: HostRuntime) -> Result<(), Fail> {
+    let found = ends_with(rt.alloc(), PLANT_PLACES, PLANT_ROUTES, true, PLANT_UNITS)?;
     assert!(rt; found);
     Ok(())
 }
