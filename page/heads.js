@@ -19,6 +19,7 @@ export const FLOW_RESULTS = [
 export const RANGE_RESULTS = ['cost_may_fall_to', 'cost_may_rise_to'];
 export const ROOM_RESULTS = ['one_more_saves_for'];
 export const PLACE_RESULTS = ['one_more_costs', 'group'];
+export const SUPPLY_RESULTS = ['more_costs', 'more_costs_for'];
 export const THROUGH_RESULTS = [
   'passes', 'passing_costs', 'free', 'one_more_saves', 'exact', 'one_more_passing_costs',
 ];
@@ -33,8 +34,8 @@ export const STOCK = [
 const LISTED = 24;
 
 const RESULTS = [
-  FLOW_RESULTS, RANGE_RESULTS, ROOM_RESULTS, PLACE_RESULTS, THROUGH_RESULTS, ROUTE_PERIODS,
-  PLACE_PERIOD,
+  FLOW_RESULTS, RANGE_RESULTS, ROOM_RESULTS, PLACE_RESULTS, SUPPLY_RESULTS, THROUGH_RESULTS,
+  ROUTE_PERIODS, PLACE_PERIOD,
 ];
 
 /** @typedef {{ name: string, isUsed: boolean }} Carried a column, and whether sums use it */

@@ -64,7 +64,7 @@ export class FlowPlan {
       problem.routes.map((route) => this.keyOf(route))
     );
     this.ranges = problem.routes.map((route, k) => this.range(route, changes[k]));
-    // Over periods no ranges of room are told.
+    // Over periods no ranges of room are told, and none of supplies.
     this.hasRooms = this.hasRanges && !problem.periods.length;
     /** @type {(bigint | null | undefined)[]} */
     this.rooms = toldInTurn(
@@ -73,6 +73,11 @@ export class FlowPlan {
       ),
       problem.routes.map((route) => this.keyOf(route))
     );
+    this.hasSupplies = Boolean(this.hasRooms && policy.unused && !policy.short);
+    /** @type {Map<string, [bigint, bigint | null]>} */
+    this.supplies = new Map(answer.rows('supply range').map(([line, , cost, most]) =>
+      [line, [this.rateOf(cost), most ? this.amountOf(most) : null]]
+    ));
     const keeping = new Map(answer.rows('keep range').map(([, name, down, up, period]) =>
       [JSON.stringify([name, period]), [down, up]]
     ));

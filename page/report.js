@@ -4,7 +4,7 @@ import { balanceOf } from './blocked.js';
 import { TOLD_NAMES, countOf, listed } from './faults.js';
 import {
   FLOW_RESULTS, PLACE_PERIOD, PLACE_RESULTS, RANGE_RESULTS, ROOM_RESULTS, ROUTE_PERIODS, STOCK,
-  THROUGH_RESULTS,
+  SUPPLY_RESULTS, THROUGH_RESULTS,
 } from './heads.js';
 import { labelIn } from './periods.js';
 import { MISSING, STAYS, THROUGH } from './plan.js';
@@ -27,7 +27,7 @@ import { words } from './words.js';
  * @returns {SavedTable}
  */
 function after(name, like, results, rows) {
-  const places = like.kept(...results, RANGE_RESULTS, ROOM_RESULTS);
+  const places = like.kept(...results, RANGE_RESULTS, ROOM_RESULTS, SUPPLY_RESULTS);
   const heads = [...places.map((place) => like.titles[place]), ...results.flat()];
   return {
     name,
@@ -112,6 +112,17 @@ export function roomCells({ hasRooms, routes, rooms, problem: { units } }, k) {
   return [told === undefined ? 'unknown' : units.amount(told)];
 }
 
+// This function returns what each further unit of a demand costs, or of a supply if it saves
+// something, and for how many units, if the plan tells that. It is empty without a limit.
+/** @type {(plan: FlowPlan, place: Place) => string[]} */
+export function supplyCells({ hasSupplies, supplies, problem: { units } }, place) {
+  if (!hasSupplies) return [];
+  const told = supplies.get(String(place.line));
+  if (told) return [units.rate(told[0]), units.amount(told[1])];
+  const untold = place.supply < 0n ? 'unknown' : '';
+  return [untold, untold];
+}
+
 /** @type {(plan: FlowPlan, result: RouteResult) => string[]} */
 function cellsOf(plan, { carries, cost, free, saves, isExact, dearer }) {
   const { units } = plan.problem;
@@ -138,6 +149,7 @@ export function pricesTable(plan) {
       [
         plan.problem.units.rate(price),
         String(group),
+        ...supplyCells(plan, place),
         ...(!hasBounds ? [] : through ? cellsOf(plan, through) : THROUGH_RESULTS.map(() => '')),
         ...(place.period ? [place.period] : []),
       ],
@@ -148,6 +160,7 @@ export function pricesTable(plan) {
     plan.problem.placeTable,
     [
       PLACE_RESULTS,
+      ...(plan.hasSupplies ? [SUPPLY_RESULTS] : []),
       ...(hasBounds ? [THROUGH_RESULTS] : []),
       ...(plan.problem.periods.length ? [PLACE_PERIOD] : []),
     ],

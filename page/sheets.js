@@ -17,6 +17,7 @@ import {
   savingsOf,
   slips,
   stockTables,
+  supplyCells,
 } from './report.js';
 import { listed } from './faults.js';
 import { groupSheets, groupsTables } from './groups.js';
@@ -223,15 +224,27 @@ const PASSING = [
 /** @type {(table: Table) => Partial<Column>} */
 const supplyOf = (table) => (table.heads.includes('period') ? {} : { edit: 'supply' });
 
+const SUPPLY_COLUMNS = [
+  number('more costs', 'each further unit that it wants, or sends if that saves'),
+  number('for units', 'so many further units cost that; empty: no limit'),
+];
+
 /**
- * @type {(table: Table, hasUnmet: boolean, hasPenalties: boolean, hasBounds: boolean) => Column[]}
+ * @typedef {object} PlaceParts which columns the places have
+ * @property {boolean} hasSupplies
+ * @property {boolean} hasUnmet
+ * @property {boolean} hasPenalties
+ * @property {boolean} hasBounds
  */
-const placeColumns = (table, hasUnmet, hasPenalties, hasBounds) => [
+
+/** @type {(table: Table, parts: PlaceParts) => Column[]} */
+const placeColumns = (table, { hasSupplies, hasUnmet, hasPenalties, hasBounds }) => [
   ...(table.heads.includes('period') ? [column('period')] : []),
   column('name'),
   number('supply', 'above 0 it sends, below 0 it takes', supplyOf(table)),
   number('one more costs', 'what one more unit costs there'),
   number('group', 'among places of one group that is exact'),
+  ...(hasSupplies ? SUPPLY_COLUMNS : []),
   ...(hasUnmet ? [number('unmet', 'what stays, or is missing')] : []),
   ...(hasPenalties ? [number('penalty', 'of each unit that is missing')] : []),
   ...(hasBounds ? PASSING : []),
@@ -240,7 +253,7 @@ const placeColumns = (table, hasUnmet, hasPenalties, hasBounds) => [
 
 /** @type {(plan: FlowPlan) => Sheet} */
 function placesSheet(plan) {
-  const { problem } = plan;
+  const { problem, hasSupplies } = plan;
   const { units, placeTable } = problem;
   const own = ownColumns(placeTable);
   const hasBounds = problem.places.some(({ bounds }) => bounds);
@@ -262,6 +275,7 @@ function placesSheet(plan) {
         units.amount(place.supply),
         units.rate(price),
         String(group),
+        ...supplyCells(plan, place),
         ...(hasUnmet ? [unmet ? units.amount(unmet) : ''] : []),
         ...(hasPenalties ? [units.rate(place.penalty)] : []),
         ...(hasBounds ? passing : []),
@@ -271,7 +285,7 @@ function placesSheet(plan) {
   };
   return {
     title: 'Places',
-    columns: placeColumns(placeTable, hasUnmet, hasPenalties, hasBounds),
+    columns: placeColumns(placeTable, { hasSupplies, hasUnmet, hasPenalties, hasBounds }),
     count: problem.places.length,
     row,
     from: placeTable,

@@ -36,6 +36,10 @@ PLACE_COLUMNS = [
     ("one more costs", "what one more unit costs there"),
     ("group", "among places of one group that is exact"),
 ]
+SUPPLY_COLUMNS = [
+    ("more costs", "each further unit that it wants, or sends if that saves"),
+    ("for units", "so many further units cost that; empty: no limit"),
+]
 UNMET_COLUMNS = [("unmet", "what stays, or is missing")]
 PENALTY_COLUMNS = [("penalty", "of each unit that is missing")]
 THROUGH_COLUMNS = [
@@ -157,6 +161,7 @@ def places_sheet(plan):
         unmet = result.stays + result.missing
         cells = [place.period] * bool(problem.periods)
         cells += [place.name, figure(place.supply), figure(result.costs), result.group]
+        cells += report.supply_cells(plan, place)
         cells += [figure(unmet) if unmet else ""] * has_unmet
         cells += [figure(place.penalty)] * has_penalties
         cells += through_cells(place, result.through) if has_bounds else []
@@ -166,6 +171,7 @@ def places_sheet(plan):
     columns = (
         PERIOD_COLUMNS * bool(problem.periods)
         + PLACE_COLUMNS
+        + SUPPLY_COLUMNS * plan.has_supplies
         + UNMET_COLUMNS * has_unmet
         + PENALTY_COLUMNS * has_penalties
         + THROUGH_COLUMNS * has_bounds

@@ -191,6 +191,12 @@ class Problem:
         )
         return told_in_turn(rows, [(route.line, *self.ends(route)) for route in self.routes])
 
+    def supply_ranges(self):
+        """What each further unit of a demand costs, or of a supply if it saves something, and for
+        how many units; by the lines of the places of which that is told."""
+        rows = self.answer.rows["supply range"]
+        return {int(line): (number_in(cost), number_in(most)) for line, _, cost, most in rows}
+
     def store_ranges(self):
         """The ranges of the costs of what places keep."""
         return []
@@ -206,9 +212,11 @@ class Plan:
         self.places = [place_result(cells[2:], groups) for cells in rows]
         self.has_ranges, self.ranges = problem.options.ranges, problem.ranges()
         self.store_ranges = problem.store_ranges()
-        # Over periods no ranges of room are told.
+        # Over periods no ranges of room are told, and none of supplies.
         self.has_rooms = self.has_ranges and not problem.periods
         self.rooms = problem.room_ranges() if self.has_rooms else []
+        self.has_supplies = self.has_rooms and problem.unused and not problem.short
+        self.supplies = problem.supply_ranges() if self.has_supplies else {}
 
     def is_full(self, number):
         """Whether a route carries its whole capacity, and more than 0."""

@@ -10,6 +10,7 @@ from .results import (
     ROOM_RESULTS,
     ROUTE_PERIODS,
     STOCK,
+    SUPPLY_RESULTS,
     THROUGH_RESULTS,
 )
 from .words import TOLD_NAMES, count_of, listed
@@ -52,11 +53,12 @@ def write_prices(results, plan):
     """Writes prices.csv: the places in their order, with the columns of their table."""
     problem = plan.problem
     has_bounds = any(place.bounds for place in problem.places)
-    groups = [PLACE_RESULTS] + [THROUGH_RESULTS] * has_bounds
+    groups = [PLACE_RESULTS] + [SUPPLY_RESULTS] * plan.has_supplies
+    groups += [THROUGH_RESULTS] * has_bounds
     groups += [PLACE_PERIODS] * bool(problem.periods)
     rows = []
     for place, result in zip(problem.places, plan.places):
-        cells = [figure(result.costs), result.group]
+        cells = [figure(result.costs), result.group, *supply_cells(plan, place)]
         if has_bounds:
             through = result.through
             cells += result_cells(through) if through else [""] * len(THROUGH_RESULTS)
@@ -98,6 +100,16 @@ def room_cells(plan, number):
         return []
     told = plan.rooms[number] if plan.routes[number].saves else (None,)
     return [UNKNOWN] if told is None else [figure(told[0])]
+
+
+def supply_cells(plan, place):
+    """What each further unit of a demand costs, or of a supply if it saves something, and for how
+    many units, if the plan tells that. The number of units is empty without a limit."""
+    if not plan.has_supplies:
+        return []
+    if told := plan.supplies.get(place.line):
+        return [*map(figure, told)]
+    return [UNKNOWN if place.supply < 0 else ""] * 2
 
 
 def write_bottlenecks(results, problem, bottlenecks):

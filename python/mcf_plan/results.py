@@ -12,6 +12,7 @@ FLOW_RESULTS = ("carries", "total", "free", "one_more_saves", "exact", "one_more
 RANGE_RESULTS = ("cost_may_fall_to", "cost_may_rise_to")
 ROOM_RESULTS = ("one_more_saves_for",)
 PLACE_RESULTS = ("one_more_costs", "group")
+SUPPLY_RESULTS = ("more_costs", "more_costs_for")
 THROUGH_RESULTS = (
     "passes",
     "passing_costs",
@@ -28,6 +29,7 @@ GROUPS = (
     RANGE_RESULTS,
     ROOM_RESULTS,
     PLACE_RESULTS,
+    SUPPLY_RESULTS,
     THROUGH_RESULTS,
     ROUTE_PERIODS,
     PLACE_PERIODS,
@@ -80,7 +82,7 @@ class Results:
     def after(self, name, like, sheet, groups, rows):
         """Writes a table with the columns of another, followed by groups of results. Each row has a
         line and the cells of both."""
-        places = kept(sheet, [*groups, RANGE_RESULTS, ROOM_RESULTS])
+        places = kept(sheet, [*groups, RANGE_RESULTS, ROOM_RESULTS, SUPPLY_RESULTS])
         heads = [like.title(sheet.titles[place]) for place in places]
         heads += [head for group in groups for head in group]
         self.table(

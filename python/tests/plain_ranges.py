@@ -100,3 +100,34 @@ def why_wrong_rooms(problem, rows, wide=Fraction(50)):
             if (cost == rows.number("cost") - more * saves[number]) != is_in:
                 return f"route {number}: {most} is told, and {more} is in it: {not is_in}"
     return None
+
+
+def with_supply(problem, number, more):
+    """The problem in which a place gives, or wants, so many units more."""
+    places = list(problem.places)
+    supply = places[number].supply
+    places[number] = places[number]._replace(supply=supply + (more if supply > 0 else -more))
+    return Problem(places, problem.routes, problem.policy)
+
+
+def why_wrong_supplies(problem, rows, wide=Fraction(50)):
+    """What is wrong with the ranges of supplies and demands of a plan; None if nothing is. Where a
+    range has no limit, a wide one is tried. Of another supply, more of it stays."""
+    lines = [cells[0] for cells in rows.by_word["place"]]
+    told = {lines.index(line): cells for line, _, *cells in rows.by_word["supply range"]}
+    if not problem.policy.unused or problem.policy.short:
+        return "ranges of supplies are told" if told else None
+    unit = unit_of_amounts(problem)
+    for number, place in enumerate(problem.places):
+        cost, most = told.get(number, ("0", ""))
+        if (number in told) != (place.supply < 0 or Fraction(cost) < 0 < place.supply):
+            return f"place {number}: {cost} is told" if number in told else f"place {number}: none"
+        if not place.supply:
+            continue
+        inside = Fraction(most) if most else wide
+        tries = [(inside, True)] + [(inside + unit, False)] * bool(most)
+        for more, is_in in tries:
+            least = with_supply(problem, number, more).least()
+            if (bool(least) and least[0] == rows.number("cost") + more * Fraction(cost)) != is_in:
+                return f"place {number}: {most} is told, and {more} is in it: {not is_in}"
+    return None

@@ -19,7 +19,7 @@ from plain_plans import (
     why_no_plan,
     why_wrong_figures,
 )
-from plain_ranges import why_wrong_ranges, why_wrong_rooms
+from plain_ranges import why_wrong_ranges, why_wrong_rooms, why_wrong_supplies
 from random_tables import TIGHT, Notation, random_problem, round_problem, tables_of
 from support import TOP, WithFolder
 
@@ -151,6 +151,7 @@ class Plans(Answering):
                 self.assertIsNone(why_wrong_ranges(problem, rows))
                 if problem.names_penalty() or not rows.number("missing"):
                     self.assertIsNone(why_wrong_rooms(problem, rows))
+                self.assertIsNone(why_wrong_supplies(problem, rows))
 
     def test_figures_of_all_amounts(self):
         """In some of these plans, all amounts pass through a place without a limit."""
