@@ -6,3 +6,4 @@ mod PeriodRangeLaws
 mod RoomLaws
 mod SmallNumbers
 mod SupplyLaws
+mod PassLaws

@@ -13,6 +13,7 @@ pub use Rattle.mcf_periods.specs.Periods
 pub mod PeriodRangeTexts
 pub mod PeriodRanges
 pub mod RoomRangeTexts
+pub mod PassRangeTexts
 pub mod SupplyRangeTexts
 pub mod UnitRangeTexts
 pub mod RangeTexts

@@ -13,6 +13,7 @@ use Rattle.mcf_places.specs.declared.answering.LeastPlannerPlan.{LeastPlannerPla
 use Rattle.mcf_places.specs.Planners.{Planner}
 use Rattle.mcf_plan_rows.specs.FaultRows.{TwoTables}
 use Rattle.mcf_plan_text.specs.PlanTexts.{said_tables}
+use Rattle.mcf_range_text.specs.PassRangeTexts.{ArePassRanges, pass_range_rows}
 use Rattle.mcf_range_text.specs.RoomRangeTexts.{AreRoomRanges, room_range_rows}
 use Rattle.mcf_range_text.specs.SupplyRangeTexts.{AreSupplyRanges, supply_range_rows}
 use Rattle.mcf_range_text.specs.declared.units.UnitRanges.{UnitRanges}
@@ -20,10 +21,11 @@ use Rattle.mcf_units.specs.declared.scales.Scales.{Scales}
 
 -- ---- what is told
 
--- what is told of a least plan: of the room on the routes of all rows, and of the supplies and
--- demands of all places
+-- what is told of a least plan: of the room on the routes of all rows, of what passes through all
+-- places, and of their supplies and demands
 pub record AreLeastUnits (P : Planner) (p : LeastPlannerPlan) (ranges : UnitRanges) : Type 0 where
   pub rooms : AreRoomRanges P p ranges.rooms.items
+  pub passes : ArePassRanges P p ranges.passes.items
   pub supplies : AreSupplyRanges P p ranges.supplies.items
 
 -- what is told of an answer, if it is a least plan
@@ -52,9 +54,12 @@ AreUnits (Tables said) ranges = AreTableUnits said.answer ranges
 
 -- ---- their rows
 
--- those of a least plan: the rooms of all rows, and then the supplies and demands of all places
+-- those of a least plan: the rooms of all rows, what passes through all places, and then their
+-- supplies and demands
 abbrev pub least_unit_rows : TwoTables → Scales → UnitRanges → List (List (List ℕ))
-least_unit_rows two scales ranges = room_range_rows scales two.routes ranges.rooms.items ++ supply_range_rows scales two.places ranges.supplies.items
+least_unit_rows two scales ranges =
+    (room_range_rows scales two.routes ranges.rooms.items ++ pass_range_rows scales two.places ranges.passes.items)
+    ++ supply_range_rows scales two.places ranges.supplies.items
 
 -- those of an answer, if it is a least plan
 abbrev pub solved_unit_rows : TwoTables → Scales → PlannerAnswer → UnitRanges → List (List (List ℕ))

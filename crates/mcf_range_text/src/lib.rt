@@ -8,10 +8,12 @@
 //! has the ranges, and on `mcf_unit_ranges`, which has the numbers of units. The definitions are in
 //! `specs/`: `RangeTexts` says what the text is, `PeriodRangeTexts` which rows it has over periods,
 //! `PeriodRanges` what ranges over periods are, `UnitRangeTexts` which rows tell for how many units
-//! the prices hold, `RoomRangeTexts` for how many units of room on a route they do, and
-//! `SupplyRangeTexts` for how many units of a supply or of a demand.
+//! the prices hold, `RoomRangeTexts` for how many units of room on a route they do,
+//! `PassRangeTexts` for how many that may pass through a place, and `SupplyRangeTexts` for how many
+//! units of a supply or of a demand.
 
 mod laws;
+mod passes;
 mod period_rows;
 mod ranges;
 mod rooms;

@@ -87,7 +87,7 @@ fn saving_range<S: Solves>(
 
 // Returns for how many units more room on a route of the model saves what the prices say, if that
 // is told.
-fn room_range<S: Solves>(
+pub(crate) fn room_range<S: Solves>(
     alloc: Global,
     solver: &mut S,
     shown: &ShownModel,

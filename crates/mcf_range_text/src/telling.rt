@@ -67,12 +67,14 @@ fn ranged_text<S: Solves>(
 ///
 /// Without periods, further rows tell for how many units a figure holds: `room range`, the line and
 /// the ends of a route on which one more unit of room saves something by the prices, and for how
-/// many units, from the first on, each saves just that; the cell is empty without a limit. And if
-/// supplies may stay, but no demand may be missing, `supply range`, the line and the name of each
-/// place that wants something, what one more unit of its demand costs, and for how many units each
-/// costs just that; and so of each place with a supply of which one more unit saves something, with
-/// a cost below 0. There is none if a number is beyond the limits of `units_range`, or if it holds
-/// for all units that are looked at. Each takes up to two further plans.
+/// many units, from the first on, each saves just that; the cell is empty without a limit. So does
+/// `pass range`, with the line and the name of a place with bounds, if one more unit that may pass
+/// through it saves something. And if supplies may stay, but no demand may be missing, `supply
+/// range`, the line and the name of each place that wants something, what one more unit of its
+/// demand costs, and for how many units each costs just that; and so of each place with a supply of
+/// which one more unit saves something, with a cost below 0. There is none if a number is beyond
+/// the limits of `units_range`, or if it holds for all units that are looked at. Each takes up to
+/// two further plans.
 ///
 /// # Errors
 ///

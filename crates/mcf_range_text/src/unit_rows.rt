@@ -3,6 +3,7 @@ ghost use Rattle.std.specs.Prelude.{◌≡◌, ◌++◌, IfOk, None, OnOk, slice
 ghost use Rattle.mcf_answer_rows.specs.Lines.{row_line, rows_text};
 ghost use Rattle.mcf_plan_rows.specs.Cells.{amount_text, text_if};
 ghost use Rattle.mcf_plan_rows.specs.FaultRows.{tables_in};
+ghost use Rattle.mcf_range_text.specs.PassRangeTexts.{pass_range_row, pass_range_rows};
 ghost use Rattle.mcf_range_text.specs.PeriodRangeTexts.{row_if_told};
 ghost use Rattle.mcf_range_text.specs.RoomRangeTexts.{room_range_row, room_range_rows};
 ghost use Rattle.mcf_range_text.specs.SupplyRangeTexts.{supply_range_row, supply_range_rows};
@@ -81,6 +82,56 @@ fn put_rooms(
     Ok(())
 }
 
+// Appends the range of a place.
+fn put_pass(
+    alloc: Global,
+    out: &mut Vec<u8>,
+    places: &Records,
+    scales: Scales,
+    row: usize,
+    range: UnitsRange,
+) -> Result<(), NoMemory>
+    ensures { OnOk result (out.new.items ≡ out.old.items ++ row_line (pass_range_row scales places.now row range)) }
+{
+    let line = line_cell(alloc, places, row)?;
+    let name = cell_under(places, b"name", row);
+    let most = units_cell(alloc, scales, range.most)?;
+    put_line(out, &[b"pass range", &line, name, &most])
+}
+
+// Appends the range of a place, if it is told.
+fn put_told_pass(
+    alloc: Global,
+    out: &mut Vec<u8>,
+    places: &Records,
+    scales: Scales,
+    row: usize,
+    told: Option<UnitsRange>,
+) -> Result<(), NoMemory>
+    ensures { OnOk result (out.new.items ≡ out.old.items ++ rows_text (row_if_told (pass_range_row scales places.now row) told)) }
+{
+    match told {
+        Some(range) => put_pass(alloc, out, places, scales, row, range),
+        None => Ok(()),
+    }
+}
+
+// Appends the ranges of all places.
+fn put_passes(
+    alloc: Global,
+    out: &mut Vec<u8>,
+    places: &Records,
+    scales: Scales,
+    ranges: &[Option<UnitsRange>],
+) -> Result<(), NoMemory>
+    ensures { OnOk result (out.new.items ≡ out.old.items ++ rows_text (pass_range_rows scales places.now ranges.now)) }
+{
+    for place in 0..ranges.len() {
+        put_told_pass(alloc, out, places, scales, place + 1, ranges[place])?;
+    }
+    Ok(())
+}
+
 // Appends the range of the supply, or of the demand, of a place.
 fn put_supply(
     alloc: Global,
@@ -143,6 +194,7 @@ fn put_least_units(
     ensures { OnOk result (out.new.items ≡ out.old.items ++ rows_text (least_unit_rows (tables_in two.entry) scales ranges.now)) }
 {
     put_rooms(alloc, out, two.routes, scales, &ranges.rooms)?;
+    put_passes(alloc, out, two.places, scales, &ranges.passes)?;
     put_supplies(alloc, out, two.places, scales, &ranges.supplies)
 }
 

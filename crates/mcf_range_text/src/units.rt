@@ -5,6 +5,7 @@ ghost use Rattle.mcf_places.specs.LimitedPlanners.{limited};
 ghost use Rattle.mcf_range_text.specs.Private.Solved.{IsSolvedAnswer, IsSolvedProblem, IsSolvedTable};
 ghost use Rattle.mcf_range_text.specs.UnitRangeTexts.{AreLeastUnits, AreProblemUnits, AreSolvedUnits, AreTableUnits, AreUnits};
 
+use crate::passes::pass_ranges;
 use crate::rooms::room_ranges;
 use crate::supplies::{SupplyRange, supply_ranges};
 use mcf_flow_tables::{FlowAnswer, ProblemAnswer, SolvedProblem, TableAnswer};
@@ -19,6 +20,8 @@ use std::alloc::Global;
 pub struct UnitRanges {
     /// More room on the routes of all rows.
     pub rooms: Vec<Option<UnitsRange>>,
+    /// More that may pass through all places with bounds.
+    pub passes: Vec<Option<UnitsRange>>,
     /// More supply or demand at all places.
     pub supplies: Vec<Option<SupplyRange>>,
 }
@@ -27,6 +30,7 @@ pub struct UnitRanges {
 fn no_units(alloc: Global) -> UnitRanges {
     UnitRanges {
         rooms: Vec::new(alloc),
+        passes: Vec::new(alloc),
         supplies: Vec::new(alloc),
     }
 }
@@ -42,8 +46,13 @@ fn least_units<S: Solves>(
     ensures { IfOk result (AreLeastUnits planner.now least.now) }
 {
     let rooms = room_ranges(alloc, solver, planner, least)?;
+    let passes = pass_ranges(alloc, solver, planner, least)?;
     let supplies = supply_ranges(alloc, solver, planner, least)?;
-    Ok(UnitRanges { rooms, supplies })
+    Ok(UnitRanges {
+        rooms,
+        passes,
+        supplies,
+    })
 }
 
 // Returns what is told of a problem that was solved.
