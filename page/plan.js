@@ -64,7 +64,7 @@ export class FlowPlan {
       problem.routes.map((route) => this.keyOf(route))
     );
     this.ranges = problem.routes.map((route, k) => this.range(route, changes[k]));
-    // Over periods no ranges of room are told, and none of supplies.
+    // Over periods no ranges of room are told, and none of places.
     this.hasRooms = this.hasRanges && !problem.periods.length;
     /** @type {(bigint | null | undefined)[]} */
     this.rooms = toldInTurn(
@@ -73,6 +73,10 @@ export class FlowPlan {
       ),
       problem.routes.map((route) => this.keyOf(route))
     );
+    /** @type {Map<string, bigint | null>} */
+    this.passes = new Map(answer.rows('pass range').map(([line, , most]) =>
+      [line, most ? this.amountOf(most) : null]
+    ));
     this.hasSupplies = Boolean(this.hasRooms && policy.unused && !policy.short);
     /** @type {Map<string, [bigint, bigint | null]>} */
     this.supplies = new Map(answer.rows('supply range').map(([line, , cost, most]) =>

@@ -54,7 +54,8 @@ export function flowsTable(plan) {
   const rows = problem.routes.map((route, k) => [
     route.cells,
     [
-      ...cellsOf(plan, plan.routes[k]), ...rangeCells(plan, plan.ranges[k]), ...roomCells(plan, k),
+      ...cellsOf(plan, plan.routes[k]), ...rangeCells(plan, plan.ranges[k]),
+      ...roomCells(plan, plan.routes[k], plan.rooms[k]),
       ...periods(route.departs, route.arrives),
     ],
   ]);
@@ -103,12 +104,12 @@ export function rangeCells({ hasRanges, problem: { units } }, range) {
   return range ? [units.rate(range.low), units.rate(range.high)] : ['unknown', 'unknown'];
 }
 
-// This function returns for how many units room on a route saves what one more does, if the plan
-// tells that. It is empty without a limit, and where room saves nothing.
-/** @type {(plan: FlowPlan, k: number) => string[]} */
-export function roomCells({ hasRooms, routes, rooms, problem: { units } }, k) {
+// This function returns for how many units more room each saves what one more does, on a route or
+// in a place, if the plan tells that. It is empty without a limit, and where room saves nothing.
+/** @type {(plan: FlowPlan, result: RouteResult | null, told?: bigint | null) => string[]} */
+export function roomCells({ hasRooms, problem: { units } }, result, told) {
   if (!hasRooms) return [];
-  const told = routes[k].saves ? rooms[k] : null;
+  if (!result || !result.saves) return [''];
   return [told === undefined ? 'unknown' : units.amount(told)];
 }
 
@@ -151,6 +152,7 @@ export function pricesTable(plan) {
         String(group),
         ...supplyCells(plan, place),
         ...(!hasBounds ? [] : through ? cellsOf(plan, through) : THROUGH_RESULTS.map(() => '')),
+        ...(hasBounds ? roomCells(plan, through, plan.passes.get(String(place.line))) : []),
         ...(place.period ? [place.period] : []),
       ],
     ];
@@ -161,7 +163,7 @@ export function pricesTable(plan) {
     [
       PLACE_RESULTS,
       ...(plan.hasSupplies ? [SUPPLY_RESULTS] : []),
-      ...(hasBounds ? [THROUGH_RESULTS] : []),
+      ...(hasBounds ? [THROUGH_RESULTS, ...(plan.hasRooms ? [ROOM_RESULTS] : [])] : []),
       ...(plan.problem.periods.length ? [PLACE_PERIOD] : []),
     ],
     rows

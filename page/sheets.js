@@ -182,7 +182,7 @@ function routesSheet(plan) {
         saves ? (isExact ? 'exactly' : 'at most') : '',
         units.rate(dearer),
         ...rangeCells(plan, plan.ranges[k]),
-        ...roomCells(plan, k),
+        ...roomCells(plan, plan.routes[k], plan.rooms[k]),
         ...own.map((place) => cellAt(route.cells, place)),
       ],
     };
@@ -235,10 +235,11 @@ const SUPPLY_COLUMNS = [
  * @property {boolean} hasUnmet
  * @property {boolean} hasPenalties
  * @property {boolean} hasBounds
+ * @property {boolean} hasRooms
  */
 
 /** @type {(table: Table, parts: PlaceParts) => Column[]} */
-const placeColumns = (table, { hasSupplies, hasUnmet, hasPenalties, hasBounds }) => [
+const placeColumns = (table, { hasSupplies, hasUnmet, hasPenalties, hasBounds, hasRooms }) => [
   ...(table.heads.includes('period') ? [column('period')] : []),
   column('name'),
   number('supply', 'above 0 it sends, below 0 it takes', supplyOf(table)),
@@ -248,12 +249,13 @@ const placeColumns = (table, { hasSupplies, hasUnmet, hasPenalties, hasBounds })
   ...(hasUnmet ? [number('unmet', 'what stays, or is missing')] : []),
   ...(hasPenalties ? [number('penalty', 'of each unit that is missing')] : []),
   ...(hasBounds ? PASSING : []),
+  ...(hasBounds && hasRooms ? [ROOM_COLUMN] : []),
   ...ownOf(table),
 ];
 
 /** @type {(plan: FlowPlan) => Sheet} */
 function placesSheet(plan) {
-  const { problem, hasSupplies } = plan;
+  const { problem, hasSupplies, hasRooms } = plan;
   const { units, placeTable } = problem;
   const own = ownColumns(placeTable);
   const hasBounds = problem.places.some(({ bounds }) => bounds);
@@ -279,13 +281,14 @@ function placesSheet(plan) {
         ...(hasUnmet ? [unmet ? units.amount(unmet) : ''] : []),
         ...(hasPenalties ? [units.rate(place.penalty)] : []),
         ...(hasBounds ? passing : []),
+        ...(hasBounds ? roomCells(plan, through, plan.passes.get(String(place.line))) : []),
         ...own.map((place_) => cellAt(place.cells, place_)),
       ],
     };
   };
   return {
     title: 'Places',
-    columns: placeColumns(placeTable, { hasSupplies, hasUnmet, hasPenalties, hasBounds }),
+    columns: placeColumns(placeTable, { hasSupplies, hasUnmet, hasPenalties, hasBounds, hasRooms }),
     count: problem.places.length,
     row,
     from: placeTable,

@@ -146,7 +146,7 @@ def route_cells(plan, number):
         exact if result.saves else "",
         figure(result.dearer),
         *report.range_cells(plan, plan.ranges[number]),
-        *report.room_cells(plan, number),
+        *report.room_cells(plan, result, plan.rooms[number]),
     ]
 
 
@@ -164,7 +164,9 @@ def places_sheet(plan):
         cells += report.supply_cells(plan, place)
         cells += [figure(unmet) if unmet else ""] * has_unmet
         cells += [figure(place.penalty)] * has_penalties
-        cells += through_cells(place, result.through) if has_bounds else []
+        if has_bounds:
+            cells += through_cells(place, result.through)
+            cells += report.room_cells(plan, result.through, plan.passes.get(place.line))
         cells += [table.cell(place.line, place.cells, column) for column in own]
         rows.append(("", cells))
     rows, note = listed_rows(rows)
@@ -175,6 +177,7 @@ def places_sheet(plan):
         + UNMET_COLUMNS * has_unmet
         + PENALTY_COLUMNS * has_penalties
         + THROUGH_COLUMNS * has_bounds
+        + ROOM_COLUMNS * (has_bounds and plan.has_rooms)
         + [(table.title(sheet.titles[place]), "") for place in own]
     )
     return Sheet("Places", columns, rows, (), note)

@@ -191,6 +191,11 @@ class Problem:
         )
         return told_in_turn(rows, [(route.line, *self.ends(route)) for route in self.routes])
 
+    def pass_ranges(self):
+        """For how many units more that may pass through a place each saves what one more does, in a
+        tuple; by the lines of the places of which that is told."""
+        return {int(line): (number_in(most),) for line, _, most in self.answer.rows["pass range"]}
+
     def supply_ranges(self):
         """What each further unit of a demand costs, or of a supply if it saves something, and for
         how many units; by the lines of the places of which that is told."""
@@ -212,9 +217,10 @@ class Plan:
         self.places = [place_result(cells[2:], groups) for cells in rows]
         self.has_ranges, self.ranges = problem.options.ranges, problem.ranges()
         self.store_ranges = problem.store_ranges()
-        # Over periods no ranges of room are told, and none of supplies.
+        # Over periods no ranges of room are told, and none of places.
         self.has_rooms = self.has_ranges and not problem.periods
-        self.rooms = problem.room_ranges() if self.has_rooms else []
+        self.rooms = problem.room_ranges() if self.has_rooms else [None] * len(self.routes)
+        self.passes = problem.pass_ranges()
         self.has_supplies = self.has_rooms and problem.unused and not problem.short
         self.supplies = problem.supply_ranges() if self.has_supplies else {}
 

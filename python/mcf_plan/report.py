@@ -33,7 +33,7 @@ def write_flows(results, plan):
     rows = []
     for number, (route, result) in enumerate(zip(problem.routes, plan.routes)):
         cells = result_cells(result) + range_cells(plan, plan.ranges[number])
-        cells += room_cells(plan, number)
+        cells += room_cells(plan, result, plan.rooms[number])
         rows.append((route.line, route.cells, cells + [route.departs, route.arrives] * has_periods))
     for is_supply in (True, False):
         for place, amount in plan.unmet(is_supply):
@@ -54,7 +54,7 @@ def write_prices(results, plan):
     problem = plan.problem
     has_bounds = any(place.bounds for place in problem.places)
     groups = [PLACE_RESULTS] + [SUPPLY_RESULTS] * plan.has_supplies
-    groups += [THROUGH_RESULTS] * has_bounds
+    groups += [THROUGH_RESULTS] * has_bounds + [ROOM_RESULTS] * (has_bounds and plan.has_rooms)
     groups += [PLACE_PERIODS] * bool(problem.periods)
     rows = []
     for place, result in zip(problem.places, plan.places):
@@ -62,6 +62,7 @@ def write_prices(results, plan):
         if has_bounds:
             through = result.through
             cells += result_cells(through) if through else [""] * len(THROUGH_RESULTS)
+            cells += room_cells(plan, through, plan.passes.get(place.line))
         cells += [place.period] * bool(problem.periods)
         rows.append((place.line, place.cells, cells))
     results.after("prices", problem.place_table, problem.place_sheet, groups, rows)
@@ -93,12 +94,13 @@ def range_cells(plan, told):
     return [UNKNOWN, UNKNOWN] if told is None else [*map(figure, told)]
 
 
-def room_cells(plan, number):
-    """For how many units room on a route saves what one more does, if the plan tells that. It is
-    empty without a limit, and where room saves nothing."""
+def room_cells(plan, result, told):
+    """For how many units more room each saves what one more does, on a route or in a place, if the
+    plan tells that. It is empty without a limit, and where room saves nothing."""
     if not plan.has_rooms:
         return []
-    told = plan.rooms[number] if plan.routes[number].saves else (None,)
+    if not result or not result.saves:
+        return [""]
     return [UNKNOWN] if told is None else [figure(told[0])]
 
 

@@ -1,19 +1,24 @@
 """Ranges of the costs of routes in plain Python with fractions, by what the manual page of mcfplan
 says: at both ends of a range the plan stays least, and one unit of cost beyond them it doesn't."""
+import functools
 from fractions import Fraction
 
 from plain_plans import Problem
 
 
-def unit_of_costs(problem):
-    """The greatest power of ten of which all costs are multiples, and no more than 1."""
-    costs = [cost for route in problem.routes for _, cost in route.steps]
-    costs += [place.bounds[2] for place in problem.places if place.bounds]
-    costs += [place.penalty for place in problem.places] + [problem.policy.penalty]
+def unit_of(numbers):
+    """The greatest power of ten of which all numbers are multiples, and no more than 1."""
     unit = Fraction(1)
-    while any(cost % unit for cost in costs if cost is not None):
+    while any(number % unit for number in numbers if number is not None):
         unit /= 10
     return unit
+
+
+def unit_of_costs(problem):
+    """The unit of all costs."""
+    costs = [cost for route in problem.routes for _, cost in route.steps]
+    costs += [place.bounds[2] for place in problem.places if place.bounds]
+    return unit_of(costs + [place.penalty for place in problem.places] + [problem.policy.penalty])
 
 
 def with_dearer(problem, number, change):
@@ -63,15 +68,26 @@ def why_wrong_ranges(problem, rows, wide=Fraction(50)):
 
 
 def unit_of_amounts(problem):
-    """The greatest power of ten of which all amounts are multiples, and no more than 1."""
+    """The unit of all amounts."""
     amounts = [most for route in problem.routes for most, _ in route.steps]
     amounts += [route.least for route in problem.routes]
     amounts += [place.supply for place in problem.places]
-    amounts += [bound for place in problem.places if place.bounds for bound in place.bounds[:2]]
-    unit = Fraction(1)
-    while any(amount % unit for amount in amounts if amount is not None):
-        unit /= 10
-    return unit
+    return unit_of(
+        amounts + [bound for place in problem.places if place.bounds for bound in place.bounds[:2]]
+    )
+
+
+def wrong_end(problem, rows, changed, cost, most, wide=Fraction(50)):
+    """What is wrong with a range: each of so many units costs so much, in the problem that is
+    changed by them, and one more doesn't; None if nothing is. A range without a limit is tried for
+    a wide one."""
+    inside = Fraction(most) if most else wide
+    tries = [(inside, True)] + [(inside + unit_of_amounts(problem), False)] * bool(most)
+    for more, is_in in tries:
+        least = changed(more).least()
+        if (bool(least) and least[0] == rows.number("cost") + more * cost) != is_in:
+            return f"{most} is told, and {more} is in it: {not is_in}"
+    return None
 
 
 def with_room(problem, number, more):
@@ -82,52 +98,72 @@ def with_room(problem, number, more):
     return Problem(problem.places, routes, problem.policy)
 
 
-def why_wrong_rooms(problem, rows, wide=Fraction(50)):
-    """What is wrong with the ranges of room of a plan in which nothing is missing for want of room;
-    None if nothing is. Where a range has no limit, a wide one is tried."""
-    lines = [cells[0] for cells in rows.by_word["route"]]
-    told = {lines.index(line): most for line, _, _, most in rows.by_word["room range"]}
-    saves = [Fraction(cells[6] or 0) for cells in rows.by_word["route"]]
-    if sorted(told) != [number for number, saving in enumerate(saves) if saving > 0]:
-        return "ranges of room of other routes are told"
-    for number, most in told.items():
-        if problem.routes[number].both and problem.is_bounded(problem.routes[number]):
-            continue
-        inside = Fraction(most) if most else wide
-        tries = [(inside, True)] + [(inside + unit_of_amounts(problem), False)] * bool(most)
-        for more, is_in in tries:
-            cost = with_room(problem, number, more).least()[0]
-            if (cost == rows.number("cost") - more * saves[number]) != is_in:
-                return f"route {number}: {most} is told, and {more} is in it: {not is_in}"
-    return None
+def with_place(problem, number, **changes):
+    """The problem in which a place is changed."""
+    places = list(problem.places)
+    places[number] = places[number]._replace(**changes)
+    return Problem(places, problem.routes, problem.policy)
+
+
+def with_passing(problem, number, more):
+    """The problem in which so many units more may pass through a place."""
+    least, most, cost = problem.places[number].bounds
+    return with_place(problem, number, bounds=(least, most + more, cost))
 
 
 def with_supply(problem, number, more):
     """The problem in which a place gives, or wants, so many units more."""
-    places = list(problem.places)
-    supply = places[number].supply
-    places[number] = places[number]._replace(supply=supply + (more if supply > 0 else -more))
-    return Problem(places, problem.routes, problem.policy)
+    supply = problem.places[number].supply
+    return with_place(problem, number, supply=supply + (more if supply > 0 else -more))
 
 
-def why_wrong_supplies(problem, rows, wide=Fraction(50)):
-    """What is wrong with the ranges of supplies and demands of a plan; None if nothing is. Where a
-    range has no limit, a wide one is tried. Of another supply, more of it stays."""
-    lines = [cells[0] for cells in rows.by_word["place"]]
-    told = {lines.index(line): cells for line, _, *cells in rows.by_word["supply range"]}
+def told_by_line(rows, of, word):
+    """What rows with a word tell, by the numbers from 0 of the rows of another word whose line they
+    have: their last cells."""
+    lines = [cells[0] for cells in rows.by_word[of]]
+    return {lines.index(line): cells for line, *cells in rows.by_word[word]}
+
+
+def why_wrong_rooms(problem, rows):
+    """What is wrong with the ranges of room of a plan in which nothing is missing for want of room;
+    None if nothing is."""
+    told = told_by_line(rows, "route", "room range")
+    saves = [Fraction(cells[6] or 0) for cells in rows.by_word["route"]]
+    if sorted(told) != [number for number, saving in enumerate(saves) if saving > 0]:
+        return "ranges of room of other routes are told"
+    for number, (*_, most) in told.items():
+        if problem.routes[number].both and problem.is_bounded(problem.routes[number]):
+            continue
+        changed = functools.partial(with_room, problem, number)
+        if wrong := wrong_end(problem, rows, changed, -saves[number], most):
+            return f"route {number}: {wrong}"
+    return None
+
+
+def why_wrong_passes(problem, rows):
+    """What is wrong with the ranges of what passes through places, as of room on routes."""
+    told = told_by_line(rows, "place", "pass range")
+    saves = [Fraction((cells[9:] or [""])[0] or 0) for cells in rows.by_word["place"]]
+    if sorted(told) != [number for number, saving in enumerate(saves) if saving > 0]:
+        return "ranges of other places are told"
+    for number, (*_, most) in told.items():
+        changed = functools.partial(with_passing, problem, number)
+        if wrong := wrong_end(problem, rows, changed, -saves[number], most):
+            return f"place {number}: {wrong}"
+    return None
+
+
+def why_wrong_supplies(problem, rows):
+    """What is wrong with the ranges of supplies and demands of a plan; None if nothing is. Of
+    another supply, more of it stays."""
+    told = told_by_line(rows, "place", "supply range")
     if not problem.policy.unused or problem.policy.short:
         return "ranges of supplies are told" if told else None
-    unit = unit_of_amounts(problem)
     for number, place in enumerate(problem.places):
-        cost, most = told.get(number, ("0", ""))
+        _, cost, most = told.get(number, ("", "0", ""))
         if (number in told) != (place.supply < 0 or Fraction(cost) < 0 < place.supply):
             return f"place {number}: {cost} is told" if number in told else f"place {number}: none"
-        if not place.supply:
-            continue
-        inside = Fraction(most) if most else wide
-        tries = [(inside, True)] + [(inside + unit, False)] * bool(most)
-        for more, is_in in tries:
-            least = with_supply(problem, number, more).least()
-            if (bool(least) and least[0] == rows.number("cost") + more * Fraction(cost)) != is_in:
-                return f"place {number}: {most} is told, and {more} is in it: {not is_in}"
+        changed = functools.partial(with_supply, problem, number)
+        if place.supply and (wrong := wrong_end(problem, rows, changed, Fraction(cost), most)):
+            return f"place {number}: {wrong}"
     return None

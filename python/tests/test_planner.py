@@ -19,7 +19,7 @@ from plain_plans import (
     why_no_plan,
     why_wrong_figures,
 )
-from plain_ranges import why_wrong_ranges, why_wrong_rooms, why_wrong_supplies
+from plain_ranges import why_wrong_passes, why_wrong_ranges, why_wrong_rooms, why_wrong_supplies
 from random_tables import TIGHT, Notation, random_problem, round_problem, tables_of
 from support import TOP, WithFolder
 
@@ -144,14 +144,17 @@ class Plans(Answering):
             self.assertLess(FIGURE_CASES / 10, seen[word, True])
 
     def test_random_ranges(self):
-        rng = random.Random(20261202)
+        rng, seen = random.Random(3), 0
         for case in range(RANGE_CASES):
             problem, texts, rows = self.planned_problem(rng, "--ranges", "yes")
             with self.subTest(case=case, texts=texts, policy=problem.policy):
                 self.assertIsNone(why_wrong_ranges(problem, rows))
                 if problem.names_penalty() or not rows.number("missing"):
                     self.assertIsNone(why_wrong_rooms(problem, rows))
+                    self.assertIsNone(why_wrong_passes(problem, rows))
+                    seen += len(rows.by_word["pass range"])
                 self.assertIsNone(why_wrong_supplies(problem, rows))
+        self.assertLess(0, seen)
 
     def test_figures_of_all_amounts(self):
         """In some of these plans, all amounts pass through a place without a limit."""
