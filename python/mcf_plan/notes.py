@@ -35,7 +35,7 @@ NO_FLOW = (
     ),
     (
         "consecutive, max consecutive, in a row, max in a row, in folge, max in folge",
-        "limit what comes in a row",
+        "limit consecutive shifts",
         CONSTRAINTS,
     ),
     (
