@@ -3,7 +3,7 @@
 //! Runs one part of the suite on a file, and prints a summary and the time. `bench/run.py` compares
 //! each part with a peer.
 
-ghost use Rattle.std.specs.Prelude.{◌<◌};
+ghost use Rattle.std.specs.Prelude.{◌<◌, ◌≤◌, ◌^◌};
 
 mod answering;
 mod feasibility;
@@ -146,7 +146,8 @@ fn times_of(word: Option<&String>) -> u32 {
 
 // The number from 1 to 10,000,000 in a word, or 1.
 fn number_of(word: &str) -> u32
-    ensures { 0 < result }
+    ensures positive { 0 < result }
+    ensures small { result ≤ 10 ^ 7 }
 {
     match whole(word.as_bytes(), 1, 10_000_000) {
         Whole::Value(number) => number as u32,

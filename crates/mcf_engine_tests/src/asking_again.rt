@@ -156,7 +156,7 @@ fn six_rows_of_stars(rt: HostRuntime) -> Result<(), Fail> {
     let tree = Tree::star(rt.alloc(), 4, 5)?;
     let links = SiblingLinks::star(rt.alloc(), 4)?;
     assert!(rt; tree.size() == 5);
-    assert!(rt; links.first_children().len() == 5);
+    assert!(rt; links.next_places().len() == 10);
     Ok(())
 }
 
