@@ -24,9 +24,9 @@ use Rattle.mcf_flows.proofs.Hoffman.{nets_across}
 use Rattle.mcf_flows.proofs.IntLaws.{mul-anti, mul-mono, mul-neg, mul-one, mul-sub, neg-mul, sub-mul}
 use Rattle.mcf_flows.proofs.NodeSums.{nets_cancel, node_sum-add, node_sum-same, node_sum-sub, node_sum_above_zero, node_sum_at_least_zero, node_sum-mul}
 use Rattle.mcf_flows.proofs.NodeSums.{node_sum-net}
-use Rattle.mcf_links.specs.Rooted.{climb}
-use Rattle.mcf_links.proofs.Depths.{climb_apart}
-use Rattle.mcf_links.proofs.Paths.{climb-add, climb-suc}
+use Rattle.mcf_tree.specs.Rooted.{climb}
+use Rattle.mcf_tree.proofs.Depths.{climb_apart}
+use Rattle.mcf_tree.proofs.Paths.{climb-add, climb-suc}
 use Rattle.mcf_network.specs.Nets.{IsNetArc}
 use Rattle.mcf_network.specs.Residual.{no_arc, arc_at}
 use Rattle.mcf_network.proofs.ArcLaws.{ends_at, net_arc_at}

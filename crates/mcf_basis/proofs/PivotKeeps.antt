@@ -10,7 +10,7 @@ use Rattle.mcf_flows.specs.Flow.{cost}
 use Rattle.mcf_flows.specs.Network.{Network, IsNode, node_count, node_sum, when}
 use Rattle.mcf_flows.proofs.IntLaws.{mul_below_zero, zero-mul}
 use Rattle.mcf_flows.proofs.NodeSums.{node_sum-sub, node_sum_above_zero}
-use Rattle.mcf_links.specs.Rooted.{climb}
+use Rattle.mcf_tree.specs.Rooted.{climb}
 use Rattle.mcf_network.specs.declared.rid.Rid.{Rid}
 use Rattle.mcf_network.specs.Nets.{IsNet}
 use Rattle.mcf_network.specs.Residual.{arc_at, head, tail, unit_cost}

@@ -15,8 +15,8 @@ use Rattle.mcf_flows.specs.Network.{Network, IsNode, node_count, when, IsArcNumb
 use Rattle.mcf_flows.proofs.ArcSums.{flow_sum-set}
 use Rattle.mcf_flows.proofs.IntLaws.{mul-add, mul-sub, neg-mul, add-mul, zero-mul}
 use Rattle.mcf_flows.proofs.NodeSums.{when-neg}
-use Rattle.mcf_links.specs.Rooted.{climb}
-use Rattle.mcf_links.proofs.Paths.{above_root}
+use Rattle.mcf_tree.specs.Rooted.{climb}
+use Rattle.mcf_tree.proofs.Paths.{above_root}
 use Rattle.mcf_network.specs.declared.rid.Rid.{Rid}
 use Rattle.mcf_network.specs.Residual.{arc_at, head, tail, no_arc, unit_cost}
 use Rattle.mcf_network.specs.States.{Pseudoflow, amount_at, pushed, HasNoSurplus, surplus_at}

@@ -4,7 +4,7 @@ use Rattle.std.proofs.Common.{true, false}
 use Rattle.std.specs.Prelude.{slice_index, if◌then◌else◌}
 use Rattle.std.proofs.lemmas.Bool.{cases_eq}
 use Rattle.std.proofs.lemmas.Int.{ints}
-use Rattle.mcf_links.specs.Rooted.{climb, IsRooted}
+use Rattle.mcf_tree.specs.Rooted.{climb, IsRooted}
 
 -- at most the limit, if there is one
 abbrev pub IsWithin : Option ℤ → ℤ → Type 0

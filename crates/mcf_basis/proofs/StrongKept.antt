@@ -7,7 +7,7 @@ use Rattle.std.proofs.lemmas.Bool.Decides.{nat_tests}
 use Rattle.std.proofs.lemmas.Int.{ints}
 use Rattle.std.proofs.lemmas.List.{get_or_past}
 use Rattle.mcf_flows.specs.Network.{Network, IsNode, node_count}
-use Rattle.mcf_links.specs.Rooted.{climb, IsOnPath}
+use Rattle.mcf_tree.specs.Rooted.{climb, IsOnPath}
 use Rattle.mcf_network.specs.declared.rid.Rid.{Rid}
 use Rattle.mcf_network.specs.Residual.{arc_at, head, tail}
 use Rattle.mcf_tree.specs.SpanningTree.{IsSpanning, depth_of, label_of, size_of}

@@ -3,8 +3,8 @@ use Rattle.std.proofs.Common.{◌≡◌, ◌≢◌, ℕ, zero, suc, ◌+◌, ◌
 use Rattle.std.proofs.Common.{false, refl}
 use Rattle.std.specs.Prelude.{slice_index}
 use Rattle.std.proofs.lemmas.Bool.{cases_eq, cases_lt, true≢false}
-use Rattle.mcf_links.specs.Rooted.{climb, IsRooted, IsTurned, IsRelabelled}
-use Rattle.mcf_links.proofs.Paths.{climb-within, climb-suc, depth-climb, above_root}
+use Rattle.mcf_tree.specs.Rooted.{climb, IsRooted, IsTurned, IsRelabelled}
+use Rattle.mcf_tree.proofs.Paths.{climb-within, climb-suc, depth-climb, above_root}
 use Rattle.mcf_basis.proofs.Pushes.{Arcs, IsWithin, JoinsEnds, CanLeave, IsTreeOf, IsCycle, IsPushed, HasRoomUp, CanLeave-back, CanLeave-more, CanLeave-kept}
 use Rattle.mcf_basis.proofs.Pushes.{CanLeave-same, CanLeave-le, JoinsEnds-sym, cases_found, cases_sides}
 use Rattle.mcf_basis.proofs.Pushes.JoinsEnds.{out_of, into}

@@ -11,7 +11,7 @@ use Rattle.mcf_network.specs.Nets.{IsNetArc}
 use Rattle.mcf_network.specs.Residual.{no_arc, arc_at}
 use Rattle.mcf_network.proofs.ArcLaws.{net_arc_at}
 use Rattle.mcf_network.proofs.StateLaws.{when-other, when-zero}
-use Rattle.mcf_links.proofs.Depths.{depth-lt}
+use Rattle.mcf_tree.proofs.Depths.{depth-lt}
 use Rattle.mcf_tree.specs.SpanningTree.{depth_of, label_of, parent_of, size_of}
 use Rattle.mcf_basis.specs.Bases.{IsBasis}
 use Rattle.mcf_basis.specs.Laws.{BasesAreTreeSolutions}

@@ -16,9 +16,9 @@ use Rattle.mcf_network.specs.Residual.{no_arc, arc_at}
 use Rattle.mcf_network.proofs.Costs.{greatest_small, size_within}
 use Rattle.mcf_tree.specs.SpanningTree.{depth_of, label_of, parent_of, size_of}
 use Rattle.mcf_tree.proofs.Meeting.{path_place}
-use Rattle.mcf_links.specs.Rooted.{climb, IsOnPath}
-use Rattle.mcf_links.proofs.Paths.{climb-root, root_from_depth}
-use Rattle.mcf_links.proofs.Depths.{depth-lt}
+use Rattle.mcf_tree.specs.Rooted.{climb, IsOnPath}
+use Rattle.mcf_tree.proofs.Paths.{climb-root, root_from_depth}
+use Rattle.mcf_tree.proofs.Depths.{depth-lt}
 use Rattle.mcf_basis.specs.Artificial.{artificial_cost, with_artificial}
 use Rattle.mcf_basis.specs.Bases.{HasTreeArc, IsBasis}
 use Rattle.mcf_basis.specs.Ranks.{price_reach}
