@@ -1,3 +1,4 @@
+pub mod ArcAmounts
 pub mod BadArcs
 pub mod BadNodes
 pub mod BadPrices
@@ -7,6 +8,7 @@ pub mod JudgedTexts
 pub mod Judges
 pub mod LeastNumbers
 pub mod OrderedArcs
+pub mod PriceLists
 pub mod Runs
 pub mod Sent
 pub mod Sets

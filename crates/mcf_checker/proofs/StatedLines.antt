@@ -8,12 +8,11 @@ use Rattle.std.specs.Option.{option_map, option_map_or}
 use Rattle.std.proofs.lemmas.Bool.{cases_eq, cases_lt, eq-eqb, eqb-true, ne_eqb}
 use Rattle.std.proofs.lemmas.List.{length-map}
 use Rattle.std.proofs.lemmas.List.Kept.{AllPairs-from_increasing}
-use Rattle.std.proofs.lemmas.Option.{get_or_from_slice_get, none-some, same_Some, slice_get-get_or, slice_get-map, slice_get_read, slice_get_within}
-use Rattle.mcf_answer.specs.declared.answers.Sent.{Sent}
+use Rattle.std.proofs.lemmas.Option.{get_or_from_slice_get, none-some, same_Some, slice_get-get_or, slice_get-map, slice_get_within}
 use Rattle.mcf_checker.specs.Correct.{amounts, spread, stated_or_low}
 use Rattle.mcf_checker.specs.Private.StatedFlows.{AreArcsInOrder, HasLine, IsFlowAt, IsInOrder, IsNext, IsNextLine, flow_if_of, flow_stated}
 use Rattle.mcf_checker.specs.declared.stated.Stated.{Stated}
-use Rattle.mcf_checker.specs.declared.stated.Stated.TheVariants.{Each, Moved}
+use Rattle.mcf_checker.specs.declared.stated.Stated.TheVariants.{Amounts, Each, Moved}
 use Rattle.mcf_flows.proofs.AllZips.{length-AllZip}
 use Rattle.mcf_flows.specs.declared.arc.Arc.{Arc}
 use Rattle.mcf_flows.specs.Flow.{CanCarry, IsWithinBounds}
@@ -43,12 +42,14 @@ pub flow_read : (arcs : List Arc) (stated : Stated) (i : ℕ) (a : Arc) (f : ℤ
     → slice_get (flow_stated arcs stated) i ≡ Some f
 flow_read arcs (Each sent) i a f at is = is
 flow_read arcs (Moved moved) i a f at is = spread_at arcs moved.now i a at ∙ ap Some (sym is)
+flow_read arcs (Amounts flow) i a f at is = is
 
 -- there is a line where there has to be one
 pub has_line : (arcs : List Arc) (stated : Stated) (i : ℕ) → IsWithinBounds arcs (flow_stated arcs stated) → i < length arcs → HasLine stated i
 has_line arcs (Each sent) i bounds h =
     omega (arith, length-AllZip CanCarry arcs (amounts sent.now) bounds, length-map sent.now (λ s. s.flow))
 has_line arcs (Moved moved) i bounds h = tt
+has_line arcs (Amounts flow) i bounds h = omega (arith, length-AllZip CanCarry arcs flow.now bounds)
 
 -- ---- the next line
 
@@ -72,6 +73,7 @@ next_at_start moved order = record {
 pub starts : (stated : Stated) → IsInOrder stated → IsNext stated 0 0
 starts (Each sent) order = tt
 starts (Moved moved) order = next_at_start moved.now order
+starts (Amounts flow) order = tt
 
 -- ---- one step
 
@@ -192,15 +194,3 @@ step_of_none stated moved place next a is before e =
       next_is = next_after_none moved.now place next was none;
     } in
     subst (λ (s : Stated). IsStep s a place a.low next) (sym is) step
-
-pub step_of_each : (stated : Stated) (sent : Bor (List Sent)) (place next : ℕ) (a : Arc) (s : Sent) → stated ≡ Each sent → place < length sent.now
-    → s ≡ get_or sent.now place s → IsStep stated a place s.flow next
-step_of_each stated sent place next a s is h read =
-    let at : slice_get (amounts sent.now) place ≡ Some s.flow =
-    slice_get-map (λ (t : Sent). t.flow) sent.now place
-    ∙ ap (option_map (λ (t : Sent). t.flow)) (slice_get_read sent.now (length sent.now) place s refl h read) in
-    let step : IsStep (Each sent) a place s.flow next = record { flow = at; next_is = tt } in
-    subst (λ (t : Stated). IsStep t a place s.flow next) (sym is) step
-
-pub line_of_each : (stated : Stated) (sent : Bor (List Sent)) (place : ℕ) → stated ≡ Each sent → HasLine stated place → place < length sent.now
-line_of_each stated sent place is h = subst (λ (t : Stated). HasLine t place) is h

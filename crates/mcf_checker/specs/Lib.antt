@@ -6,6 +6,7 @@ pub use Rattle.mcf_flows.specs.Limits
 pub use Rattle.mcf_instance.specs.Memory
 pub use Rattle.mcf_instance.specs.Reading
 pub use Rattle.mcf_text.specs.Row
+pub mod Amounts
 pub mod Correct
 pub mod Judging
 pub mod Laws

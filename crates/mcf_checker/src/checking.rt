@@ -1,7 +1,9 @@
 //! The verdict on an answer text for an instance text.
-ghost use Rattle.std.specs.Prelude.{◌≡◌, ◌≤◌, ◌↔◌, ◌⊎◌, Err, IfOk, IsTrue, Ok, OnErr, if◌then◌else◌, ℕ, ℤ};
+ghost use Rattle.std.specs.Prelude.{◌≡◌, ◌≤◌, ◌↔◌, ◌⊎◌, Err, IfOk, IsTrue, Ok, OnErr, if◌then◌else◌, length, ℕ, ℤ};
+ghost use Rattle.std.specs.List.{All};
 ghost use Rattle.mcf_answer.specs.Parsing.{has_item_line};
-ghost use Rattle.mcf_checker.specs.Correct.{GivesLeastFlow, HasNoFlow, IsCorrect, IsRightSolution, amounts};
+ghost use Rattle.mcf_checker.specs.Amounts.{answer_along};
+ghost use Rattle.mcf_checker.specs.Correct.{GivesLeastFlow, HasNoFlow, IsCorrect, IsRightFlow, IsRightSolution, amounts};
 ghost use Rattle.mcf_checker.specs.Judging.{accepts, judged, same_fault, solution_verdict, verdict};
 ghost use Rattle.mcf_flows.specs.Flow.{IsLeast};
 ghost use Rattle.mcf_flows.specs.Limits.{limits};
@@ -9,6 +11,8 @@ ghost use Rattle.mcf_instance.specs.Memory.{NamesNodes};
 ghost use Rattle.mcf_flows.specs.Network.{Network, node_count};
 ghost use Rattle.mcf_flows.specs.WellFormed.{IsWellFormed};
 
+use crate::amounts::amounts_verdict;
+use crate::price::Price;
 use crate::set::set_verdict;
 use crate::solution::solution_verdict;
 use crate::sparse::sparse_verdict;
@@ -105,6 +109,32 @@ pub fn check_flow(
 {
     prove!(instance.node_count() <= NODE_LIMIT);
     solution_verdict(alloc, instance, answer)
+}
+
+/// The verdict on a flow by arc with its cost and prices by node for an instance: that of
+/// [`check_flow`] on the answer that gives each arc its amount and each node its price. It makes no
+/// such answer, and reads the arrays where they are.
+///
+/// # Errors
+///
+/// `NoMemory` if the allocation for the nodes' balances is refused; an instance without nodes needs
+/// none.
+pub fn check_amounts<P: Price>(
+    alloc: Global,
+    instance: &Instance,
+    total: i128,
+    amounts: &[i64],
+    prices: &[P],
+) -> Result<Verdict, NoMemory>
+    requires one_amount_each { length amounts.now ≡ length instance.now.arcs }
+    requires prices { All P.IsInRange prices.now }
+    ensures verdict { IfOk result (λ v. v ≡ solution_verdict instance.now (answer_along instance.now total amounts.now (P.values prices.now))) }
+    ensures exact { IfOk result (λ v. IsTrue (accepts v) ↔ IsRightFlow instance.now total (P.values prices.now) amounts.now) }
+    ensures least { IfOk result (λ v. IsTrue (accepts v) → IsLeast instance.now amounts.now) }
+    ensures wants { OnErr result (1 ≤ node_count instance.now) }
+{
+    prove!(instance.node_count() <= NODE_LIMIT);
+    amounts_verdict(alloc, instance, total, amounts, prices)
 }
 
 /// The verdict on an answer text for an instance text: the first of `Verdict` that applies. It

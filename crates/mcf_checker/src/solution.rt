@@ -3,13 +3,14 @@ ghost use Rattle.std.specs.Prelude.{◌≡◌, ◌<◌, ◌≤◌, ◌&&◌, ◌
 ghost use Rattle.std.specs.List.{All};
 ghost use Rattle.std.specs.Ordering.{int_eq};
 ghost use Rattle.mcf_answer.specs.Ranges.{IsAmount};
-ghost use Rattle.mcf_checker.specs.Judging.{arc_agrees, bad_arc, bad_node, bad_price, flow_verdict, is_loose, least_up_to, solution_verdict};
+ghost use Rattle.mcf_checker.specs.Judging.{arc_agrees, bad_arc, bad_node, bad_price, can_carry, flow_verdict, is_loose, least_up_to, solution_verdict};
 ghost use Rattle.mcf_checker.specs.Private.StatedFlows.{IsInOrder, flow_stated};
 ghost use Rattle.mcf_flows.specs.Flow.{IsWithinBounds, cost, reduced_cost, AreNets};
 ghost use Rattle.mcf_flows.specs.Limits.{limits};
-ghost use Rattle.mcf_flows.specs.Network.{at_node, node_count};
+ghost use Rattle.mcf_flows.specs.Network.{IsNode, at_node, node_count};
 ghost use Rattle.mcf_flows.specs.WellFormed.{HasEnds, IsArcWithinLimits, IsWellFormed};
 
+use crate::price::Price;
 use crate::stated::{Stated, flow_at};
 use crate::verdict::Verdict;
 use mcf_answer::{FlowAnswer, Sent};
@@ -17,8 +18,8 @@ use mcf_instance::{Arc, Instance};
 use mcf_text::{ArcId, NoMemory, NodeId, copies};
 use std::alloc::Global;
 
-// The arc at a place, counted from 0.
-fn arc_at(instance: &Instance, place: u32) -> Arc
+/// The arc at a place, counted from 0.
+pub(crate) fn arc_at(instance: &Instance, place: u32) -> Arc
     requires { place < length instance.now.arcs }
     ensures value { slice_get instance.now.arcs place ≡ Some result }
     ensures well_formed { IsWellFormed limits instance.now }
@@ -35,6 +36,13 @@ fn supply_at(instance: &Instance, place: usize) -> i128
 {
     prove!(place < instance.node_count() as usize);
     instance.supply(NodeId::at(place as u32))
+}
+
+/// Whether the arc can carry this flow.
+pub(crate) fn can_carry(arc: &Arc, flow: i128) -> bool
+    ensures { result ≡ can_carry (Some arc.now) flow }
+{
+    arc.low <= flow && flow <= arc.cap
 }
 
 // Whether the line belongs to the arc: the same ends, and a flow within the bounds.
@@ -117,49 +125,59 @@ fn first_unmet(instance: &Instance, nets: &[i128], prices: usize) -> Option<u32>
 
 // The least number of a node and a price line of which one is missing, or of a node whose net
 // outflow isn't its supply.
-fn first_bad_node(
+fn first_bad_node<P: Price>(
     alloc: Global,
     instance: &Instance,
-    prices: &[i128],
+    prices: &[P],
     stated: Stated<'_>,
 ) -> Result<Option<u32>, NoMemory>
     requires bounds { IsWithinBounds instance.now.arcs (flow_stated instance.now.arcs stated) }
     requires order { IsInOrder stated }
-    ensures value { IfOk result (λ v. v ≡ bad_node instance.now prices.now (flow_stated instance.now.arcs stated.entry)) }
+    ensures value { IfOk result (λ v. v ≡ bad_node instance.now (P.values prices.now) (flow_stated instance.now.arcs stated.entry)) }
     ensures wants { OnErr result (1 ≤ node_count instance.now) }
 {
     let nets = nets_of(alloc, instance, stated)?;
     Ok(first_unmet(instance, &nets, prices.len()))
 }
 
+// The price of a node.
+fn price_of<P: Price>(prices: &[P], node: NodeId) -> i128
+    requires node { IsNode (length prices.now) node }
+    requires prices { All P.IsInRange prices.now }
+    ensures value { result ≡ at_node (P.values prices.now) node }
+    ensures small { IsAmount result }
+{
+    prices[node.place()].widened()
+}
+
 // The reduced cost of the arc: its cost, less the price of its first end, plus that of its second.
-fn reduced_cost_of(arc: &Arc, prices: &[i128]) -> i128
+fn reduced_cost_of<P: Price>(arc: &Arc, prices: &[P]) -> i128
     requires ends { HasEnds (length prices.now) arc.now }
     requires limits { IsArcWithinLimits limits arc.now }
-    requires prices { All IsAmount prices.now }
-    ensures { result ≡ reduced_cost prices.now arc.now }
+    requires prices { All P.IsInRange prices.now }
+    ensures { result ≡ reduced_cost (P.values prices.now) arc.now }
 {
-    arc.cost - prices[arc.src.place()] + prices[arc.dst.place()]
+    arc.cost - price_of(prices, arc.src) + price_of(prices, arc.dst)
 }
 
 // Whether the prices don't show the flow of the arc (complementary slackness fails).
-fn is_loose(arc: &Arc, prices: &[i128], flow: i128) -> bool
+fn is_loose<P: Price>(arc: &Arc, prices: &[P], flow: i128) -> bool
     requires ends { HasEnds (length prices.now) arc.now }
     requires limits { IsArcWithinLimits limits arc.now }
-    requires prices { All IsAmount prices.now }
-    ensures { result ≡ is_loose prices.now (arc.now, flow) }
+    requires prices { All P.IsInRange prices.now }
+    ensures { result ≡ is_loose (P.values prices.now) (arc.now, flow) }
 {
     let reduced = reduced_cost_of(arc, prices);
     (0 < reduced && arc.low < flow) || (reduced < 0 && flow < arc.cap)
 }
 
 // The first arc whose flow the prices don't show.
-fn first_bad_price(instance: &Instance, prices: &[i128], stated: Stated<'_>) -> Option<u32>
+fn first_bad_price<P: Price>(instance: &Instance, prices: &[P], stated: Stated<'_>) -> Option<u32>
     requires bounds { IsWithinBounds instance.now.arcs (flow_stated instance.now.arcs stated) }
     requires order { IsInOrder stated }
     requires one_price_each { length prices.now ≡ node_count instance.now }
-    requires prices { All IsAmount prices.now }
-    ensures { result ≡ bad_price instance.now prices.now (flow_stated instance.now.arcs stated.entry) }
+    requires prices { All P.IsInRange prices.now }
+    ensures { result ≡ bad_price instance.now (P.values prices.now) (flow_stated instance.now.arcs stated.entry) }
 {
     let count = instance.arc_count();
     let mut next = 0;
@@ -205,17 +223,17 @@ fn has_cost(instance: &Instance, stated: Stated<'_>, total: i128) -> bool
 ///
 /// `NoMemory` if the allocation for the nodes' balances is refused; an instance without nodes needs
 /// none.
-pub(crate) fn flow_verdict(
+pub(crate) fn flow_verdict<P: Price>(
     alloc: Global,
     instance: &Instance,
     total: i128,
-    prices: &[i128],
+    prices: &[P],
     stated: Stated<'_>,
 ) -> Result<Verdict, NoMemory>
     requires bounds { IsWithinBounds instance.now.arcs (flow_stated instance.now.arcs stated) }
     requires order { IsInOrder stated }
-    requires prices { All IsAmount prices.now }
-    ensures value { IfOk result (λ v. v ≡ flow_verdict instance.now total prices.now (flow_stated instance.now.arcs stated.entry)) }
+    requires prices { All P.IsInRange prices.now }
+    ensures value { IfOk result (λ v. v ≡ flow_verdict instance.now total (P.values prices.now) (flow_stated instance.now.arcs stated.entry)) }
     ensures wants { OnErr result (1 ≤ node_count instance.now) }
 {
     if let Some(node) = first_bad_node(alloc, instance, prices, stated)? {

@@ -1,26 +1,19 @@
 //! The verdict on a flow answer of the sparse form.
-ghost use Rattle.std.specs.Prelude.{◌≡◌, ◌≤◌, IfOk, OnErr, Some};
+ghost use Rattle.std.specs.Prelude.{◌≡◌, ◌≤◌, IfOk, OnErr};
 ghost use Rattle.std.specs.List.{All};
-ghost use Rattle.mcf_checker.specs.Judging.{bad_moved, can_carry, moved_agrees, sparse_verdict};
+ghost use Rattle.mcf_checker.specs.Judging.{bad_moved, moved_agrees, sparse_verdict};
 ghost use Rattle.mcf_flows.specs.Limits.{limits};
 ghost use Rattle.mcf_flows.specs.Network.{node_count};
 ghost use Rattle.mcf_flows.specs.WellFormed.{IsWellFormed};
 
-use crate::solution::flow_verdict;
+use crate::solution::{can_carry, flow_verdict};
 use crate::stated::Stated;
 use crate::verdict::Verdict;
 use mcf_answer::SparseAnswer;
 use mcf_flows::NODE_LIMIT;
-use mcf_instance::{Arc, Instance};
+use mcf_instance::Instance;
 use mcf_text::{ArcId, NoMemory};
 use std::alloc::Global;
-
-// Whether the arc can carry this flow.
-fn can_carry(arc: &Arc, flow: i128) -> bool
-    ensures { result ≡ can_carry (Some arc.now) flow }
-{
-    arc.low <= flow && flow <= arc.cap
-}
 
 // Whether there is an arc with this number, and it can carry this flow.
 fn is_carried(instance: &Instance, arc: ArcId, flow: i128) -> bool

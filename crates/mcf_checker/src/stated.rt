@@ -1,4 +1,4 @@
-//! The content of a flow answer, read along the arcs.
+//! The content of a flow answer, or a flow by arc, read along the arcs.
 ghost use Rattle.std.specs.Prelude.{◌≡◌, ◌+◌, slice_get};
 ghost use Rattle.mcf_checker.specs.Private.StatedFlows.{HasLine, IsFlowAt, IsNext, flow_if_of};
 
@@ -6,13 +6,15 @@ use mcf_answer::Sent;
 use mcf_instance::Arc;
 use mcf_text::ArcId;
 
-/// The flow lines of an answer, in one of their forms.
+/// The flow lines of an answer, in one of their forms, or a flow by arc.
 #[derive(Clone, Copy)]
 pub(crate) enum Stated<'a> {
     /// A line for each arc, in order.
     Each(&'a [Sent]),
     /// Lines of arcs in order, by their numbers: the other arcs carry their lower bounds.
     Moved(&'a [(ArcId, i128)]),
+    /// The amount of each arc, in order.
+    Amounts(&'a [i64]),
 }
 
 /// The flow of the arc at a place, counted from 0, if the first `next` lines belong to arcs before
@@ -32,6 +34,7 @@ pub(crate) fn flow_at(stated: Stated<'_>, arc: &Arc, place: u32, next: &mut usiz
             }
             None => arc.low,
         },
+        Stated::Amounts(amounts) => i128::from(amounts[place as usize]),
     }
 }
 

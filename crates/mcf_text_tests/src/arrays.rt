@@ -7,11 +7,11 @@ use mcf_text::{NoMemory, copies};
 use std::alloc::Global;
 use std::test::Fail;
 
-// The ends of an arc, its least and its greatest flow, and its cost.
-type Numbers = (u32, u32, i64, i64, i64);
+/// The ends of an arc, its least and its greatest flow, and its cost.
+pub type Numbers = (u32, u32, i64, i64, i64);
 
-// The flow problem of these supplies and arcs, or the first fault.
-fn flow_of(
+/// The flow problem of these supplies and arcs, or the first fault.
+pub fn flow_of(
     alloc: Global,
     supplies: &[i64],
     arcs: &[Numbers],

@@ -7,6 +7,8 @@
 //! those of the solver, so that their proofs wait for no engine. It has no other function.
 
 #[cfg(test)]
+mod amounts;
+#[cfg(test)]
 mod answers;
 #[cfg(test)]
 mod arc_lines;

@@ -4,5 +4,5 @@ use Rattle.mcf_checker.proofs.BadPrices.{looseness}
 use Rattle.mcf_checker.proofs.solution.first_bad_price.Given as goal
 
 abbrev pub invariant-loop-place : goal.invariant-loop-place
-invariant-loop-place l =
-    ((j : ℕ) → j < l.place → looseness l.prices l.instance.arcs (flow_stated l.instance.arcs l.stated) j ≡ false) × IsNext l.stated l.place l.next
+invariant-loop-place t l =
+    ((j : ℕ) → j < l.place → looseness (t.P.Price.values l.prices) l.instance.arcs (flow_stated l.instance.arcs l.stated) j ≡ false) × IsNext l.stated l.place l.next
