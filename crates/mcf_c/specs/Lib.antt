@@ -1,3 +1,4 @@
+pub use Rattle.mcf_checker.specs.Amounts
 pub use Rattle.mcf_checker.specs.Correct
 pub use Rattle.mcf_checker.specs.Judging
 pub use Rattle.mcf_instance.specs.Arrays

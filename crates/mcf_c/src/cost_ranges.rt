@@ -12,7 +12,7 @@ ghost use Rattle.mcf_flows.specs.WellFormed.{IsUpTo};
 ghost use Rattle.mcf_ranges.specs.Ranges.{IsCostRange};
 
 use crate::arrays::are_rooms;
-use crate::judging::{judge_instance, wide_numbers};
+use crate::judging::judge_instance;
 use crate::problems::McfFlowProblem;
 use crate::statuses::{ACCEPTED, BUFFER_TOO_SMALL, INVALID_CHOICE, INVALID_INPUT, NO_MEMORY};
 use crate::verdicts::{McfVerdict, fault_numbers};
@@ -108,6 +108,26 @@ fn arcs_of(
         arcs.push(ArcId::new(number))?;
     }
     Ok(Some(arcs))
+}
+
+// A number in 128 bits.
+fn widened(n: i64) -> i128
+    ensures value { result ≡ n }
+    ensures small { IsUpTo price_limit result }
+{
+    i128::from(n)
+}
+
+// Numbers in 128 bits.
+fn wide_numbers(alloc: Global, numbers: &[i64]) -> Result<Vec<i128>, NoMemory>
+    ensures value { IfOk result (λ wide. wide.items ≡ numbers.now) }
+    ensures small { IfOk result (λ wide. All (IsUpTo price_limit) wide.items) }
+{
+    let mut wide = Vec::new(alloc);
+    for place in 0..numbers.len() {
+        wide.push(widened(numbers[place]))?;
+    }
+    Ok(wide)
 }
 
 // The ranges of the costs of arcs, for a flow that the prices show.

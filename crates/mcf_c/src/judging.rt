@@ -1,97 +1,28 @@
 //! Flows in arrays judged, without texts.
-ghost use Rattle.std.specs.Prelude.{◌≡◌, ◌≢◌, ◌≤◌, ◌<◌, ◌⊎◌, ◌↔◌, ◌+◌, IfOk, OnErr, if◌then◌else◌, Some, length, nat_le, neg_ℤ, pos, slice_get, true, false};
-ghost use Rattle.std.specs.List.{All};
-ghost use Rattle.mcf_answer.specs.Ranges.{IsAmount, amount_limit};
-ghost use Rattle.mcf_answer.specs.Solution.{IsSent};
+ghost use Rattle.std.specs.Prelude.{◌≡◌, ◌≢◌, ◌≤◌, ◌⊎◌, ◌↔◌, if◌then◌else◌, length, nat_le, neg_ℤ, pos};
+ghost use Rattle.mcf_answer.specs.Ranges.{amount_limit};
 ghost use Rattle.mcf_c.specs.Handing.{HandsFault, KeepsSizes};
-ghost use Rattle.mcf_c.specs.Judged.{answer_along, claimed_cost, sent_along, sent_by};
+ghost use Rattle.mcf_c.specs.Judged.{claimed_cost};
 ghost use Rattle.mcf_c.specs.Problems.{assignment_network, flow_network};
 ghost use Rattle.mcf_c.specs.Verdicts.{Tells, number};
+ghost use Rattle.mcf_checker.specs.Amounts.{answer_along};
 ghost use Rattle.mcf_checker.specs.Correct.{IsRightFlow};
 ghost use Rattle.mcf_checker.specs.Judging.{accepts, solution_verdict};
 ghost use Rattle.mcf_flows.specs.Flow.{IsLeast};
-ghost use Rattle.mcf_flows.specs.Limits.{limits, node_limit};
 ghost use Rattle.mcf_flows.specs.Network.{node_count};
-ghost use Rattle.mcf_engine.specs.SmallPrices.{price_limit};
-ghost use Rattle.mcf_flows.specs.WellFormed.{HasEnds, IsUpTo, IsWellFormed};
 
 use crate::arrays::are_rooms;
 use crate::problems::{McfAssignment, McfFlowProblem, node_count};
 use crate::statuses::{ACCEPTED, BUFFER_TOO_SMALL, INVALID_INPUT, NO_MEMORY, REJECTED};
 use crate::verdicts::{McfVerdict, fault_numbers, numbers};
-use mcf_answer::{FlowAnswer, PriceList, Sent, SentList};
-use mcf_checker::{Verdict, check_flow};
+use mcf_checker::{Verdict, check_amounts};
 use mcf_flows::{AMOUNT_LIMIT, NODE_LIMIT};
-use mcf_instance::{Arc, Instance, assignment_problem, flow_problem};
-use mcf_text::{ArcId, NoMemory};
+use mcf_instance::{Instance, assignment_problem, flow_problem};
 use std::alloc::Global;
-
-// The arc at a place, counted from 0.
-fn arc_at(instance: &Instance, place: u32) -> Arc
-    requires { place < length instance.now.arcs }
-    ensures value { slice_get instance.now.arcs place ≡ Some result }
-    ensures ends { HasEnds node_limit result }
-    ensures nodes { 1 ≤ node_count instance.now }
-{
-    prove!(place < instance.arc_count());
-    instance.arc(ArcId::at(place))
-}
-
-// The flow of an arc, with its ends.
-fn sent_by(arc: &Arc, flow: i64) -> Sent
-    requires { HasEnds node_limit arc.now }
-    ensures value { result ≡ sent_by (arc.now, flow) }
-    ensures fits { IsSent result }
-{
-    Sent {
-        src: arc.src,
-        dst: arc.dst,
-        flow: widened(flow),
-    }
-}
-
-// The flows of the arcs of an instance, with their ends.
-fn sent_along(alloc: Global, instance: &Instance, flow: &[i64]) -> Result<Vec<Sent>, NoMemory>
-    requires { length flow.now ≡ length instance.now.arcs }
-    ensures value { IfOk result (λ sent. sent.items ≡ sent_along instance.now.arcs flow.now) }
-    ensures fits { IfOk result (λ sent. All IsSent sent.items) }
-    ensures wants { OnErr result (1 ≤ node_count instance.now) }
-{
-    let mut sent = Vec::new(alloc);
-    for place in 0..instance.arc_count() {
-        let arc = arc_at(instance, place);
-        sent.push(sent_by(&arc, flow[place as usize]))?;
-    }
-    Ok(sent)
-}
-
-// A number of an answer.
-fn widened(n: i64) -> i128
-    ensures value { result ≡ n }
-    ensures fits { IsAmount result }
-    ensures small { IsUpTo price_limit result }
-{
-    i128::from(n)
-}
-
-/// Numbers in 128 bits.
-pub(crate) fn wide_numbers(alloc: Global, numbers: &[i64]) -> Result<Vec<i128>, NoMemory>
-    ensures value { IfOk result (λ wide. wide.items ≡ numbers.now) }
-    ensures fits { IfOk result (λ wide. All IsAmount wide.items) }
-    ensures small { IfOk result (λ wide. All (IsUpTo price_limit) wide.items) }
-    ensures wants { OnErr result (1 ≤ length numbers.now) }
-{
-    let mut wide = Vec::new(alloc);
-    for place in 0..numbers.len() {
-        wide.push(widened(numbers[place]))?;
-    }
-    Ok(wide)
-}
 
 // The claimed cost, or one that no flow has if it is beyond the range of answers.
 fn claimed_cost(told: &McfVerdict) -> i128
-    ensures value { result ≡ claimed_cost told.now }
-    ensures small { IsAmount result }
+    ensures { result ≡ claimed_cost told.now }
 {
     let size = u128::from(told.low) + 0x1_0000_0000_0000_0000 * u128::from(told.high);
     signed_cost(size, told.negative == 1)
@@ -100,8 +31,7 @@ fn claimed_cost(told: &McfVerdict) -> i128
 // The cost of an absolute value and a sign, or one that no flow has if it is beyond the range of
 // answers.
 fn signed_cost(size: u128, is_negative: bool) -> i128
-    ensures value { result ≡ (if nat_le size amount_limit then (if is_negative then neg_ℤ (pos size) else pos size) else pos amount_limit) }
-    ensures small { IsAmount result }
+    ensures { result ≡ (if nat_le size amount_limit then (if is_negative then neg_ℤ (pos size) else pos size) else pos amount_limit) }
 {
     if size > AMOUNT_LIMIT {
         return AMOUNT_LIMIT as i128;
@@ -113,30 +43,6 @@ fn signed_cost(size: u128, is_negative: bool) -> i128
     }
 }
 
-// The answer with a flow by arc, prices by node, and the claimed cost.
-fn answer_along(
-    alloc: Global,
-    instance: &Instance,
-    cost: i128,
-    flow: &[i64],
-    prices: &[i64],
-) -> Result<FlowAnswer, NoMemory>
-    requires flow { length flow.now ≡ length instance.now.arcs }
-    requires prices { length prices.now ≡ node_count instance.now }
-    requires cost { IsAmount cost }
-    ensures value { IfOk result (λ a. a ≡ answer_along instance.now cost flow.now prices.now) }
-    ensures wants { OnErr result (1 ≤ node_count instance.now) }
-{
-    prove!(instance.node_count() <= NODE_LIMIT);
-    let sent = sent_along(alloc, instance, flow)?;
-    let wide = wide_numbers(alloc, prices)?;
-    Ok(FlowAnswer {
-        cost,
-        sent: SentList::new(sent),
-        prices: PriceList::new(wide),
-    })
-}
-
 /// Judges a flow by arc and prices by node for an instance.
 pub(crate) fn judge_instance(
     alloc: Global,
@@ -146,7 +52,6 @@ pub(crate) fn judge_instance(
     told: &mut McfVerdict,
 ) -> u32
     requires flow { length flow.now ≡ length instance.now.arcs }
-    requires prices { length prices.now ≡ node_count instance.now }
     ensures statuses { (result ≤ 1) ⊎ (result ≡ 3) }
     ensures verdict { result ≤ 1 → Tells (solution_verdict instance.now (answer_along instance.now (claimed_cost told.old) flow.now prices.now)) told.new }
     ensures exact { result ≤ 1 → (result ≡ 0) ↔ IsRightFlow instance.now (number told.old) prices.now flow.now }
@@ -156,10 +61,7 @@ pub(crate) fn judge_instance(
 {
     prove!(instance.node_count() <= NODE_LIMIT);
     let cost = claimed_cost(told);
-    let Ok(answer) = answer_along(alloc, instance, cost, flow, prices) else {
-        return NO_MEMORY;
-    };
-    let Ok(verdict) = check_flow(alloc, instance, &answer) else {
+    let Ok(verdict) = check_amounts(alloc, instance, cost, flow, prices) else {
         return NO_MEMORY;
     };
     *told = numbers(&verdict);

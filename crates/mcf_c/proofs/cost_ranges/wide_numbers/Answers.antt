@@ -5,10 +5,9 @@ use Rattle.std.specs.List.{All}
 use Rattle.std.proofs.lemmas.Int.{to_z-of_z}
 use Rattle.std.proofs.lemmas.List.{take_more}
 use Rattle.std.proofs.lemmas.List.Elements.{All-push}
-use Rattle.mcf_answer.specs.Ranges.{IsAmount}
 use Rattle.mcf_engine.specs.SmallPrices.{price_limit}
 use Rattle.mcf_flows.specs.WellFormed.{IsUpTo}
-use Rattle.mcf_c.proofs.judging.wide_numbers.Goals as goal
+use Rattle.mcf_c.proofs.cost_ranges.wide_numbers.Goals as goal
 
 abbrev Small : ℤ → Type 0
 Small = IsUpTo price_limit
@@ -23,6 +22,5 @@ loop-place-preserved c =
     record {
       value = is ∙ ap (λ (y : ℤ). l.wide.items ++ y ∷ []) (w ∙ c.widened.ensures.value ∙ t) ∙ ap (λ (xs : List ℤ). xs ++ z ∷ []) l.invariant.value
           ∙ sym (take_more c.args.numbers.now l.place (pos 0) c.loop-place-test.true);
-      fits = subst (All IsAmount) (sym is) (All-push IsAmount l.wide.items _ l.invariant.fits (subst IsAmount (sym w) c.widened.ensures.fits));
       small = subst (All Small) (sym is) (All-push Small l.wide.items _ l.invariant.small (subst Small (sym w) c.widened.ensures.small));
     }
