@@ -2,10 +2,12 @@
 """Builds a program by plain `rustc`, without its contracts, in half a minute, to measure or to try
 a change before it is proved.
 
-    bench/unproved/build.py PROGRAM [--planner] [--of FOLDER] [--keep FOLDER] [-- FLAGS ..]
+    bench/unproved/build.py PROGRAM [--planner|--tests CRATE] [--of FOLDER] [--keep FOLDER] [-- ..]
     PROGRAM ENGINE FILE      solves the instance in FILE by an engine, and writes the answer, as
                              `mcf solve --engine ENGINE --form 2 FILE`
     PROGRAM flow|pairs ..    with --planner: as `mcfplan`, with its options and statuses
+    PROGRAM [WORD]           with --tests: runs the tests of a crate, or those with a word in their
+                             names; status 1 if one fails
 
 The script removes contracts, ghost items and tactics from the crates that the program calls and
 from those below them, and compiles the rest as modules of one program over `kit.rs`. That file
@@ -26,6 +28,7 @@ CHECKOUT = HERE.parents[1]
 # the main file of a program, and the crates that it calls
 SOLVER = "main.rs", ["mcf_solver"]
 PLANNER = "planner.rs", ["mcf_range_text", "mcf_pair_text", "mcf_planner"]
+TESTS = "tests.rs"
 
 
 def tokens(text):
@@ -121,11 +124,30 @@ def translated(text, crate, crates):
     )
     # Rust's `clone` can't fail
     text = re.sub(r"-> Result<([^{;]*), AllocError>\s*\{(\s*)Ok\(\*self\)", r"-> \1 {\2*self", text)
-    text = re.sub(r"\.collect\(alloc\)", ".collect_in(alloc)", text)
+    text = re.sub(r"\.(collect|to_vec)\((?=[^)])", r".\1_in(", text)
     text = re.sub(r"(?<![:\w])crate::", f"crate::{crate}::", text)
     text = re.sub(r"(?<![:\w])(%s)::" % "|".join(crates), r"crate::\1::", text)
     text = re.sub(r"(?<![:\w])(std|memchr|itoa)::", r"crate::kit::\1::", text)
     return "use crate::kit::prelude::*; " + text
+
+
+def with_tests(text):
+    """A module with its tests as public functions, and their names."""
+    names = re.findall(r"#\[test\]\s*fn (\w+)", text)
+    text = re.sub(r"#\[test\]\s*fn ", "pub fn ", text)
+    text = re.sub(r"#\[cfg\(test\)\]\s*mod ", "pub mod ", text)
+    return re.sub(r"\bassert(_eq|_ne)?!\(\s*\w+;", r"test\1!(", text), names
+
+
+def calls_of(crate, folder):
+    """Makes the tests of a crate public, and returns a function that runs them all."""
+    calls = []
+    for path in sorted((folder / crate).rglob("*.rs")):
+        text, names = with_tests(path.read_text())
+        path.write_text(text)
+        module = "::".join(path.relative_to(folder).with_suffix("").parts)
+        calls += [f'    told.run("{name}", {module}::{name});\n' for name in names]
+    return "fn run_all(told: &mut Told) {\n" + "".join(calls) + "}\n"
 
 
 def crates_below(checkout, tops):
@@ -159,21 +181,25 @@ def generate(checkout, program, folder):
             path.parent.mkdir(parents=True, exist_ok=True)
             path.write_text(translated(source.read_text(), crate, crates))
     (folder / "kit.rs").write_text((HERE / "kit.rs").read_text())
-    main = (HERE / root).read_text()
-    (folder / "main.rs").write_text(main + "".join(f"mod {crate};\n" for crate in crates))
+    main = (HERE / root).read_text() + "".join(f"mod {crate};\n" for crate in crates)
+    (folder / "main.rs").write_text(main + (calls_of(tops[0], folder) if root == TESTS else ""))
 
 
 def main():
     words = argparse.ArgumentParser(usage=__doc__.split("\n")[3].strip())
     words.add_argument("program", type=pathlib.Path)
     words.add_argument("--planner", action="store_true")
+    words.add_argument("--tests", metavar="CRATE")
     words.add_argument("--of", type=pathlib.Path, default=CHECKOUT)
     words.add_argument("--keep", type=pathlib.Path)
     at = sys.argv.index("--") if "--" in sys.argv else len(sys.argv)
     given, flags = words.parse_args(sys.argv[1:at]), sys.argv[at + 1 :]
+    program = PLANNER if given.planner else SOLVER
+    if given.tests:
+        program = TESTS, [given.tests]
     with tempfile.TemporaryDirectory() as made:
         folder = given.keep or pathlib.Path(made)
-        generate(given.of.resolve(), PLANNER if given.planner else SOLVER, folder)
+        generate(given.of.resolve(), program, folder)
         command = [
             "rustc",
             "--edition",

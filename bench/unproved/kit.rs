@@ -1,7 +1,8 @@
 // What of the kit's std differs from Rust's, as far as the crates use it.
 pub mod prelude {
     pub use super::std::alloc::Global;
-    pub use super::{CollectIn, Drop, String, Vec};
+    pub use super::std::test::HostRuntime;
+    pub use super::{CollectIn, Drop, String, ToVecIn, Vec};
 }
 
 pub trait Drop {}
@@ -159,6 +160,25 @@ impl<'a, T> IntoIterator for &'a mut Vec<T> {
     }
 }
 
+impl ::std::io::Write for Vec<u8> {
+    fn write(&mut self, piece: &[u8]) -> ::std::io::Result<usize> {
+        self.0.extend_from_slice(piece);
+        Ok(piece.len())
+    }
+    fn flush(&mut self) -> ::std::io::Result<()> {
+        Ok(())
+    }
+}
+
+pub trait ToVecIn<T> {
+    fn to_vec_in(&self, alloc: Global) -> Result<Vec<T>, AllocError>;
+}
+impl<T: Clone> ToVecIn<T> for [T] {
+    fn to_vec_in(&self, _: Global) -> Result<Vec<T>, AllocError> {
+        Ok(Vec(self.to_vec()))
+    }
+}
+
 pub trait CollectIn: Iterator + Sized {
     fn collect_in(self, _: Global) -> Result<Vec<Self::Item>, AllocError> {
         Ok(Vec(self.collect()))
@@ -224,6 +244,21 @@ pub mod itoa {
 
 pub mod std {
     pub use ::std::{cmp, io, mem};
+    pub mod test {
+        // The runtime of a test, and why one fails.
+        pub struct HostRuntime;
+        impl HostRuntime {
+            pub fn alloc(&self) -> super::alloc::Global {
+                super::alloc::Global
+            }
+        }
+        pub struct Fail(pub ::std::string::String);
+        impl<E: ::std::fmt::Debug> From<E> for Fail {
+            fn from(fault: E) -> Fail {
+                Fail(::std::format!("{fault:?}"))
+            }
+        }
+    }
     pub mod alloc {
         #[derive(Clone, Copy, Debug)]
         pub struct Global;
@@ -262,7 +297,7 @@ pub mod std {
         }
     }
     pub mod fmt {
-        pub use ::std::fmt::{Debug, Result, Write};
+        pub use ::std::fmt::{Debug, Error, Result, Write};
         pub struct Formatter<'a, W: Write>(&'a mut W);
         impl<'a, W: Write> Formatter<'a, W> {
             pub fn write_str(&mut self, text: &str) -> Result {
@@ -370,12 +405,9 @@ pub mod std {
 
 // The macros of the kit that take an allocator.
 macro_rules! vec {
-    (in $alloc:expr; $value:expr) => {{
-        let mut made = crate::kit::prelude::Vec::new($alloc);
-        match made.push($value) {
-            Ok(()) => Ok(made),
-            Err(_) => Err(crate::kit::std::alloc::AllocError),
-        }
+    (in $alloc:expr; $($value:expr),+) => {{
+        let _: crate::kit::std::alloc::Global = $alloc;
+        Ok::<_, crate::kit::std::alloc::AllocError>(crate::kit::prelude::Vec(std::vec![$($value),+]))
     }};
     (in $alloc:expr; $value:expr; $count:expr) => {{
         let mut made = crate::kit::prelude::Vec::new($alloc);
@@ -387,4 +419,21 @@ macro_rules! vec {
 }
 macro_rules! format {
     (in $alloc:expr; $($rest:tt)*) => { Ok::<crate::kit::prelude::String, crate::kit::std::alloc::AllocError>(crate::kit::prelude::String::new()) };
+}
+
+// What a test checks; in the kit the runtime comes first.
+#[allow(unused_macros)]
+macro_rules! test {
+    ($is:expr $(,)?) => {
+        assert!($is)
+    };
+    ($is:expr, $($told:tt)+) => {
+        assert!($is, $($told)+)
+    };
+}
+#[allow(unused_macros)]
+macro_rules! test_eq {
+    ($($told:tt)+) => {
+        assert_eq!($($told)+)
+    };
 }
