@@ -1,10 +1,11 @@
 //! What is told of each route of a plan.
 ghost use Rattle.std.specs.Prelude.{◌≡◌, ◌≤ℤ◌, ◌↔◌, IfNone, IfSome, IsTrue, pos};
 ghost use Rattle.std.specs.List.{All};
+ghost use Rattle.mcf_flows.specs.WellFormed.{IsUpTo};
 ghost use Rattle.mcf_flows.specs.Network.{at_node};
 ghost use Rattle.mcf_model.specs.Laws.{IsProper};
 ghost use Rattle.mcf_model.specs.Tables.{IsRouteNumber, no_route, route_at, route_with};
-ghost use Rattle.mcf_figures.specs.Figures.{IsExact, amount_at};
+ghost use Rattle.mcf_figures.specs.Figures.{IsExact, amount_at, figure_limit};
 ghost use Rattle.mcf_figures.specs.Groups.{AreGroups, is_exact_between};
 ghost use Rattle.mcf_figures.specs.Rows.{row_told};
 ghost use Rattle.mcf_figures.specs.Told.{AreSmall, are_small, cost_told};
@@ -126,7 +127,8 @@ pub fn row_figures(
 
 /// Returns whether all numbers are within the limit of figures: none is further than 10^36 from 0.
 pub fn are_small(numbers: &[i128]) -> bool
-    ensures { result ≡ are_small numbers.now }
+    ensures value { result ≡ are_small numbers.now }
+    ensures small { IsTrue result ↔ All (IsUpTo figure_limit) numbers.now }
 {
     for place in 0..numbers.len() {
         if !is_small(numbers[place]) {

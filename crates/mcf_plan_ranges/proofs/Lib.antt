@@ -6,4 +6,3 @@ mod SideLaws
 mod Making
 mod UnitCosts
 mod Calls
-mod SmallAmounts

@@ -86,13 +86,6 @@ fn are_small_prices(prices: &[i128]) -> bool
     true
 }
 
-// Returns whether no amount is beyond the limit.
-fn are_small_amounts(carries: &[i128]) -> bool
-    ensures { IsTrue result ↔ All (IsUpTo figure_limit) carries.now }
-{
-    are_small(carries)
-}
-
 // Returns whether there are no more places and routes than a network takes, and one price for each
 // place.
 fn are_few(model: &PlanModel, prices: &[i128]) -> bool
@@ -110,6 +103,6 @@ pub(crate) fn are_within_limits(model: &PlanModel, prices: &[i128], carries: &[i
     let few = are_few(model, prices);
     let costs = are_small_costs(model);
     let small_prices = are_small_prices(prices);
-    let small_amounts = are_small_amounts(carries);
+    let small_amounts = are_small(carries);
     few && costs && small_prices && small_amounts
 }

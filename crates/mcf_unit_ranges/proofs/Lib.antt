@@ -8,7 +8,6 @@ mod Supplies
 mod SpanPlans
 mod Holding
 mod SpareUnits
-mod SmallNumbers
 mod RoomSteps
 mod SpanRows
 mod MadeModels

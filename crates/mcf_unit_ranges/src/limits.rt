@@ -1,23 +1,13 @@
 //! Of which models a range is told.
 ghost use Rattle.std.specs.Prelude.{◌≡◌, ◌↔◌, IsTrue, IfNone, IfSome, None, Some};
-ghost use Rattle.std.specs.List.{All};
-ghost use Rattle.mcf_figures.specs.Figures.{figure_limit};
 ghost use Rattle.mcf_flows.specs.Limits.{limits};
 ghost use Rattle.mcf_flows.specs.WellFormed.{IsUpTo};
 
-use mcf_figures::are_small;
 use mcf_flows::{BOUND_LIMIT, SUPPLY_LIMIT};
 
 /// The number of units that are looked at: 10^15. So supplies stay within their limit, 10^18, for
 /// all models but the greatest.
 pub const UNITS_LIMIT: u64 = 1_000_000_000_000_000;
-
-/// Returns whether no price is further than 10^36 from 0.
-pub(crate) fn are_small_prices(prices: &[i128]) -> bool
-    ensures { IsTrue result ↔ All (IsUpTo figure_limit) prices.now }
-{
-    are_small(prices)
-}
 
 /// Returns whether a supply is within the limit of supplies.
 pub(crate) fn is_small_supply(supply: i64) -> bool

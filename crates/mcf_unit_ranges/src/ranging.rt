@@ -8,10 +8,11 @@ ghost use Rattle.mcf_flows.specs.WellFormed.{IsUpTo};
 ghost use Rattle.mcf_unit_ranges.specs.Private.Plans.{CarriesFirst, HasPlan};
 ghost use Rattle.mcf_unit_ranges.specs.Told.{FitsLimits, HasSmallSpan, IsClosed, IsRangeAt, IsUntold};
 
-use crate::limits::{UNITS_LIMIT, are_small_prices, is_small_supply};
+use crate::limits::{UNITS_LIMIT, is_small_supply};
 use crate::models::{free_model, span_model};
 use crate::rows::Ends;
 use crate::spans::are_small_spans;
+use mcf_figures::are_small;
 use mcf_model::{PlanModel, Planned, Solves, plan};
 use mcf_text::NoMemory;
 use std::alloc::Global;
@@ -181,7 +182,7 @@ pub fn units_range<S: Solves>(
     ensures range { IfOk result (λ told. IfSome told (λ range. IsRangeAt model.now prices.now ends.from ends.to range.most)) }
     ensures untold { IfOk result (λ told. IfNone told (IsUntold model.now prices.now ends.from ends.to)) }
 {
-    let small_prices = are_small_prices(prices);
+    let small_prices = are_small(prices);
     if !small_prices {
         return Ok(None);
     }

@@ -8,10 +8,10 @@ ghost use Rattle.mcf_model.specs.Tables.{IsRouteNumber, route_at, route_with};
 ghost use Rattle.mcf_unit_ranges.specs.Spans.{directed};
 ghost use Rattle.mcf_unit_ranges.specs.Told.{IsRoomRangeAt, IsUntold};
 
-use crate::limits::are_small_prices;
 use crate::ranging::{UnitsRange, units_range};
 use crate::rows::Ends;
 use crate::spans::{directed, price_drop};
+use mcf_figures::are_small;
 use mcf_model::{PlanModel, RouteRow, Solves, Step};
 use mcf_text::NoMemory;
 use std::alloc::Global;
@@ -88,7 +88,7 @@ pub fn room_range<S: Solves>(
     ensures range { IfOk result (λ told. IfSome told (λ range. IsRoomRangeAt model.now prices.now number range.most)) }
     ensures untold { IfOk result (λ told. IfNone told (IsUntold model.now prices.now (directed prices.now (route_at model.now number)).head (directed prices.now (route_at model.now number)).tail)) }
 {
-    let small_prices = are_small_prices(prices);
+    let small_prices = are_small(prices);
     if !small_prices {
         return Ok(None);
     }
