@@ -14,7 +14,7 @@ mod PlaceCuts
 mod ToldSets
 mod PlannerCuts
 mod ToldAnswers
-mod FinerModels
+pub mod FinerModels
 mod FinerCuts
 mod ArcOrigins
 mod RowOrigins

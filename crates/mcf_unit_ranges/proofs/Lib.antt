@@ -14,6 +14,5 @@ mod MadeModels
 mod ToldRanges
 mod RoomUnits
 mod RoomRanges
-mod FinerModels
 mod PlannerLaws
 mod PlannerRanges

@@ -22,7 +22,7 @@ use Rattle.mcf_plan_figures.specs.PlannerFigures.{route_saves}
 use Rattle.mcf_unit_ranges.specs.Changes.{wider, with_room, with_units}
 use Rattle.mcf_unit_ranges.specs.PlannerUnits.{RouteSavingHoldsFor, RouteSavingsAreTheModels, UnitsAreTheModels, UnitsHoldFor, just_units, with_route_rooms, with_units_between}
 use Rattle.mcf_unit_ranges.specs.UnitRanges.{HoldsFor, SavingHoldsFor, told_cost}
-use Rattle.mcf_unit_ranges.proofs.FinerModels.{model_finer, sound_finer}
+use Rattle.mcf_places.proofs.FinerModels.{model_finer, sound_finer}
 use Rattle.mcf_unit_ranges.proofs.Products.{mul-assoc}
 use Rattle.mcf_unit_ranges.proofs.RoomUnits.{wider_sound}
 use Rattle.mcf_unit_ranges.proofs.Supplies.{as_long_finer, finer_at, finer_supply, unit_at, units_at}
