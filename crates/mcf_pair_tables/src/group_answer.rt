@@ -80,7 +80,7 @@ fn said_groups<S: Solves>(
 /// to the groups of a second table: each person takes a number within a range of the things of a
 /// group, or a number within a range of the persons of a group takes each thing. Where groups
 /// cross, that is a fault; or the choice keeps to the greater ones alone, and says which of the
-/// others it doesn't keep to.
+/// others it doesn't keep to. A sheet of wishes is read as a list of pairs here, too.
 ///
 /// # Errors
 ///

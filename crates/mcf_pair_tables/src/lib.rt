@@ -18,7 +18,6 @@ mod group_options;
 mod group_sets;
 mod grouped;
 mod grouping;
-mod lists;
 mod options;
 mod pair_answer;
 mod prepared;
@@ -32,7 +31,6 @@ pub use grouped::{
     Asked, BeyondNumber, ChosenGroups, CompetingGroups, GroupTableAnswer, GroupedChoice,
     GroupedRoster, SetsAnswer, SolvedGroups,
 };
-pub use lists::is_list;
 pub use options::{CostTexts, Each, Options};
 pub use pair_answer::{PairAnswer, SaidTable, plan_pairs};
 pub use prepared::Done;

@@ -58,9 +58,9 @@ fn said_table<S: Solves>(
 
 /// Chooses pairs of persons and things by a table: a choice that costs the least of all, in any
 /// unit, with its exact cost; or persons and things that compete, if no choice exists; or all
-/// faults of the table; or the first number that is beyond the limits. A last row of totals of a
-/// list isn't read, and in the columns that are named an empty cell takes the one above. The solver
-/// may be any that solves flow problems.
+/// faults of the table; or the first number that is beyond the limits. A sheet of wishes is read as
+/// a list, a last row of totals of a list isn't read, and in the columns that are named an empty
+/// cell takes the one above. The solver may be any that solves flow problems.
 ///
 /// # Errors
 ///

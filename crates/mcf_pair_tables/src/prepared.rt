@@ -3,8 +3,8 @@ ghost use Rattle.std.specs.Prelude.{◌≡◌, IfOk};
 ghost use Rattle.mcf_text.specs.Lines.{lines_of};
 ghost use Rattle.mcf_pair_tables.specs.PairForms.{IsDoneTo, as_list, lost_total, prepared_costs, shared_needs, untotalled, wish_count};
 
-use crate::lists::is_list;
 use mcf_forms::{Filling, WithoutTotal, filled_columns, wishes_of, without_total};
+use mcf_roster_reading::is_list;
 use mcf_table::Records;
 use mcf_text::NoMemory;
 use std::alloc::Global;

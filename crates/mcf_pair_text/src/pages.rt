@@ -6,7 +6,7 @@ ghost use Rattle.mcf_pair_text.specs.PairPlaces.{cell_of, column_text, head_over
 
 use mcf_answer_rows::{cell_at, line_cell, next_cell, place_of};
 use mcf_names::Names;
-use mcf_pair_tables::is_list;
+use mcf_roster_reading::is_list;
 use mcf_table::{CellPlace, Records};
 use mcf_text::NoMemory;
 use std::alloc::Global;

@@ -61,8 +61,9 @@ fn at_least_two(first: bool, second: bool, third: bool) -> bool
     (first && second) || (first && third) || (second && third)
 }
 
-// Whether the table is a list.
-pub(crate) fn is_list(records: &Records) -> bool
+/// Returns whether a table of persons and things is a list: it has columns with two, at least, of
+/// the heads who, what and cost. Any other is a matrix.
+pub fn is_list(records: &Records) -> bool
     ensures { result ≡ is_list records.now }
 {
     let who = column_under(records, Head::Who).is_there();

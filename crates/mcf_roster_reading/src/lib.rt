@@ -24,6 +24,7 @@ mod said;
 mod sayings;
 mod tables;
 
+pub use heads::is_list;
 pub use kinds::{Fault, FaultKind, Head, Location};
 pub use pairs::PairEntry;
 pub use reading::read;
