@@ -16,11 +16,19 @@ name_heads = codes "name" ∷ codes "from" ∷ codes "to" ∷ codes "who" ∷ co
 abbrev pub number_heads : List (List ℕ)
 number_heads = codes "supply" ∷ codes "least" ∷ codes "most" ∷ codes "cost" ∷ []
 
--- what a row of totals may have for a name
-abbrev pub total_words : List (List ℕ)
-total_words =
-    [] ∷ codes "total" ∷ codes "totals" ∷ codes "sum" ∷ codes "gesamt" ∷ codes "gesamtsumme" ∷ codes "summe"
-    ∷ codes "insgesamt" ∷ []
+-- what a row of totals may have for a name: nothing, or an English word; in pivot tables it is
+-- Grand Total
+abbrev pub english_totals : List (List ℕ)
+english_totals = [] ∷ codes "total" ∷ codes "totals" ∷ codes "grand total" ∷ codes "sum" ∷ []
+
+-- or a German word; in pivot tables it is Gesamtergebnis
+abbrev pub german_totals : List (List ℕ)
+german_totals =
+    codes "gesamt" ∷ codes "gesamtsumme" ∷ codes "gesamtergebnis" ∷ codes "summe" ∷ codes "insgesamt" ∷ []
+
+-- the test of such a name
+abbrev pub is_total_word : List ℕ → Bool
+is_total_word cell = is_word english_totals cell || is_word german_totals cell
 
 -- the column has names
 unfoldable pub has_names : List Record → ℕ → Bool
@@ -28,7 +36,7 @@ has_names records place = is_word name_heads (head_at records place)
 
 -- the row has a word of totals for a name in this column, if it is one of names
 unfoldable pub may_total : List Record → ℕ → ℕ → Bool
-may_total records row place = not (has_names records place) || is_word total_words (cell_at records row place)
+may_total records row place = not (has_names records place) || is_total_word (cell_at records row place)
 
 -- the table has columns of names, and in each of them the row has a word of totals
 unfoldable pub says_total : List Record → ℕ → Bool

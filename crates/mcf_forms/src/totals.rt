@@ -4,7 +4,7 @@ ghost use Rattle.std.specs.List.{list_all, list_any};
 ghost use Rattle.mcf_table.specs.Texts.{Record as ARecord};
 ghost use Rattle.mcf_forms.specs.Cells.{cell_at, columns, is_word};
 ghost use Rattle.mcf_forms.specs.Sums.{is_readable, is_sum, number_in};
-ghost use Rattle.mcf_forms.specs.Totals.{cells_above, has_names, has_number, has_sums, has_total, is_summed, last_row, may_sum, may_total, name_heads, number_heads, says_total, total_line, total_words, without_total};
+ghost use Rattle.mcf_forms.specs.Totals.{cells_above, english_totals, german_totals, has_names, has_number, has_sums, has_total, is_summed, is_total_word, last_row, may_sum, may_total, name_heads, number_heads, says_total, total_line, without_total};
 
 use crate::cells::{is_filled, is_word};
 use crate::sums::{add_up, number_in};
@@ -36,13 +36,36 @@ fn is_number_head(head: &[u8]) -> bool
     is_word(&[b"supply", b"least", b"most", b"cost"], head)
 }
 
+// Whether the cell is empty, or an English word of totals.
+fn is_english_total(cell: &[u8]) -> bool
+    ensures { result ≡ is_word english_totals cell.now }
+{
+    is_word(&[b"", b"total", b"totals", b"grand total", b"sum"], cell)
+}
+
+// Whether the cell is a German word of totals.
+fn is_german_total(cell: &[u8]) -> bool
+    ensures { result ≡ is_word german_totals cell.now }
+{
+    is_word(
+        &[
+            b"gesamt",
+            b"gesamtsumme",
+            b"gesamtergebnis",
+            b"summe",
+            b"insgesamt",
+        ],
+        cell,
+    )
+}
+
 // Whether the cell is what a row of totals may have for a name.
 fn is_total_word(cell: &[u8]) -> bool
-    ensures { result ≡ is_word total_words cell.now }
+    ensures { result ≡ is_total_word cell.now }
 {
-    cell.is_empty()
-        || is_word(&[b"total", b"totals", b"sum"], cell)
-        || is_word(&[b"gesamt", b"gesamtsumme", b"summe", b"insgesamt"], cell)
+    let english = is_english_total(cell);
+    let german = is_german_total(cell);
+    english || german
 }
 
 // Whether the column has names.

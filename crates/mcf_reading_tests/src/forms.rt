@@ -22,12 +22,14 @@ const LIST: &[Row] = &[
 ];
 
 // Tables whose last row is one of totals.
-static TOTALS: [&[u8]; 5] = [
+static TOTALS: [&[u8]; 7] = [
     b"name;supply\nA;1\nB;2\nTotal;3\n",
     b"name;supply\nA;1,5\nB;2,25\n;3,75\n",
     b"from;to;most;cost\nA;B;1.000;0.5\nB;A;;1\nSUMME;;1.000;1.50\n",
     b"who;what;cost\nA;X;-1\nB;Y;1\nC;;7\n;insgesamt;7\n",
     b"from;to;cost\nA;B;1.5\nB;A;2.500\ngesamt;gesamt;4\n",
+    b"name;supply\nA;1\nB;2\nGrand Total;3\n",
+    b"name;supply\nA;1\nB;2\nGesamtergebnis;3\n",
 ];
 
 // Tables whose last row isn't.
