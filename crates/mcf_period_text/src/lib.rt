@@ -23,4 +23,7 @@ pub use faults::{
     put_period_beyond, put_period_faults, put_period_greats, put_period_planner_faults,
 };
 pub use plans::put_period_plan;
-pub use timed::Timed;
+pub use timed::{
+    Timed, arrives_at, departure_origin, leaves_from, period_name, place_name, place_origin,
+    store_origin, told_row,
+};

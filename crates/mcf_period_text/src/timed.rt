@@ -20,8 +20,8 @@ pub struct Timed<'p, 't> {
     pub origins: &'t PeriodOrigins,
 }
 
-// The name of a period, from 1; empty, if there is none.
-pub(crate) fn period_name<'t>(timed: Timed<'_, 't>, number: usize) -> &'t [u8]
+/// Returns the name of a period, by its number from 1; it is empty if there is no such period.
+pub fn period_name<'t>(timed: Timed<'_, 't>, number: usize) -> &'t [u8]
     ensures { result.now ≡ period_name (timed_in timed.entry).periods number }
 {
     let place = number.saturating_sub(1);
@@ -32,8 +32,8 @@ pub(crate) fn period_name<'t>(timed: Timed<'_, 't>, number: usize) -> &'t [u8]
     }
 }
 
-// Where the place in a period comes from, by its place in the list, from 0.
-pub(crate) fn place_origin(timed: Timed<'_, '_>, place: usize) -> PlaceOrigin
+/// Returns where a place in a period comes from, by its index from 0 in the list of places.
+pub fn place_origin(timed: Timed<'_, '_>, place: usize) -> PlaceOrigin
     ensures { result ≡ place_origin (timed_in timed.entry) place }
 {
     match timed.origins.places.get(place) {
@@ -46,8 +46,8 @@ pub(crate) fn place_origin(timed: Timed<'_, '_>, place: usize) -> PlaceOrigin
     }
 }
 
-// Where a store comes from, by its place in the list, from 0.
-pub(crate) fn store_origin(timed: Timed<'_, '_>, place: usize) -> StoreOrigin
+/// Returns where a store comes from, by its index from 0 in the list of stores.
+pub fn store_origin(timed: Timed<'_, '_>, place: usize) -> StoreOrigin
     ensures { result ≡ store_origin (timed_in timed.entry) place }
 {
     match timed.origins.stores.get(place) {
@@ -56,8 +56,8 @@ pub(crate) fn store_origin(timed: Timed<'_, '_>, place: usize) -> StoreOrigin
     }
 }
 
-// Where a departure comes from, by its place in the list, from 0.
-pub(crate) fn departure_origin(timed: Timed<'_, '_>, place: usize) -> DepartureOrigin
+/// Returns where a departure comes from, by its index from 0 in the list of departures.
+pub fn departure_origin(timed: Timed<'_, '_>, place: usize) -> DepartureOrigin
     ensures { result ≡ departure_origin (timed_in timed.entry) place }
 {
     match timed.origins.departures.get(place) {
@@ -71,8 +71,9 @@ pub(crate) fn departure_origin(timed: Timed<'_, '_>, place: usize) -> DepartureO
     }
 }
 
-// The row of a place in a period: the one that holds then, or else the one that names it first.
-pub(crate) fn told_row(origin: PlaceOrigin) -> usize
+/// Returns the row of a place in a period: the one that holds then, or else the one that names the
+/// place first.
+pub fn told_row(origin: PlaceOrigin) -> usize
     ensures { result ≡ told_row origin }
 {
     if origin.row == 0 {
@@ -82,15 +83,15 @@ pub(crate) fn told_row(origin: PlaceOrigin) -> usize
     }
 }
 
-// The name of the place of a row of places.
-pub(crate) fn place_name<'t>(timed: Timed<'_, 't>, row: usize) -> &'t [u8]
+/// Returns the name of the place of a row of places.
+pub fn place_name<'t>(timed: Timed<'_, 't>, row: usize) -> &'t [u8]
     ensures { result.now ≡ place_name (timed_in timed.entry) row }
 {
     cell_under(timed.two.places, b"name", row)
 }
 
-// The name of the place where a departure leaves.
-pub(crate) fn leaves_from<'t>(timed: Timed<'_, 't>, departure: DepartureOrigin) -> &'t [u8]
+/// Returns the name of the place where a departure leaves.
+pub fn leaves_from<'t>(timed: Timed<'_, 't>, departure: DepartureOrigin) -> &'t [u8]
     ensures { result.now ≡ leaves_from (timed_in timed.entry) departure }
 {
     let row = departure.row as usize;
@@ -101,14 +102,14 @@ pub(crate) fn leaves_from<'t>(timed: Timed<'_, 't>, departure: DepartureOrigin) 
     }
 }
 
-// The name of the place where it arrives.
-pub(crate) fn arrives_at<'t>(timed: Timed<'_, 't>, departure: DepartureOrigin) -> &'t [u8]
+/// Returns the name of the place where a departure arrives.
+pub fn arrives_at<'t>(timed: Timed<'_, 't>, departure: DepartureOrigin) -> &'t [u8]
     ensures { result.now ≡ arrives_at (timed_in timed.entry) departure }
 {
-    let row = departure.row as usize;
+    let route = departure.row as usize;
     if departure.back {
-        cell_under(timed.two.routes, b"from", row)
+        cell_under(timed.two.routes, b"from", route)
     } else {
-        cell_under(timed.two.routes, b"to", row)
+        cell_under(timed.two.routes, b"to", route)
     }
 }

@@ -20,7 +20,6 @@ mod rooms;
 mod rows;
 mod supplies;
 mod telling;
-mod timed;
 mod unit_rows;
 mod units;
 

@@ -9,14 +9,13 @@ ghost use Rattle.mcf_plan_rows.specs.FaultRows.{tables_in};
 ghost use Rattle.mcf_range_text.specs.PeriodRangeTexts.{departure_range_row, departure_range_rows, keep_range_row, keep_range_rows, period_range_rows, row_if_told};
 
 use crate::rows::end_cell;
-use crate::timed::{
-    arrives_at, departure_origin, leaves_from, period_name, place_name, store_origin,
-};
 use mcf_answer_rows::{line_cell, put_line};
 use mcf_flow_tables::{PeriodAnswer, SolvedPeriods};
 use mcf_names::Names;
 use mcf_period_reading::periods_in;
-use mcf_period_text::Timed;
+use mcf_period_text::{
+    Timed, arrives_at, departure_origin, leaves_from, period_name, place_name, store_origin,
+};
 use mcf_period_units::{DepartureOrigin, StoreOrigin};
 use mcf_plan_rows::Two;
 use mcf_planner_ranges::CostRange;
@@ -25,7 +24,7 @@ use mcf_units::Scales;
 use std::alloc::Global;
 
 // Returns the range at a place, if it is told.
-fn range_at(ranges: &[Option<CostRange>], place: usize) -> Option<CostRange>
+pub(crate) fn range_at<R: Copy>(ranges: &[Option<R>], place: usize) -> Option<R>
     ensures { result ≡ slice_index_or ranges.now place None }
 {
     match ranges.get(place) {
@@ -35,7 +34,7 @@ fn range_at(ranges: &[Option<CostRange>], place: usize) -> Option<CostRange>
 }
 
 // Returns the ranges after so many.
-fn ranges_after(ranges: &[Option<CostRange>], count: usize) -> &[Option<CostRange>]
+pub(crate) fn ranges_after<R>(ranges: &[Option<R>], count: usize) -> &[Option<R>]
     ensures { result.now ≡ drop count ranges.now }
 {
     if count < ranges.len() {
