@@ -68,8 +68,9 @@ fn last_of(amounts: &[i128]) -> i128
     if count == 0 { 0 } else { amounts[count - 1] }
 }
 
-// Returns whether as little as possible is to be missing.
-fn misses_least(planner: &Planner) -> bool
+/// Returns whether as little as possible is to be missing in plans of a problem: demands may be
+/// missing, and no penalty is named.
+pub fn misses_least(planner: &Planner) -> bool
     ensures { result ≡ misses_least planner.now }
 {
     let parts = planner.parts();

@@ -193,8 +193,9 @@ fn penalty_of(policy: Policy, place: Place) -> Option<i64>
     }
 }
 
-// Returns the cost of each unit that is missing at a place.
-pub(crate) fn missing_cost(policy: Policy, place: Place) -> i64
+/// Returns the cost of each unit that is missing at a place: its own penalty, or else that of all
+/// places, or 0 if none is named.
+pub fn missing_cost(policy: Policy, place: Place) -> i64
     ensures { result ≡ missing_cost policy place }
 {
     let penalty = penalty_of(policy, place);

@@ -4,6 +4,5 @@ mod DearerPeriods
 mod OriginsOver
 mod PeriodRangeLaws
 mod RoomLaws
-mod SmallNumbers
 mod SupplyLaws
 mod PassLaws

@@ -2,11 +2,8 @@
 use Rattle.std.proofs.Common.{◌≡◌, ℕ, ◌+◌, ◌≤◌, Bool, true, false, if◌then◌else◌, int_lt, List, ◌∷◌, length, length-append, map, ap, arith, subst, sym, ◌∙◌, ℤ, pos, ◌-ℤ◌, inl, inr, Result, Ok, Err}
 use Rattle.std.proofs.lemmas.List.{length-map}
 use Rattle.std.specs.Prelude.{IfOk, IfNone, IfSome, Option, Some, None, option_map}
-use Rattle.std.specs.List.{All}
-use Rattle.mcf_figures.specs.Figures.{figure_limit}
 use Rattle.mcf_figures.specs.FigureLaws.{IsPriced}
 use Rattle.mcf_flows.specs.Network.{IsNode, at_node}
-use Rattle.mcf_flows.specs.WellFormed.{IsUpTo}
 use Rattle.mcf_places.specs.declared.answering.LeastPlannerPlan.{LeastPlannerPlan}
 use Rattle.mcf_places.specs.declared.answering.ShownModel.{ShownModel}
 use Rattle.mcf_places.specs.declared.places.Place.{Place}
@@ -48,10 +45,6 @@ module _ (s : ShownModel) (u w : ℕ) (told : Option UnitsRange) where
       go : (o : Option UnitsRange) → IfNone o (IsUntold s.model s.prices.items u w) → IfNone (option_map (costed cost) o) (IsUntold s.model s.prices.items u w)
       go (Some range) h = tt
       go None h = h
-
--- a price is beyond the limit
-pub not_small : (s : ShownModel) (xs : List ℤ) (u w : ℕ) → xs ≡ s.prices.items → ¬ All (IsUpTo figure_limit) xs → IsUntold s.model s.prices.items u w
-not_small s xs u w e great = inl (λ within. great (subst (All (IsUpTo figure_limit)) (sym e) within.prices_small))
 
 -- ---- places
 

@@ -1,14 +1,16 @@
--- What one more unit of a supply or of a demand costs where supplies may stay, and for how many
--- units that holds, as rows of a table.
+-- What one more unit of a supply or of a demand costs where supplies may stay, or demands may be
+-- missing at penalties, and for how many units that holds, as rows of a table.
 -- Source: own
-use Rattle.std.specs.Prelude.{◌≡◌, ℕ, suc, ◌<◌, Bool, true, false, ◌&&◌, ◌||◌, not, if◌then◌else◌, int_lt, List, [], ◌∷◌, codes, decimal, length, ℤ, pos, ◌-ℤ◌, Option, None, IfNone, IfSome, slice_index_or, ◌⊎◌}
+use Rattle.std.specs.Prelude.{◌≡◌, ℕ, suc, ◌<◌, Bool, true, false, ◌&&◌, not, if◌then◌else◌, int_lt, List, [], ◌∷◌, codes, decimal, length, ℤ, pos, ◌-ℤ◌, Option, None, IfNone, IfSome, slice_index_or, ◌⊎◌}
 use Rattle.std.specs.List.{flat_map, range_with_len}
 use Rattle.mcf_answer_rows.specs.AnswerRows.{cell_under, line_at}
 use Rattle.mcf_flows.specs.Network.{at_node}
 use Rattle.mcf_places.specs.declared.answering.LeastPlannerPlan.{LeastPlannerPlan}
 use Rattle.mcf_places.specs.declared.answering.ShownModel.{ShownModel}
-use Rattle.mcf_places.specs.Models.{hub_of, place_at}
-use Rattle.mcf_places.specs.Planners.{Planner}
+use Rattle.mcf_places.specs.declared.places.Place.{Place}
+use Rattle.mcf_places.specs.declared.places.Policy.{Policy}
+use Rattle.mcf_places.specs.Models.{gate_of, hub_of, place_at}
+use Rattle.mcf_places.specs.Planners.{Planner, misses_least, missing_cost}
 use Rattle.mcf_plan_figures.specs.PlannerFigures.{home_of}
 use Rattle.mcf_plan_rows.specs.Cells.{amount_text, rate_text, text_if}
 use Rattle.mcf_range_text.specs.PeriodRangeTexts.{row_if_told}
@@ -47,14 +49,29 @@ pub record IsCostedRange (s : ShownModel) (u w : ℕ) (range : SupplyRange) : Ty
 abbrev pub costed : ℤ → UnitsRange → SupplyRange
 costed cost range = record { cost = cost; most = range.most }
 
--- the test of a place of whose units something is told: supplies may stay and no demand may be
--- missing, and it wants something, or it gives something and one more unit saves something; else
--- one more unit of a supply stays, or more of a demand is missing
+-- the test of a supply of which a unit more costs something else than to stay: it saves something
+-- if supplies may stay, and else less is missing with it
+abbrev pub tells_supply : Policy → ℤ → Bool
+tells_supply policy cost = if policy.unused then int_lt cost (pos 0) else policy.short
+
+-- the test of a demand of which a unit more costs something else than to be missing: to bring it
+-- costs less than its penalty if demands may be missing, and else less stays with it
+abbrev pub tells_demand : Policy → ℤ → ℤ → Bool
+tells_demand policy cost penalty = if policy.short then int_lt cost penalty else policy.unused
+
+-- the test of a place that gives or wants something, by what one more unit of it costs, and by what
+-- a unit costs that comes from the gate, as what is missing does
+abbrev pub tells_units : Policy → Place → ℤ → ℤ → Bool
+tells_units policy p cost from_gate =
+    if int_lt (pos 0) p.supply then tells_supply policy cost
+    else (int_lt p.supply (pos 0) && tells_demand policy from_gate (missing_cost policy p))
+
+-- the test of a place of whose units something is told; nothing is, if as little as possible is to
+-- be missing
 abbrev pub has_supply_range : Planner → ShownModel → ℕ → Bool
 has_supply_range P s v =
-    (P.policy.unused && not P.policy.short)
-    && (int_lt (supply_at P v) (pos 0)
-    || (int_lt (pos 0) (supply_at P v) && int_lt (at_node s.prices.items (supply_from P v)) (at_node s.prices.items (supply_to P v))))
+    not (misses_least P)
+    && tells_units P.policy (place_at P.places v) (unit_cost s (supply_from P v) (supply_to P v)) (unit_cost s (gate_of P.places) (supply_to P v))
 
 -- what is told of the supply, or of the demand, of a place: what one more unit costs, and for how
 -- many units that holds

@@ -1,5 +1,5 @@
 //! What one more unit of a supply or of a demand costs, and for how many units that holds.
-ghost use Rattle.std.specs.Prelude.{◌≡◌, ◌≤◌, ◌-ℤ◌, ◌&&◌, ◌||◌, ◌↔◌, IfNone, IfOk, IfSome, IsTrue, if◌then◌else◌, int_lt, length, not, option_map, pos};
+ghost use Rattle.std.specs.Prelude.{◌≡◌, ◌≤◌, ◌-ℤ◌, IfNone, IfOk, IfSome, if◌then◌else◌, int_lt, length, option_map, pos};
 ghost use Rattle.std.specs.List.{All};
 ghost use Rattle.mcf_figures.specs.Figures.{figure_limit};
 ghost use Rattle.mcf_figures.specs.FigureLaws.{IsPriced};
@@ -7,15 +7,15 @@ ghost use Rattle.mcf_flows.specs.Network.{IsNode, at_node};
 ghost use Rattle.mcf_flows.specs.WellFormed.{IsUpTo};
 ghost use Rattle.mcf_places.specs.Answers.{IsShownIn};
 ghost use Rattle.mcf_places.specs.LimitedPlanners.{limited};
-ghost use Rattle.mcf_places.specs.Models.{exit_by};
-ghost use Rattle.mcf_range_text.specs.SupplyRangeTexts.{AreSupplyRanges, IsCostedRange, IsSupplyRange, costed, has_supply_range, supply_at, supply_from, supply_to};
+ghost use Rattle.mcf_places.specs.Models.{exit_by, gate_of};
+ghost use Rattle.mcf_range_text.specs.SupplyRangeTexts.{AreSupplyRanges, IsCostedRange, IsSupplyRange, costed, has_supply_range, supply_from, supply_to, tells_demand, tells_supply, tells_units};
 ghost use Rattle.mcf_unit_ranges.specs.Told.{IsUntold};
 
-use crate::rooms::price_of;
 use mcf_figures::are_small;
 use mcf_model::Solves;
 use mcf_places::{
-    LeastPlannerPlan, PLACE_LIMIT, Place, Planner, ShownModel, sound_planners_have_sound_models,
+    LeastPlannerPlan, PLACE_LIMIT, Place, Planner, Policy, ShownModel, misses_least, missing_cost,
+    sound_planners_have_sound_models,
 };
 use mcf_plan_figures::told_figures_are_the_planners;
 use mcf_text::NoMemory;
@@ -72,61 +72,8 @@ fn supply_ends(planner: &Planner, row: usize) -> Ends
     }
 }
 
-// Returns whether a supply or a demand is one of whose units something is told, if one more unit of
-// a supply saves something or not.
-fn is_told_of(supply: i64, saves: bool) -> bool
-    ensures { result ≡ (int_lt supply (pos 0) || (int_lt (pos 0) supply && saves)) }
-{
-    supply < 0 || (supply > 0 && saves)
-}
-
-// Returns whether a unit costs less than nothing.
-fn saves(prices: &[i128], ends: Ends) -> bool
-    ensures { result ≡ int_lt (at_node prices.now ends.from) (at_node prices.now ends.to) }
-{
-    price_of(prices, ends.from) < price_of(prices, ends.to)
-}
-
-// Returns whether supplies may stay, and no demand may be missing.
-fn balances(planner: &Planner) -> bool
-    ensures { result ≡ (planner.now.policy.unused && not planner.now.policy.short) }
-{
-    let policy = planner.policy();
-    policy.unused && !policy.short
-}
-
-// Returns what a place gives, or wants if it is below 0.
-fn supply_at(planner: &Planner, row: usize) -> i64
-    requires low { 1 ≤ row }
-    requires high { row ≤ length planner.now.places }
-    ensures { result ≡ supply_at planner.now row }
-{
-    planner.places()[row - 1].supply
-}
-
-// Returns whether something is told of the units of the supply, or of the demand, of a place.
-fn has_supply_range(planner: &Planner, shown: &ShownModel, row: usize, ends: Ends) -> bool
-    requires low { 1 ≤ row }
-    requires high { row ≤ length planner.now.places }
-    requires from { ends.from ≡ supply_from planner.now row }
-    requires to { ends.to ≡ supply_to planner.now row }
-    ensures { result ≡ has_supply_range planner.now shown.now row }
-{
-    let balances = balances(planner);
-    let saves = saves(&shown.prices, ends);
-    let told = is_told_of(supply_at(planner, row), saves);
-    balances && told
-}
-
-// Returns whether no price is further than 10^36 from 0.
-fn are_small_prices(prices: &[i128]) -> bool
-    ensures { IsTrue result ↔ All (IsUpTo figure_limit) prices.now }
-{
-    are_small(prices)
-}
-
-// Returns the price of a place of the model, which is within the limit.
-fn small_price_of(prices: &[i128], node: u32) -> i128
+// Returns the price of a place of the model, or 0 if it has none.
+fn price_of(prices: &[i128], node: u32) -> i128
     requires { All (IsUpTo figure_limit) prices.now }
     ensures value { result ≡ at_node prices.now node }
     ensures small { IsUpTo figure_limit result }
@@ -144,7 +91,69 @@ fn unit_cost(prices: &[i128], ends: Ends) -> i128
     requires { All (IsUpTo figure_limit) prices.now }
     ensures { result ≡ at_node prices.now ends.from -ℤ at_node prices.now ends.to }
 {
-    small_price_of(prices, ends.from) - small_price_of(prices, ends.to)
+    price_of(prices, ends.from) - price_of(prices, ends.to)
+}
+
+// Returns whether something is told of further units of a supply: one more unit saves something if
+// supplies may stay, and else less is missing with it.
+fn tells_supply(policy: Policy, cost: i128) -> bool
+    ensures { result ≡ tells_supply policy cost }
+{
+    if policy.unused {
+        cost < 0
+    } else {
+        policy.short
+    }
+}
+
+// Returns whether something is told of further units of a demand: to bring one more costs less than
+// its penalty if demands may be missing, and else less stays with it.
+fn tells_demand(policy: Policy, cost: i128, penalty: i64) -> bool
+    ensures { result ≡ tells_demand policy cost penalty }
+{
+    if policy.short {
+        cost < i128::from(penalty)
+    } else {
+        policy.unused
+    }
+}
+
+// Returns whether something is told of further units of the supply, or of the demand, of a place.
+fn tells_units(policy: Policy, place: Place, cost: i128, from_gate: i128) -> bool
+    ensures { result ≡ tells_units policy place cost from_gate }
+{
+    if place.supply > 0 {
+        tells_supply(policy, cost)
+    } else {
+        place.supply < 0 && tells_demand(policy, from_gate, missing_cost(policy, place))
+    }
+}
+
+// Returns from where to where a unit goes that is missing at a place.
+fn missing_ends(planner: &Planner, ends: Ends) -> Ends
+    ensures from { result.from ≡ gate_of planner.now.places }
+    ensures to { result.to ≡ ends.to }
+{
+    Ends {
+        from: (planner.places().len() + 2) as u32,
+        to: ends.to,
+    }
+}
+
+// Returns whether something is told of further units of the supply, or of the demand, of a place
+// with these ends.
+fn has_supply_range(planner: &Planner, shown: &ShownModel, row: usize, ends: Ends) -> bool
+    requires small { All (IsUpTo figure_limit) shown.now.prices.items }
+    requires low { 1 ≤ row }
+    requires high { row ≤ length planner.now.places }
+    requires from { ends.from ≡ supply_from planner.now row }
+    requires to { ends.to ≡ supply_to planner.now row }
+    ensures { result ≡ has_supply_range planner.now shown.now row }
+{
+    let cost = unit_cost(&shown.prices, ends);
+    let from_gate = unit_cost(&shown.prices, missing_ends(planner, ends));
+    let told = tells_units(planner.policy(), planner.places()[row - 1], cost, from_gate);
+    !misses_least(planner) && told
 }
 
 // Returns what one more unit costs, and for how many units, if that is told.
@@ -171,13 +180,10 @@ fn costed_range<S: Solves>(
     requires priced { IsPriced shown.now.model shown.now.prices.items shown.now.carries.items }
     requires from { IsNode (length shown.now.model.supplies) ends.from }
     requires to { IsNode (length shown.now.model.supplies) ends.to }
+    requires small { All (IsUpTo figure_limit) shown.now.prices.items }
     ensures exact { IfOk result (λ told. IfSome told (IsCostedRange shown.now ends.from ends.to)) }
     ensures none { IfOk result (λ told. IfNone told (IsUntold shown.now.model shown.now.prices.items ends.from ends.to)) }
 {
-    let small = are_small_prices(&shown.prices);
-    if !small {
-        return Ok(None);
-    }
     let cost = unit_cost(&shown.prices, ends);
     let told = units_range(alloc, solver, &shown.model, &shown.prices, ends)?;
     Ok(with_cost(told, cost))
@@ -198,6 +204,10 @@ fn supply_range<S: Solves>(
 {
     sound_planners_have_sound_models();
     told_figures_are_the_planners();
+    let small = are_small(&least.shown.prices);
+    if !small {
+        return Ok(None);
+    }
     let ends = supply_ends(planner, row);
     let has = has_supply_range(planner, &least.shown, row, ends);
     if !has {
