@@ -3,6 +3,7 @@ use crate::figures::{FigureRow, ROWS};
 use crate::places_planned::problem_of;
 use crate::plans::model_of;
 use mcf_choice::Choice;
+use mcf_decimal::Decimal;
 use mcf_flow_tables::{Options, Texts};
 use mcf_model::Planned;
 use mcf_places::{PlannerAnswer, Policy, least};
@@ -174,15 +175,93 @@ const MONTHLY_RANGES: &[u8] = b"\n\
 \"range\",\"2\",\"Mill\",\"Shop\",\"\",\"1.5\",\"Feb\",\"March\"\n\
 \"range\",\"2\",\"Shop\",\"Mill\",\"\",\"\",\"Feb\",\"March\"\n\
 \"keep range\",\"2\",\"Mill\",\"\",\"1.5\",\"Jan\",\"Feb\"\n\
-\"keep range\",\"3\",\"Shop\",\"1.5\",\"\",\"Feb\",\"March\"\n";
+\"keep range\",\"3\",\"Shop\",\"1.5\",\"\",\"Feb\",\"March\"\n\
+\"room range\",\"2\",\"Mill\",\"Shop\",\"1\",\"Feb\",\"March\"\n";
 
-// Returns whether the answer to two tables, with ranges, ends with these rows, if supplies may
-// stay or not.
+// In February the mill ships 4 units by the port, and sends the rest directly at 9. If the shop
+// kept a second unit of what comes in January, or if one more unit left for the port, that would
+// replace the one that is sent so.
+const PORT_PLACES: &[u8] = b"name,supply,period,most,keep most,keep cost\n\
+Mill,10,Jan,,,\n\
+Port,,,6,,\n\
+Shop,-3,Jan,,1,1\n\
+Shop,-6,Feb,,,\n\
+Mill,6,Feb,,,\n";
+
+const PORT_ROUTES: &[u8] = b"from,to,period,most,cost\n\
+Mill,Port,Jan,,1\n\
+Mill,Port,Feb,4,5\n\
+Mill,Shop,Feb,,9\n\
+Port,Shop,Jan,,1\n\
+Port,Shop,Feb,,1\n";
+
+const PORT_UNITS: &[u8] = b"\n\
+\"room range\",\"3\",\"Mill\",\"Port\",\"1\",\"Feb\",\"Feb\"\n\
+\"keep room range\",\"4\",\"Shop\",\"1\",\"Jan\",\"Feb\"\n\
+\"supply range\",\"4\",\"Shop\",\"2\",\"2\",\"Jan\"\n\
+\"supply range\",\"5\",\"Shop\",\"9\",\"1\",\"Feb\"\n";
+
+// Only 4 units pass through this port, which keeps one from January to February: one more in
+// January would replace one of the two that are sent directly.
+const NARROW_PLACES: &[u8] = b"name,supply,period,most,keep most,keep cost\n\
+Mill,10,Jan,,,\n\
+Port,,,4,2,1\n\
+Shop,-3,Jan,,1,1\n\
+Shop,-6,Feb,,,\n\
+Mill,6,Feb,,,\n";
+
+const NARROW_ROUTES: &[u8] = b"from,to,period,most,cost\n\
+Mill,Port,Jan,,1\n\
+Mill,Port,Feb,3,5\n\
+Mill,Shop,Feb,,9\n\
+Port,Shop,Jan,,1\n\
+Port,Shop,Feb,,1\n";
+
+const NARROW_UNITS: &[u8] = b"\n\
+\"room range\",\"3\",\"Mill\",\"Port\",\"1\",\"Feb\",\"Feb\"\n\
+\"pass range\",\"3\",\"Port\",\"1\",\"Jan\"\n\
+\"supply range\",\"4\",\"Shop\",\"8\",\"1\",\"Jan\"\n\
+\"supply range\",\"5\",\"Shop\",\"9\",\"1\",\"Feb\"\n";
+
+// A port that 4 units pass through, where the rest goes directly.
+const PASS_PLACES: &[u8] = b"name,supply,most\nMill,9,\nPort,,4\nShop,-9,\n";
+
+const PASS_ROUTES: &[u8] = b"from,to,most,cost\nMill,Port,,1\nPort,Shop,,1\nMill,Shop,,5\n";
+
+const PASS_UNITS: &[u8] = b"\n\"pass range\",\"3\",\"Port\",\"5\"\n";
+
+// The inn misses one unit and the shop three, each at a penalty of 7. A further unit of the mill or
+// of the depot reaches the inn, at 5 or at 3; and a further unit of a demand is missing.
+const MISSED_PLACES: &[u8] = b"name,supply\nMill,10\nDepot,4\nShop,-12\nInn,-6\n";
+
+const MISSED_ROUTES: &[u8] =
+    b"from,to,most,cost\nMill,Shop,9,2\nMill,Inn,,5\nDepot,Inn,,3\nDepot,Shop,,8\n";
+
+const MISSED_UNITS: &[u8] = b"\n\
+\"room range\",\"2\",\"Mill\",\"Shop\",\"1\"\n\
+\"supply range\",\"2\",\"Mill\",\"-2\",\"1\"\n\
+\"supply range\",\"3\",\"Depot\",\"-4\",\"1\"\n";
+
+// All is sent, and all is met.
+const EXACT: Terms = Terms {
+    unused: false,
+    short: false,
+    penalty: None,
+};
+
+// Supplies may stay.
+const ROOMY: Terms = Terms {
+    unused: true,
+    short: false,
+    penalty: None,
+};
+
+// Returns whether the answer to two tables, with ranges, ends with these rows.
 fn ends_with(
     alloc: Global,
     places: &[u8],
     routes: &[u8],
-    unused: bool,
+    terms: Terms,
     rows: &[u8],
 ) -> Result<bool, NoMemory> {
     let mut engine = Engine {
@@ -193,21 +272,14 @@ fn ends_with(
         routes,
         fill_down: &[],
     };
-    let options = Options {
-        mark: None,
-        terms: Terms {
-            unused,
-            short: false,
-            penalty: None,
-        },
-    };
+    let options = Options { mark: None, terms };
     let told = told_text(alloc, &mut engine, texts, options, true)?;
     Ok(told.text.ends_with(rows))
 }
 
 #[test]
 fn texts_end_with_ranges(rt: HostRuntime) -> Result<(), Fail> {
-    let found = ends_with(rt.alloc(), PLACES, ROUTES, false, RANGE_ROWS)?;
+    let found = ends_with(rt.alloc(), PLACES, ROUTES, EXACT, RANGE_ROWS)?;
     assert!(rt; found);
     Ok(())
 }
@@ -218,7 +290,7 @@ fn texts_over_periods_end_with_ranges(rt: HostRuntime) -> Result<(), Fail> {
         rt.alloc(),
         MONTHLY_PLACES,
         MONTHLY_ROUTES,
-        false,
+        EXACT,
         MONTHLY_RANGES,
     )?;
     assert!(rt; found);
@@ -227,7 +299,45 @@ fn texts_over_periods_end_with_ranges(rt: HostRuntime) -> Result<(), Fail> {
 
 #[test]
 fn texts_tell_for_how_many_units(rt: HostRuntime) -> Result<(), Fail> {
-    let found = ends_with(rt.alloc(), PLANT_PLACES, PLANT_ROUTES, true, PLANT_UNITS)?;
+    let found = ends_with(rt.alloc(), PLANT_PLACES, PLANT_ROUTES, ROOMY, PLANT_UNITS)?;
+    assert!(rt; found);
+    Ok(())
+}
+
+#[test]
+fn texts_over_periods_tell_for_how_many_units(rt: HostRuntime) -> Result<(), Fail> {
+    let alloc = rt.alloc();
+    let found = ends_with(alloc, PORT_PLACES, PORT_ROUTES, ROOMY, PORT_UNITS)?;
+    assert!(rt; found);
+    let found = ends_with(alloc, NARROW_PLACES, NARROW_ROUTES, ROOMY, NARROW_UNITS)?;
+    assert!(rt; found);
+    Ok(())
+}
+
+#[test]
+fn texts_tell_for_how_many_more_that_pass(rt: HostRuntime) -> Result<(), Fail> {
+    let found = ends_with(rt.alloc(), PASS_PLACES, PASS_ROUTES, EXACT, PASS_UNITS)?;
+    assert!(rt; found);
+    Ok(())
+}
+
+#[test]
+fn texts_tell_what_supplies_save_at_penalties(rt: HostRuntime) -> Result<(), Fail> {
+    let terms = Terms {
+        unused: false,
+        short: true,
+        penalty: Some(Decimal {
+            mantissa: 7,
+            places: 0,
+        }),
+    };
+    let found = ends_with(
+        rt.alloc(),
+        MISSED_PLACES,
+        MISSED_ROUTES,
+        terms,
+        MISSED_UNITS,
+    )?;
     assert!(rt; found);
     Ok(())
 }

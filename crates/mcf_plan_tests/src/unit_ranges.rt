@@ -64,7 +64,7 @@ const UNITS: [(u32, u32, Option<i64>, Option<i64>); 7] = [
     (1, 2, Some(5), None),
     (1, 3, Some(5), None),
     (3, 2, Some(7), None),
-    // what comes in takes the place of what the mill sends on, or of what comes to the mill
+    // the units replace flow that leaves the mill, or flow that reaches it
     (2, 1, Some(3), Some(3)),
     (2, 3, Some(3), Some(3)),
     (3, 1, Some(15), Some(15)),

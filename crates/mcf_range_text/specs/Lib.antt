@@ -15,6 +15,7 @@ pub mod PeriodRanges
 pub mod RoomRangeTexts
 pub mod PassRangeTexts
 pub mod SupplyRangeTexts
+pub mod PeriodUnitTexts
 pub mod UnitRangeTexts
 pub mod RangeTexts
 pub mod Private

@@ -7,6 +7,8 @@ use Rattle.mcf_flow_tables.specs.declared.answering.TableAnswer.{TableAnswer}
 use Rattle.mcf_flow_tables.specs.declared.answering.TableAnswer.TheVariants.{Faults, Periods, Problem}
 use Rattle.mcf_flow_tables.specs.declared.flow_answer.FlowAnswer.{FlowAnswer}
 use Rattle.mcf_flow_tables.specs.declared.flow_answer.FlowAnswer.TheVariants.{NoColumns, NoTables, Tables}
+use Rattle.mcf_flow_tables.specs.declared.period_answer.PeriodAnswer.{PeriodAnswer}
+use Rattle.mcf_flow_tables.specs.declared.period_answer.PeriodAnswer.TheVariants as period
 use Rattle.mcf_places.specs.declared.answering.PlannerAnswer.{PlannerAnswer}
 use Rattle.mcf_places.specs.declared.answering.PlannerAnswer.TheVariants.{Beyond, Least, NoPlan}
 use Rattle.mcf_places.specs.declared.answering.LeastPlannerPlan.{LeastPlannerPlan}
@@ -14,6 +16,7 @@ use Rattle.mcf_places.specs.Planners.{Planner}
 use Rattle.mcf_plan_rows.specs.FaultRows.{TwoTables}
 use Rattle.mcf_plan_text.specs.PlanTexts.{said_tables}
 use Rattle.mcf_range_text.specs.PassRangeTexts.{ArePassRanges, pass_range_rows}
+use Rattle.mcf_range_text.specs.PeriodUnitTexts.{period_unit_rows}
 use Rattle.mcf_range_text.specs.RoomRangeTexts.{AreRoomRanges, room_range_rows}
 use Rattle.mcf_range_text.specs.SupplyRangeTexts.{AreSupplyRanges, supply_range_rows}
 use Rattle.mcf_range_text.specs.declared.units.UnitRanges.{UnitRanges}
@@ -40,11 +43,18 @@ AreProblemUnits (TooGreat faults) ranges = Unit {0}
 AreProblemUnits (Improper faults) ranges = Unit {0}
 AreProblemUnits (Solved s) ranges = AreSolvedUnits s.planner s.answer ranges
 
--- of the answer to the rows of two tables without periods
+-- of the answer to two tables over periods: what is told of the problem without periods
+abbrev pub ArePeriodUnits : PeriodAnswer → UnitRanges → Type 0
+ArePeriodUnits (period.Faults faults) ranges = Unit {0}
+ArePeriodUnits (period.TooGreat faults) ranges = Unit {0}
+ArePeriodUnits (period.Improper improper) ranges = Unit {0}
+ArePeriodUnits (period.Solved s) ranges = AreSolvedUnits s.planner s.answer ranges
+
+-- of the answer to the rows of two tables
 abbrev pub AreTableUnits : TableAnswer → UnitRanges → Type 0
 AreTableUnits (Faults faults) ranges = Unit {0}
 AreTableUnits (Problem answer) ranges = AreProblemUnits answer ranges
-AreTableUnits (Periods answer) ranges = Unit {0}
+AreTableUnits (Periods answer) ranges = ArePeriodUnits answer ranges
 
 -- of the answer to two texts
 abbrev pub AreUnits : FlowAnswer → UnitRanges → Type 0
@@ -73,11 +83,11 @@ problem_unit_rows two (TooGreat faults) ranges = []
 problem_unit_rows two (Improper faults) ranges = []
 problem_unit_rows two (Solved s) ranges = solved_unit_rows two s.scales s.answer ranges
 
--- of the answer to the rows of two tables without periods
+-- of the answer to the rows of two tables
 abbrev pub table_unit_rows : TwoTables → TableAnswer → UnitRanges → List (List (List ℕ))
 table_unit_rows two (Faults faults) ranges = []
 table_unit_rows two (Problem answer) ranges = problem_unit_rows two answer ranges
-table_unit_rows two (Periods answer) ranges = []
+table_unit_rows two (Periods answer) ranges = period_unit_rows two answer ranges
 
 -- of the answer to two texts
 abbrev pub unit_rows : FlowAnswer → UnitRanges → List (List (List ℕ))

@@ -1,8 +1,8 @@
 #![tactic(auto)]
 
-//! The answer to two tables with the ranges of the costs of routes, as the text of a table. Over
-//! periods, it has those of departures, and of what places keep. Without periods, it also tells for
-//! how many units the prices hold.
+//! The answer to two tables with ranges, as the text of a table: the ranges of the costs of routes,
+//! or over periods those of departures and of what places keep; and for how many units the prices
+//! hold.
 //!
 //! It builds on `mcf_plan_text`, which has the text of an answer, on `mcf_planner_ranges`, which
 //! has the ranges, and on `mcf_unit_ranges`, which has the numbers of units. The definitions are in
@@ -10,11 +10,12 @@
 //! `PeriodRanges` what ranges over periods are, `UnitRangeTexts` which rows tell for how many units
 //! the prices hold, `RoomRangeTexts` for how many units of room on a route they do,
 //! `PassRangeTexts` for how many that may pass through a place, and `SupplyRangeTexts` for how many
-//! units of a supply or of a demand.
+//! units of a supply or of a demand; and `PeriodUnitTexts` has the rows of all these over periods.
 
 mod laws;
 mod passes;
 mod period_rows;
+mod period_unit_rows;
 mod ranges;
 mod rooms;
 mod rows;

@@ -65,16 +65,24 @@ fn ranged_text<S: Solves>(
 /// of the place, by how much the cost of each unit that is kept may fall and may rise, that period,
 /// and the next one.
 ///
-/// Without periods, further rows tell for how many units a figure holds: `room range`, the line and
-/// the ends of a route on which one more unit of room saves something by the prices, and for how
-/// many units, from the first on, each saves just that; the cell is empty without a limit. So does
-/// `pass range`, with the line and the name of a place with bounds, if one more unit that may pass
-/// through it saves something. And if supplies may stay, but no demand may be missing, `supply
-/// range`, the line and the name of each place that wants something, what one more unit of its
-/// demand costs, and for how many units each costs just that; and so of each place with a supply of
-/// which one more unit saves something, with a cost below 0. There is none if a number is beyond
-/// the limits of `units_range`, or if it holds for all units that are looked at. Each takes up to
-/// two further plans.
+/// Further rows tell for how many units a figure holds. A row `room range` has the line and the
+/// ends of a route on which one more unit of room saves something by the prices, and for how many
+/// units, from the first on, each saves just that; the cell is empty without a limit. There is none
+/// of a route from a place back to it. A row `pass range` has the line and the name of a place with
+/// bounds, and the same of one more unit that may pass through it. A row `supply range` has the
+/// line and the name of a place, what one more unit of its supply or of its demand costs, which
+/// saves something if it is below 0, and for how many units each costs just that. There is one for
+/// each place with a supply of which one more unit saves something, if supplies may stay; for each
+/// place with a supply, if all is sent and demands may be missing at penalties; and for each place
+/// that wants something, if supplies may stay, or if to bring one more unit costs less than its
+/// penalty. There is no row if a number is beyond the limits of `units_range`, or if the figure
+/// holds for all units that are looked at. Each takes up to two further plans.
+///
+/// Over periods, a row `room range` is one of a departure, and has at its end the periods in which
+/// it leaves and arrives; the room is that of this departure alone. After these rows come rows
+/// `keep room range`: the line and the name of a place, for how many units more that it may keep
+/// each saves what one more does, the period after which they are kept, and the next one. The rows
+/// `pass range` and `supply range` have their period at the end.
 ///
 /// # Errors
 ///

@@ -9,6 +9,7 @@ ghost use Rattle.mcf_range_text.specs.RoomRangeTexts.{room_range_row, room_range
 ghost use Rattle.mcf_range_text.specs.SupplyRangeTexts.{supply_range_row, supply_range_rows};
 ghost use Rattle.mcf_range_text.specs.UnitRangeTexts.{least_unit_rows, problem_unit_rows, solved_unit_rows, table_unit_rows, unit_rows};
 
+use crate::period_unit_rows::put_period_units;
 use crate::supplies::SupplyRange;
 use crate::units::UnitRanges;
 use mcf_answer_rows::{cell_under, decimal_cell, line_cell, put_line};
@@ -22,7 +23,11 @@ use mcf_units::Scales;
 use std::alloc::Global;
 
 // Returns a number of units as a cell, which is empty without a limit.
-fn units_cell(alloc: Global, scales: Scales, most: Option<i64>) -> Result<Vec<u8>, NoMemory>
+pub(crate) fn units_cell(
+    alloc: Global,
+    scales: Scales,
+    most: Option<i64>,
+) -> Result<Vec<u8>, NoMemory>
     ensures { IfOk result (λ made. made.items ≡ text_if (amount_text scales) most) }
 {
     match most {
@@ -231,18 +236,19 @@ fn put_problem_units(
 }
 
 // Appends the ranges of the answer to the rows of two tables.
-fn put_table_units(
+fn put_table_units<'x>(
     alloc: Global,
     out: &mut Vec<u8>,
-    two: Two<'_>,
-    answer: &TableAnswer,
+    two: Two<'x>,
+    answer: &'x TableAnswer,
     ranges: &UnitRanges,
 ) -> Result<(), NoMemory>
     ensures { OnOk result (out.new.items ≡ out.old.items ++ rows_text (table_unit_rows (tables_in two.entry) answer.now ranges.now)) }
 {
     match answer {
         TableAnswer::Problem(answer) => put_problem_units(alloc, out, two, answer, ranges),
-        _ => Ok(()),
+        TableAnswer::Periods(answer) => put_period_units(alloc, out, two, answer, ranges),
+        TableAnswer::Faults(_) => Ok(()),
     }
 }
 

@@ -2,13 +2,13 @@
 ghost use Rattle.std.specs.Prelude.{IfOk};
 ghost use Rattle.mcf_places.specs.Answers.{IsPlannerAnswer, IsShownIn};
 ghost use Rattle.mcf_places.specs.LimitedPlanners.{limited};
-ghost use Rattle.mcf_range_text.specs.Private.Solved.{IsSolvedAnswer, IsSolvedProblem, IsSolvedTable};
-ghost use Rattle.mcf_range_text.specs.UnitRangeTexts.{AreLeastUnits, AreProblemUnits, AreSolvedUnits, AreTableUnits, AreUnits};
+ghost use Rattle.mcf_range_text.specs.Private.Solved.{IsSolvedAnswer, IsSolvedPeriods, IsSolvedProblem, IsSolvedTable};
+ghost use Rattle.mcf_range_text.specs.UnitRangeTexts.{AreLeastUnits, ArePeriodUnits, AreProblemUnits, AreSolvedUnits, AreTableUnits, AreUnits};
 
 use crate::passes::pass_ranges;
 use crate::rooms::room_ranges;
 use crate::supplies::{SupplyRange, supply_ranges};
-use mcf_flow_tables::{FlowAnswer, ProblemAnswer, SolvedProblem, TableAnswer};
+use mcf_flow_tables::{FlowAnswer, PeriodAnswer, ProblemAnswer, TableAnswer};
 use mcf_model::Solves;
 use mcf_places::{LeastPlannerPlan, Planner, PlannerAnswer};
 use mcf_text::NoMemory;
@@ -55,17 +55,18 @@ fn least_units<S: Solves>(
     })
 }
 
-// Returns what is told of a problem that was solved.
+// Returns what is told of the answer to a planner's problem.
 fn solved_units<S: Solves>(
     alloc: Global,
     solver: &mut S,
-    solved: &SolvedProblem,
+    planner: &Planner,
+    answer: &PlannerAnswer,
 ) -> Result<UnitRanges, NoMemory>
-    requires { IsPlannerAnswer solved.now.planner solved.now.answer }
-    ensures { IfOk result (AreSolvedUnits solved.now.planner solved.now.answer) }
+    requires { IsPlannerAnswer planner.now answer.now }
+    ensures { IfOk result (AreSolvedUnits planner.now answer.now) }
 {
-    match &solved.answer {
-        PlannerAnswer::Least(least) => least_units(alloc, solver, &solved.planner, least),
+    match answer {
+        PlannerAnswer::Least(least) => least_units(alloc, solver, planner, least),
         _ => Ok(no_units(alloc)),
     }
 }
@@ -80,7 +81,26 @@ fn problem_units<S: Solves>(
     ensures { IfOk result (AreProblemUnits answer.now) }
 {
     match answer {
-        ProblemAnswer::Solved(solved) => solved_units(alloc, solver, solved),
+        ProblemAnswer::Solved(solved) => {
+            solved_units(alloc, solver, &solved.planner, &solved.answer)
+        }
+        _ => Ok(no_units(alloc)),
+    }
+}
+
+// Returns what is told of the answer to two tables over periods.
+fn period_units<S: Solves>(
+    alloc: Global,
+    solver: &mut S,
+    answer: &PeriodAnswer,
+) -> Result<UnitRanges, NoMemory>
+    requires { IsSolvedPeriods answer.now }
+    ensures { IfOk result (ArePeriodUnits answer.now) }
+{
+    match answer {
+        PeriodAnswer::Solved(solved) => {
+            solved_units(alloc, solver, &solved.planner, &solved.answer)
+        }
         _ => Ok(no_units(alloc)),
     }
 }
@@ -96,7 +116,8 @@ fn table_units<S: Solves>(
 {
     match answer {
         TableAnswer::Problem(answer) => problem_units(alloc, solver, answer),
-        _ => Ok(no_units(alloc)),
+        TableAnswer::Periods(answer) => period_units(alloc, solver, answer),
+        TableAnswer::Faults(_) => Ok(no_units(alloc)),
     }
 }
 
