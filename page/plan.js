@@ -31,6 +31,18 @@ function toldInTurn(rows, keys) {
   return keys.map((key) => found.get(JSON.stringify(key))?.shift());
 }
 
+// This function returns so many numbers that rows of an answer tell of keys, which are a line, one
+// name or two, and a period; undefined for a key that they don't. In a row they stand before the
+// period, which the answer leaves out if there are no periods.
+/** @type {(rows: string[][], keys: string[][], count: number) => (string[] | undefined)[]} */
+const numbersOf = (rows, keys, count) => toldInTurn(
+  rows.map((cells) => {
+    const begin = keys[0].length - 1, end = begin + count;
+    return [[...cells.slice(0, begin), cells[end] || ''], cells.slice(begin, end)];
+  }),
+  keys
+);
+
 // The results of a plan; null where a figure is beyond what figures take. For a route, or for what
 // passes through a place: the amount, its cost, the residual capacity (null: no limit), what one
 // more unit of capacity saves, whether that saving is exact, and what it costs at least to carry
@@ -50,45 +62,29 @@ export class FlowPlan {
     this.cost = scaled(exactOf(answer.number('cost')), units.amounts + units.costs);
     /** @type {RouteResult[]} */
     this.routes = problem.periods.length ? this.departures(answer) : this.alone(answer);
-    const kept = new Map(answer.rows('keep').map((cells) =>
-      [JSON.stringify([cells[1], cells[8]]), this.result(cells.slice(2))]
-    ));
-    this.stores = problem.stores.map(({ tail, departs }) =>
-      kept.get(JSON.stringify([problem.places[tail - 1].name, departs]))
+    const storeKeys = problem.stores.map(({ line, tail, departs }) =>
+      [String(line), problem.places[tail - 1].name, departs]
+    );
+    this.stores = toldInTurn(
+      answer.rows('keep').map((cells) =>
+        [[...cells.slice(0, 2), cells[8]], this.result(cells.slice(2))]
+      ),
+      storeKeys
     );
     this.hasRanges = Boolean(policy.ranges);
-    const changes = toldInTurn(
-      answer.rows('range').map(([line, from, to, down, up, period = '']) =>
-        [[line, from, to, period], [down, up]]
-      ),
-      problem.routes.map((route) => this.keyOf(route))
+    this.hasSupplies = Boolean(this.hasRanges && policy.unused && !policy.short);
+    const routeKeys = problem.routes.map((route) => this.keyOf(route));
+    const placeKeys = problem.places.map(({ line, name, period }) => [String(line), name, period]);
+    /** @type {(word: string, keys: string[][], count: number) => (string[] | undefined)[]} */
+    const told = (word, keys, count) => numbersOf(answer.rows(word), keys, count);
+    this.ranges = this.rangesOf(problem.routes, told('range', routeKeys, 2));
+    this.storeRanges = this.rangesOf(problem.stores, told('keep range', storeKeys, 2));
+    this.rooms = this.roomsOf(told('room range', routeKeys, 1));
+    this.storeRooms = this.roomsOf(told('keep room range', storeKeys, 1));
+    this.passes = this.roomsOf(told('pass range', placeKeys, 1));
+    this.supplies = told('supply range', placeKeys, 2).map((cells) =>
+      cells && { cost: this.rateOf(cells[0]), most: this.limitOf(cells[1]) }
     );
-    this.ranges = problem.routes.map((route, k) => this.range(route, changes[k]));
-    // Over periods no ranges of room are told, and none of places.
-    this.hasRooms = this.hasRanges && !problem.periods.length;
-    /** @type {(bigint | null | undefined)[]} */
-    this.rooms = toldInTurn(
-      answer.rows('room range').map(([line, from, to, most]) =>
-        [[line, from, to, ''], most ? this.amountOf(most) : null]
-      ),
-      problem.routes.map((route) => this.keyOf(route))
-    );
-    /** @type {Map<string, bigint | null>} */
-    this.passes = new Map(answer.rows('pass range').map(([line, , most]) =>
-      [line, most ? this.amountOf(most) : null]
-    ));
-    this.hasSupplies = Boolean(this.hasRooms && policy.unused && !policy.short);
-    /** @type {Map<string, [bigint, bigint | null]>} */
-    this.supplies = new Map(answer.rows('supply range').map(([line, , cost, most]) =>
-      [line, [this.rateOf(cost), most ? this.amountOf(most) : null]]
-    ));
-    const keeping = new Map(answer.rows('keep range').map(([, name, down, up, period]) =>
-      [JSON.stringify([name, period]), [down, up]]
-    ));
-    this.storeRanges = problem.stores.map((store) => this.range(
-      store,
-      keeping.get(JSON.stringify([problem.places[store.tail - 1].name, store.departs]))
-    ));
     /** @type {Map<string, number>} */
     const groups = new Map();
     /** @type {PlaceResult[]} */
@@ -138,6 +134,10 @@ export class FlowPlan {
   /** @type {(text: string) => bigint} */
   amountOf(text) { return scaled(exactOf(text), this.problem.units.amounts); }
 
+  // This method returns a number of units; null for an empty text, which is no limit.
+  /** @type {(text: string) => bigint | null} */
+  limitOf(text) { return text ? this.amountOf(text) : null; }
+
   /** @type {(text: string) => bigint} */
   rateOf(text) { return scaled(exactOf(text), this.problem.units.costs); }
 
@@ -155,14 +155,21 @@ export class FlowPlan {
     };
   }
 
-  // This method returns from what to what the cost of a route's first step may change, by how much
-  // it may fall and rise; null if that isn't told.
-  /** @type {(route: Route, changes?: string[]) => CostRange | null} */
-  range({ steps: [{ cost }] }, changes) {
-    if (!changes) return null;
-    const [down, up] = changes.map((text) => (text ? this.rateOf(text) : null));
-    return { low: down === null ? null : cost - down, high: up === null ? null : cost + up };
+  // This method returns from what to what the costs of the first steps of routes may change, by how
+  // much each may fall and rise; null for a route of which that isn't told.
+  /** @type {(routes: Route[], changes: (string[] | undefined)[]) => (CostRange | null)[]} */
+  rangesOf(routes, changes) {
+    return routes.map(({ steps: [{ cost }] }, k) => {
+      if (!changes[k]) return null;
+      const [down, up] = changes[k].map((text) => (text ? this.rateOf(text) : null));
+      return { low: down === null ? null : cost - down, high: up === null ? null : cost + up };
+    });
   }
+
+  // This method returns for how many units one more unit of room saves what it saves: null is no
+  // limit, and undefined is what isn't told.
+  /** @type {(told: (string[] | undefined)[]) => (bigint | null | undefined)[]} */
+  roomsOf(told) { return told.map((cells) => cells && this.limitOf(cells[0])); }
 
   // This method says whether a route carries its most, and that isn't 0.
   /** @type {(number: number) => boolean} */

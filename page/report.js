@@ -46,7 +46,7 @@ export function flowsTable(plan) {
   const { units } = problem;
   const hasPeriods = problem.periods.length > 0;
   const own = [
-    FLOW_RESULTS, ...plan.hasRanges ? [RANGE_RESULTS] : [], ...plan.hasRooms ? [ROOM_RESULTS] : [],
+    FLOW_RESULTS, ...plan.hasRanges ? [RANGE_RESULTS, ROOM_RESULTS] : [],
   ];
   /** @type {(departs: string, arrives: string) => string[]} */
   const periods = (departs, arrives) => (hasPeriods ? [departs, arrives] : []);
@@ -83,16 +83,18 @@ export function flowsTable(plan) {
 /** @type {(plan: FlowPlan) => SavedTable[]} */
 export function stockTables(plan) {
   const { problem } = plan;
+  const heads = [...STOCK, ...plan.hasRanges ? [...RANGE_RESULTS, ...ROOM_RESULTS] : []];
   return problem.periods.length
     ? [{
       name: 'stock',
       like: problem.placeTable,
-      heads: plan.hasRanges ? [...STOCK, ...RANGE_RESULTS] : STOCK,
+      heads,
       rows: problem.stores.map(({ tail, departs, arrives }, k) => [
         problem.places[tail - 1].name, departs, arrives, ...cellsOf(plan, plan.stores[k]),
         ...rangeCells(plan, plan.storeRanges[k]),
+        ...roomCells(plan, plan.stores[k], plan.storeRooms[k]),
       ]),
-      figures: [...STOCK, ...plan.hasRanges ? RANGE_RESULTS : []].map((_, k) => k).slice(3),
+      figures: heads.map((_, k) => k).slice(3),
     }]
     : [];
 }
@@ -105,22 +107,22 @@ export function rangeCells({ hasRanges, problem: { units } }, range) {
 }
 
 // This function returns for how many units more room each saves what one more does, on a route or
-// in a place, if the plan tells that. It is empty without a limit, and where room saves nothing.
+// in a place, if the plan has ranges. It is empty without a limit, and where room saves nothing.
 /** @type {(plan: FlowPlan, result: RouteResult | null, told?: bigint | null) => string[]} */
-export function roomCells({ hasRooms, problem: { units } }, result, told) {
-  if (!hasRooms) return [];
+export function roomCells({ hasRanges, problem: { units } }, result, told) {
+  if (!hasRanges) return [];
   if (!result || !result.saves) return [''];
   return [told === undefined ? 'unknown' : units.amount(told)];
 }
 
 // This function returns what each further unit of a demand costs, or of a supply if it saves
 // something, and for how many units, if the plan tells that. It is empty without a limit.
-/** @type {(plan: FlowPlan, place: Place) => string[]} */
-export function supplyCells({ hasSupplies, supplies, problem: { units } }, place) {
+/** @type {(plan: FlowPlan, k: number) => string[]} */
+export function supplyCells({ hasSupplies, supplies, problem: { units, places } }, k) {
   if (!hasSupplies) return [];
-  const told = supplies.get(String(place.line));
-  if (told) return [units.rate(told[0]), units.amount(told[1])];
-  const untold = place.supply < 0n ? 'unknown' : '';
+  const told = supplies[k];
+  if (told) return [units.rate(told.cost), units.amount(told.most)];
+  const untold = places[k].supply < 0n ? 'unknown' : '';
   return [untold, untold];
 }
 
@@ -150,9 +152,9 @@ export function pricesTable(plan) {
       [
         plan.problem.units.rate(price),
         String(group),
-        ...supplyCells(plan, place),
+        ...supplyCells(plan, k),
         ...(!hasBounds ? [] : through ? cellsOf(plan, through) : THROUGH_RESULTS.map(() => '')),
-        ...(hasBounds ? roomCells(plan, through, plan.passes.get(String(place.line))) : []),
+        ...(hasBounds ? roomCells(plan, through, plan.passes[k]) : []),
         ...(place.period ? [place.period] : []),
       ],
     ];
@@ -163,7 +165,7 @@ export function pricesTable(plan) {
     [
       PLACE_RESULTS,
       ...(plan.hasSupplies ? [SUPPLY_RESULTS] : []),
-      ...(hasBounds ? [THROUGH_RESULTS, ...(plan.hasRooms ? [ROOM_RESULTS] : [])] : []),
+      ...(hasBounds ? [THROUGH_RESULTS, ...(plan.hasRanges ? [ROOM_RESULTS] : [])] : []),
       ...(plan.problem.periods.length ? [PLACE_PERIOD] : []),
     ],
     rows

@@ -136,7 +136,7 @@ const RANGE_COLUMNS = ['cost may fall to', 'cost may rise to'].map((head) =>
 const ROOM_COLUMN = number('saves for', 'so many units of room more; empty: no limit');
 
 /** @type {(plan: FlowPlan) => Column[]} */
-const routeColumns = ({ problem, hasRanges, hasRooms }) => [
+const routeColumns = ({ problem, hasRanges }) => [
   ...(problem.periods.length ? [column('departs in'), column('arrives in')] : []),
   column('from', 'where the route begins'),
   column('to', 'where it ends'),
@@ -149,8 +149,7 @@ const routeColumns = ({ problem, hasRanges, hasRooms }) => [
   number('one more saves', 'what one more unit of room saves'),
   column('exact', 'whether it saves just that'),
   number('one more carried costs', 'at least, if it has to carry one more; empty: full'),
-  ...(hasRanges ? RANGE_COLUMNS : []),
-  ...(hasRooms ? [ROOM_COLUMN] : []),
+  ...(hasRanges ? [...RANGE_COLUMNS, ROOM_COLUMN] : []),
   ...ownOf(problem.routeTable),
 ];
 
@@ -235,11 +234,11 @@ const SUPPLY_COLUMNS = [
  * @property {boolean} hasUnmet
  * @property {boolean} hasPenalties
  * @property {boolean} hasBounds
- * @property {boolean} hasRooms
+ * @property {boolean} hasRanges
  */
 
 /** @type {(table: Table, parts: PlaceParts) => Column[]} */
-const placeColumns = (table, { hasSupplies, hasUnmet, hasPenalties, hasBounds, hasRooms }) => [
+const placeColumns = (table, { hasSupplies, hasUnmet, hasPenalties, hasBounds, hasRanges }) => [
   ...(table.heads.includes('period') ? [column('period')] : []),
   column('name'),
   number('supply', 'above 0 it sends, below 0 it takes', supplyOf(table)),
@@ -249,13 +248,13 @@ const placeColumns = (table, { hasSupplies, hasUnmet, hasPenalties, hasBounds, h
   ...(hasUnmet ? [number('unmet', 'what stays, or is missing')] : []),
   ...(hasPenalties ? [number('penalty', 'of each unit that is missing')] : []),
   ...(hasBounds ? PASSING : []),
-  ...(hasBounds && hasRooms ? [ROOM_COLUMN] : []),
+  ...(hasBounds && hasRanges ? [ROOM_COLUMN] : []),
   ...ownOf(table),
 ];
 
 /** @type {(plan: FlowPlan) => Sheet} */
 function placesSheet(plan) {
-  const { problem, hasSupplies, hasRooms } = plan;
+  const { problem, hasSupplies, hasRanges } = plan;
   const { units, placeTable } = problem;
   const own = ownColumns(placeTable);
   const hasBounds = problem.places.some(({ bounds }) => bounds);
@@ -277,18 +276,20 @@ function placesSheet(plan) {
         units.amount(place.supply),
         units.rate(price),
         String(group),
-        ...supplyCells(plan, place),
+        ...supplyCells(plan, k),
         ...(hasUnmet ? [unmet ? units.amount(unmet) : ''] : []),
         ...(hasPenalties ? [units.rate(place.penalty)] : []),
         ...(hasBounds ? passing : []),
-        ...(hasBounds ? roomCells(plan, through, plan.passes.get(String(place.line))) : []),
+        ...(hasBounds ? roomCells(plan, through, plan.passes[k]) : []),
         ...own.map((place_) => cellAt(place.cells, place_)),
       ],
     };
   };
   return {
     title: 'Places',
-    columns: placeColumns(placeTable, { hasSupplies, hasUnmet, hasPenalties, hasBounds, hasRooms }),
+    columns: placeColumns(
+      placeTable, { hasSupplies, hasUnmet, hasPenalties, hasBounds, hasRanges }
+    ),
     count: problem.places.length,
     row,
     from: placeTable,

@@ -280,11 +280,79 @@ async function summed(expect, solver) {
   );
 }
 
+// This function returns what rows tell under heads, of those in which one of these cells is filled,
+// by their cells under keys; all of it as one text.
+const filled = (titles, rows, keys, heads) => {
+  const cellsOf = (row, names) => names.map((name) => row[titles.indexOf(name)]);
+  return rows.filter((row) => cellsOf(row, heads).some(Boolean))
+    .map((row) => `${cellsOf(row, keys).join(' ')}: ${cellsOf(row, heads).join(' ')}`)
+    .join('; ');
+};
+
+// Tables over periods, and for how many units room on departures, in places and in stores saves
+// what one more does, and what further units of supplies and demands cost, for how many. One row is
+// all departures of a route both ways, or stands for a place in all periods; routes of a matrix
+// share a row, and two of them may join the same places.
+const UNITS_OVER_PERIODS = [
+  {
+    texts: [
+      'name,period,supply,most,keep most,keep cost\nMill,,9.5,5.5,3,1\nShop,May,-4,,0.5,0.5\n'
+        + 'Shop,June,-8,,2,0.5\nShop,July,-7,,,\nPort,May,3,,1,0\nPort,June,-2,,,\n'
+        + 'Port,July,5,,,\n',
+      'from,to,most,cost,lead,both\nMill,Shop,5,2,,\nMill,Port,,3,1,\nShop,Port,4,1,,yes\n'
+        + 'Mill,Shop,9,6,,\n',
+    ],
+    routes: 'Mill Shop 2 June: 0.5; Port Shop 1 July: 1',
+    places: 'Mill May: 0.5',
+    stock: 'Shop May: 2; Port May: 2',
+    supplies: 'Shop May: 4 0; Port May: -3 0.5; Shop June: 6 0; Port June: 5 0; Shop July: 2 2',
+  },
+  {
+    texts: [
+      'name;period;supply;most;cost;keep most;keep cost\nMill;;12;;;;\nDepot;;0;6;0,5;1;1\n'
+        + 'Shop;May;-3;;;;\nShop;June;-9;;;;\nPort;;-2;;;;\n',
+      ';Mill;Depot;Shop;Port;Port\nMill;;1;9;8;8\nDepot;;;2;3;3,5\n',
+    ],
+    routes: '',
+    places: 'Depot June: 3',
+    stock: '',
+    supplies: 'Shop May: 3.5 1; Port May: 4.5 1; Shop June: 9 1; Port June: 8 1',
+  },
+];
+
+// These stand at the departure, the store or the place, and the period, of which the answer tells
+// them, in the tables to save and in those that are shown.
+async function unitsOverPeriods(expect, solver) {
+  const saves = ['one_more_saves_for'], choices = asked(['--unused', 'allow', '--ranges']);
+  for (const { texts, routes, places, stock, supplies } of UNITS_OVER_PERIODS) {
+    const sources = texts.map((text, k) => ({ name: ['places', 'routes'][k], text }));
+    const { plan } = await flowOf(solver, sources, choices);
+    const saved = [flowsTable(plan), pricesTable(plan), ...stockTables(plan)];
+    const { sheets } = planShown(plan);
+    const inTable = (k, ...more) => filled(saved[k].heads, saved[k].rows, ...more);
+    const inSheet = (title, ...more) => {
+      const { columns, count, row } = sheets.find((sheet) => sheet.title === title);
+      const rows = Array.from({ length: count }, (_, k) => row(k).cells);
+      return filled(columns.map(({ head }) => head), rows, ...more);
+    };
+    for (const [found, wanted] of [
+      [inTable(0, ['from', 'to', 'cost', 'departs_in'], saves), routes],
+      [inTable(1, ['name', 'in_period'], saves), places],
+      [inTable(2, ['name', 'period'], saves), stock],
+      [inTable(1, ['name', 'in_period'], ['more_costs', 'more_costs_for']), supplies],
+      [inSheet('Routes', ['from', 'to', 'cost', 'departs in'], ['saves for']), routes],
+      [inSheet('Places', ['name', 'period'], ['saves for']), places],
+      [inSheet('Places', ['name', 'period'], ['more costs', 'for units']), supplies],
+    ]) expect(found === wanted, `units over periods: ${found}, and not ${wanted}`);
+  }
+}
+
 export default async function test(expect) {
   const solver = solverHere();
   await written(expect, solver);
   await mapped(expect, solver);
   await summed(expect, solver);
+  await unitsOverPeriods(expect, solver);
   for (const name of fs.readdirSync(plans)
     .filter((one) => fs.existsSync(path.join(plans, one, 'expected')))) {
     const folder = path.join(plans, name);

@@ -118,7 +118,7 @@ def routes_sheet(plan):
         cells = [table.cell(route.line, route.cells, place) for place in own]
         rows.append((kind, route_cells(plan, number) + cells))
     rows, note = listed_rows(rows)
-    columns = ROUTE_COLUMNS + RANGE_COLUMNS * plan.has_ranges + ROOM_COLUMNS * plan.has_rooms
+    columns = ROUTE_COLUMNS + (RANGE_COLUMNS + ROOM_COLUMNS) * plan.has_ranges
     columns = DEPARTURE_COLUMNS * bool(problem.periods) + columns
     columns += [(table.title(sheet.titles[place]), "") for place in own]
     total = figure(sum(result.cost or 0 for result in plan.routes))
@@ -157,16 +157,16 @@ def places_sheet(plan):
     has_bounds = any(place.bounds for place in problem.places)
     has_unmet = problem.unused or problem.short
     has_penalties = any(place.penalty is not None for place in problem.places)
-    for place, result in zip(problem.places, plan.places):
+    for number, (place, result) in enumerate(zip(problem.places, plan.places)):
         unmet = result.stays + result.missing
         cells = [place.period] * bool(problem.periods)
         cells += [place.name, figure(place.supply), figure(result.costs), result.group]
-        cells += report.supply_cells(plan, place)
+        cells += report.supply_cells(plan, number)
         cells += [figure(unmet) if unmet else ""] * has_unmet
         cells += [figure(place.penalty)] * has_penalties
         if has_bounds:
             cells += through_cells(place, result.through)
-            cells += report.room_cells(plan, result.through, plan.passes.get(place.line))
+            cells += report.room_cells(plan, result.through, plan.passes[number])
         cells += [table.cell(place.line, place.cells, column) for column in own]
         rows.append(("", cells))
     rows, note = listed_rows(rows)
@@ -177,7 +177,7 @@ def places_sheet(plan):
         + UNMET_COLUMNS * has_unmet
         + PENALTY_COLUMNS * has_penalties
         + THROUGH_COLUMNS * has_bounds
-        + ROOM_COLUMNS * (has_bounds and plan.has_rooms)
+        + ROOM_COLUMNS * (has_bounds and plan.has_ranges)
         + [(table.title(sheet.titles[place]), "") for place in own]
     )
     return Sheet("Places", columns, rows, (), note)

@@ -1,8 +1,7 @@
 """Problems over periods: their places in each period, what departs in each, and what places keep
 from one to the next."""
 from .answer import cell_at
-from .figures import number_in
-from .problem import ENDS, NO, Problem, Route, Step, cost_range, route_result, told_in_turn
+from .problem import ENDS, NO, Problem, Route, Step, route_result, told_in_turn
 
 KEEP_HEADS = ("keep most", "keep cost")
 
@@ -100,37 +99,15 @@ class PeriodProblem(Problem):
     def route_results(self):
         """The results of the departures of a plan."""
         rows = (
-            ((int(line), tail, head, cells[6], word == "back"), route_result(cells))
+            ((line, tail, head, cells[6], word == "back"), route_result(cells))
             for word in ("route", "back")
             for line, tail, head, *cells in self.answer.rows[word]
         )
-        return told_in_turn(rows, [(*self.key(route), route.is_back) for route in self.routes])
-
-    def key(self, route):
-        """The line of a departure, the names of its ends, and its period."""
-        tail, head = (self.places[end - 1].name for end in (route.tail, route.head))
-        return route.line, tail, head, route.departs
+        keys = zip(self.route_keys(), self.routes)
+        return told_in_turn(rows, [(*key, route.is_back) for key, route in keys])
 
     def store_results(self):
         """The results of what places keep in a plan."""
         rows = self.answer.rows["keep"]
-        found = {(cells[1], cells[8]): route_result(cells[2:]) for cells in rows}
-        return [found[self.places[one.tail - 1].name, one.departs] for one in self.stores]
-
-    def ranges(self):
-        """The ranges of the costs of the departures, or None for one that isn't told."""
-        rows = (
-            ((int(line), tail, head, *more[:1]), (number_in(low), number_in(high)))
-            for line, tail, head, low, high, *more in self.answer.rows["range"]
-        )
-        found = told_in_turn(rows, map(self.key, self.routes))
-        return [cost_range(*one) for one in zip(self.routes, found)]
-
-    def store_ranges(self):
-        """The ranges of the costs of what places keep, or None for one that isn't told."""
-        found = {
-            (name, period): (number_in(low), number_in(high))
-            for _, name, low, high, period, _ in self.answer.rows["keep range"]
-        }
-        keys = ((self.places[one.tail - 1].name, one.departs) for one in self.stores)
-        return [cost_range(*one) for one in zip(self.stores, map(found.get, keys))]
+        found = {(*cells[:2], cells[8]): route_result(cells[2:]) for cells in rows}
+        return [found[key] for key in self.store_keys()]

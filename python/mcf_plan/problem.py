@@ -173,38 +173,34 @@ class Problem:
         """The results of what places keep in a plan."""
         return []
 
-    def ranges(self):
-        """The ranges of the costs of the routes, or None for one that isn't told."""
-        rows = (
-            ((int(line), tail, head), (number_in(down), number_in(up)))
-            for line, tail, head, down, up in self.answer.rows["range"]
-        )
-        found = told_in_turn(rows, [(route.line, *self.ends(route)) for route in self.routes])
-        return [cost_range(*one) for one in zip(self.routes, found)]
+    def route_keys(self):
+        """The lines of the routes, the names of their ends, and the periods in which they depart,
+        which are empty if there are none."""
+        ends = [(self.places[one.tail - 1], self.places[one.head - 1]) for one in self.routes]
+        return [
+            (str(one.line), tail.name, head.name, one.departs)
+            for one, (tail, head) in zip(self.routes, ends)
+        ]
 
-    def room_ranges(self):
-        """For how many units room on the routes saves what one more does, in a tuple; or None for a
-        route of which that isn't told."""
-        rows = (
-            ((int(line), tail, head), (number_in(most),))
-            for line, tail, head, most in self.answer.rows["room range"]
-        )
-        return told_in_turn(rows, [(route.line, *self.ends(route)) for route in self.routes])
+    def store_keys(self):
+        """The lines and the names of places that keep something, and the periods after which."""
+        return [(str(one.line), self.places[one.tail - 1].name, one.departs) for one in self.stores]
 
-    def pass_ranges(self):
-        """For how many units more that may pass through a place each saves what one more does, in a
-        tuple; by the lines of the places of which that is told."""
-        return {int(line): (number_in(most),) for line, _, most in self.answer.rows["pass range"]}
+    def place_keys(self):
+        """The lines and the names of the places, and their periods."""
+        return [(str(place.line), place.name, place.period) for place in self.places]
 
-    def supply_ranges(self):
-        """What each further unit of a demand costs, or of a supply if it saves something, and for
-        how many units; by the lines of the places of which that is told."""
-        rows = self.answer.rows["supply range"]
-        return {int(line): (number_in(cost), number_in(most)) for line, _, cost, most in rows}
-
-    def store_ranges(self):
-        """The ranges of the costs of what places keep."""
-        return []
+    def numbers_told(self, word, keys, count):
+        """So many numbers that rows of the answer tell of each key, or None for a key that they
+        don't. In a row they stand before the period, which the answer leaves out if there are no
+        periods."""
+        rows = []
+        for cells in self.answer.rows[word]:
+            begin = len(keys[0]) - 1
+            end = begin + count
+            key = (*cells[:begin], *(cells[end : end + 1] or [""]))
+            rows.append((key, [*map(number_in, cells[begin:end])]))
+        return told_in_turn(rows, keys)
 
 
 class Plan:
@@ -215,14 +211,19 @@ class Plan:
         self.routes, self.stores = problem.route_results(), problem.store_results()
         groups, rows = {}, problem.answer.rows["place"]
         self.places = [place_result(cells[2:], groups) for cells in rows]
-        self.has_ranges, self.ranges = problem.options.ranges, problem.ranges()
-        self.store_ranges = problem.store_ranges()
-        # Over periods no ranges of room are told, and none of places.
-        self.has_rooms = self.has_ranges and not problem.periods
-        self.rooms = problem.room_ranges() if self.has_rooms else [None] * len(self.routes)
-        self.passes = problem.pass_ranges()
-        self.has_supplies = self.has_rooms and problem.unused and not problem.short
-        self.supplies = problem.supply_ranges() if self.has_supplies else {}
+        self.has_ranges = problem.options.ranges
+        self.has_supplies = self.has_ranges and problem.unused and not problem.short
+        # Each range has its numbers, or is None if it isn't told: from what to what a cost may
+        # change; for how many units one more unit of room saves what it saves; and what further
+        # units of a supply or a demand cost, and how many.
+        told = problem.numbers_told
+        routes, stores, places = problem.route_keys(), problem.store_keys(), problem.place_keys()
+        self.ranges = cost_ranges(problem.routes, told("range", routes, 2))
+        self.store_ranges = cost_ranges(problem.stores, told("keep range", stores, 2))
+        self.rooms = told("room range", routes, 1)
+        self.store_rooms = told("keep room range", stores, 1)
+        self.passes = told("pass range", places, 1)
+        self.supplies = told("supply range", places, 2)
 
     def is_full(self, number):
         """Whether a route carries its whole capacity, and more than 0."""
@@ -267,12 +268,14 @@ def route_result(cells):
     return RouteResult(*map(number_in, cells[:4]), cells[4] == "yes", number_in(cells[5]))
 
 
-def cost_range(route, changes):
-    """The range of the cost of a route, by how much it may fall and rise; None if that isn't
-    told."""
-    if changes is None:
-        return None
-    (down, up), cost = changes, route.steps[0].cost
+def cost_ranges(routes, changes):
+    """The ranges of the costs of routes, by how much each may fall and rise; None for one of which
+    that isn't told."""
+    return [told and cost_range(route.steps[0].cost, *told) for route, told in zip(routes, changes)]
+
+
+def cost_range(cost, down, up):
+    """The range of a cost, by how much it may fall and rise."""
     return CostRange(None if down is None else cost - down, None if up is None else cost + up)
 
 

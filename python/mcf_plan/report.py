@@ -28,7 +28,7 @@ def write_flows(results, plan):
     stays and what is missing."""
     problem = plan.problem
     has_periods = bool(problem.periods)
-    groups = [FLOW_RESULTS] + [RANGE_RESULTS] * plan.has_ranges + [ROOM_RESULTS] * plan.has_rooms
+    groups = [FLOW_RESULTS] + [RANGE_RESULTS, ROOM_RESULTS] * plan.has_ranges
     groups += [ROUTE_PERIODS] * has_periods
     rows = []
     for number, (route, result) in enumerate(zip(problem.routes, plan.routes)):
@@ -54,15 +54,15 @@ def write_prices(results, plan):
     problem = plan.problem
     has_bounds = any(place.bounds for place in problem.places)
     groups = [PLACE_RESULTS] + [SUPPLY_RESULTS] * plan.has_supplies
-    groups += [THROUGH_RESULTS] * has_bounds + [ROOM_RESULTS] * (has_bounds and plan.has_rooms)
+    groups += [THROUGH_RESULTS] * has_bounds + [ROOM_RESULTS] * (has_bounds and plan.has_ranges)
     groups += [PLACE_PERIODS] * bool(problem.periods)
     rows = []
-    for place, result in zip(problem.places, plan.places):
-        cells = [figure(result.costs), result.group, *supply_cells(plan, place)]
+    for number, (place, result) in enumerate(zip(problem.places, plan.places)):
+        cells = [figure(result.costs), result.group, *supply_cells(plan, number)]
         if has_bounds:
             through = result.through
             cells += result_cells(through) if through else [""] * len(THROUGH_RESULTS)
-            cells += room_cells(plan, through, plan.passes.get(place.line))
+            cells += room_cells(plan, through, plan.passes[number])
         cells += [place.period] * bool(problem.periods)
         rows.append((place.line, place.cells, cells))
     results.after("prices", problem.place_table, problem.place_sheet, groups, rows)
@@ -73,10 +73,11 @@ def write_stock(results, plan):
     problem = plan.problem
     if problem.periods:
         rows = []
-        for one, result, told in zip(problem.stores, plan.stores, plan.store_ranges):
-            cells = result_cells(result) + range_cells(plan, told)
+        for number, (one, result) in enumerate(zip(problem.stores, plan.stores)):
+            cells = result_cells(result) + range_cells(plan, plan.store_ranges[number])
+            cells += room_cells(plan, result, plan.store_rooms[number])
             rows.append([problem.places[one.tail - 1].name, one.departs, one.arrives, *cells])
-        heads = STOCK + RANGE_RESULTS * plan.has_ranges
+        heads = STOCK + (RANGE_RESULTS + ROOM_RESULTS) * plan.has_ranges
         results.table("stock", problem.place_table, problem.place_sheet, heads, rows)
 
 
@@ -96,22 +97,22 @@ def range_cells(plan, told):
 
 def room_cells(plan, result, told):
     """For how many units more room each saves what one more does, on a route or in a place, if the
-    plan tells that. It is empty without a limit, and where room saves nothing."""
-    if not plan.has_rooms:
+    plan has ranges. It is empty without a limit, and where room saves nothing."""
+    if not plan.has_ranges:
         return []
     if not result or not result.saves:
         return [""]
     return [UNKNOWN] if told is None else [figure(told[0])]
 
 
-def supply_cells(plan, place):
+def supply_cells(plan, number):
     """What each further unit of a demand costs, or of a supply if it saves something, and for how
     many units, if the plan tells that. The number of units is empty without a limit."""
     if not plan.has_supplies:
         return []
-    if told := plan.supplies.get(place.line):
+    if told := plan.supplies[number]:
         return [*map(figure, told)]
-    return [UNKNOWN if place.supply < 0 else ""] * 2
+    return [UNKNOWN if plan.problem.places[number].supply < 0 else ""] * 2
 
 
 def write_bottlenecks(results, problem, bottlenecks):

@@ -7,7 +7,9 @@ from plain_plans import Place, Problem, Route, Rows
 from random_tables import (
     LOOSE,
     NAMES,
+    TIGHT,
     amount,
+    joining_routes,
     place_table,
     random_places,
     random_policy,
@@ -16,6 +18,12 @@ from random_tables import (
     with_penalties,
 )
 
+# A kind of problems over periods: how many periods they have, how often what a place may keep has
+# no limit, and the kind of their places and routes.
+PeriodKind = collections.namedtuple("PeriodKind", "periods open tables")
+# In plans of the second kind, routes, places and stores are often full.
+ROOMY = PeriodKind((1, 3), 0.5, LOOSE._replace(places=(1, 3), bounded=0.3))
+CROWDED = PeriodKind((2, 3), 0.1, TIGHT._replace(places=(2, 3), routes=(3, 0), through=4))
 PERIODS = ("Jan", "Feb", "KW 48", "2", "März, 2. Hälfte")
 
 # A row of places: the number of its place; the number of the period in which it holds, or None for
@@ -28,6 +36,14 @@ RouteRow = collections.namedtuple("RouteRow", "period says lead")
 # What is kept, or sent: the word of its rows, the number of the row of the table, the periods in
 # which it begins and ends, and the route of the problem without periods.
 Move = collections.namedtuple("Move", "word row begin end route")
+
+# The words of the rows of stores, departures and what goes back: of their figures, of the ranges of
+# their costs, and of those of their room.
+WAYS = (
+    ("keep", "route", "back"),
+    ("keep range", "range", "range"),
+    ("keep room range", "room range", "room range"),
+)
 
 
 class PeriodProblem:
@@ -120,32 +136,34 @@ class PeriodProblem:
         names = ends[:1] if move.word == "keep" else ends
         return (move.word, str(line), *names, self.periods[move.begin], self.periods[move.end])
 
-    def flat_ways(self, rows, lines):
-        """The rows of stores and departures as rows of routes without periods, or None if they
-        aren't those of all of these."""
+    def flat_ways(self, rows, lines, words):
+        """The rows of stores, departures and what goes back, which begin with these words, as rows
+        of routes without periods, which begin with the second of them; None if some are of no
+        store and no departure."""
         told = collections.defaultdict(list)
-        for word, count in (("keep", 1), ("route", 2), ("back", 2)):
+        for word, count in dict(zip(words, (1, 2, 2))).items():
             for line, *cells in rows.by_word[word]:
                 told[(word, line, *cells[:count], *cells[-2:])].append(cells[count:-2])
-        flat = []
+        flat, own = [], dict(zip(("keep", "route", "back"), words))
         for number, move in enumerate(self.moves()):
-            found = told[self.key(move, lines)]
-            if not found:
-                return None
-            flat.append(["route", str(number), "", "", *found.pop(0)])
+            word, *key = self.key(move, lines)
+            found = told[(own[word], *key)]
+            if found:
+                flat.append([words[1], str(number), "", "", *found.pop(0)])
         return None if any(told.values()) else flat
 
-    def flat_ranges(self, rows, lines):
-        """The ranges of stores and departures as rows of ranges without periods."""
-        told = collections.defaultdict(list)
-        for word, count in (("keep range", 1), ("range", 2)):
-            for line, *cells in rows.by_word[word]:
-                told[(word, line, *cells[:count], *cells[-2:])].append(cells[count:-2])
-        for number, move in enumerate(self.moves()):
-            word = "keep range" if move.word == "keep" else "range"
-            found = told[(word, *self.key(move, lines)[1:])]
-            if found:
-                yield ["range", str(number), "", "", *found.pop(0)]
+    @staticmethod
+    def flat_places(rows, word):
+        """The rows of places in periods with a word as rows of places without periods, numbered as
+        the rows of all places are; None if some are of no place."""
+        numbers = {
+            (*cells[:2], cells[-1]): str(number)
+            for number, cells in enumerate(rows.by_word["place"])
+        }
+        found = [(numbers.get((*cells[:2], cells[-1])), cells) for cells in rows.by_word[word]]
+        if None in dict(found):
+            return None
+        return [[word, number, *cells[1:-1]] for number, cells in found]
 
     def has_all_places(self, rows, lines):
         """Whether the rows of places are those of all places in all periods, in order."""
@@ -158,14 +176,16 @@ class PeriodProblem:
 
     def flat_plan(self, rows, lines):
         """The rows of a plan as rows of the problem without periods, or None if they aren't those
-        of all stores, departures and places in periods."""
-        flat = self.flat_ways(rows, lines)
-        if flat is None or not self.has_all_places(rows, lines):
+        of all stores, departures and places in periods, or ranges of these."""
+        groups = [self.flat_ways(rows, lines, words) for words in WAYS]
+        groups += [self.flat_places(rows, word) for word in ("place", "pass range", "supply range")]
+        if None in groups or not self.has_all_places(rows, lines):
             return None
-        flat += [["place", *cells[:-1]] for cells in rows.by_word["place"]]
-        flat += self.flat_ranges(rows, lines)
+        if len(groups[0]) < len(self.moves()):
+            return None
         words = ("answer", "cost", "missing", "supply", "demand")
-        return Rows(flat + [[word, *cells] for word in words for cells in rows.by_word[word]])
+        groups += [[[word, *cells] for cells in rows.by_word[word]] for word in words]
+        return Rows(sum(groups, []))
 
     @staticmethod
     def flat_bottleneck(rows):
@@ -182,11 +202,11 @@ class PeriodProblem:
 # ---- random problems and their tables
 
 
-def random_keep(rng, notation):
+def random_keep(rng, notation, kind):
     """What a place may keep: nothing, or so much at some cost."""
     if rng.random() < 0.3:
         return None
-    most = None if rng.random() < 0.5 else amount(rng, notation, 0, 9)
+    most = None if rng.random() < kind.open else amount(rng, notation, 0, kind.tables.room)
     return most, amount(rng, notation, 0, 3)
 
 
@@ -197,15 +217,15 @@ def random_place_rows(rng, notation, names, count, kind):
         if rng.random() < 0.7:
             own = sorted(rng.sample(range(count), rng.randint(1, count)))
         for period in own:
-            (says,) = random_places(rng, notation, 1, kind._replace(bounded=0.3))
-            supply = amount(rng, notation, -kind.supply, kind.supply)
+            (says,) = random_places(rng, notation, 1, kind.tables)
+            supply = amount(rng, notation, -kind.tables.supply, kind.tables.supply)
             first = amount(rng, notation, 0, 5) if rng.random() < 0.3 else Fraction(0)
             last = amount(rng, notation, 0, 3) if rng.random() < 0.2 else Fraction(0)
             yield PlaceRow(
                 place,
                 period,
                 says._replace(name=name, supply=supply),
-                random_keep(rng, notation),
+                random_keep(rng, notation, kind),
                 first if period in (None, 0) else Fraction(0),
                 last if period in (None, count - 1) else Fraction(0),
             )
@@ -229,17 +249,20 @@ def all_periods(rows, count):
     return rows if [*named] == [*range(count)] else None
 
 
-def random_period_problem(rng, notation, late=0.0):
+def random_period_problem(rng, notation, late=0.0, kind=ROOMY):
     """A random problem over periods, whose rows name the periods in order."""
-    count, names = rng.randint(1, 3), rng.sample(NAMES, rng.randint(1, 3))
+    count = rng.randint(*kind.periods)
+    names = rng.sample(NAMES, rng.randint(*kind.tables.places))
     rows = None
     while rows is None:
-        rows = all_periods([*random_place_rows(rng, notation, names, count, LOOSE)], count)
+        rows = all_periods([*random_place_rows(rng, notation, names, count, kind)], count)
     if rng.random() < 0.3:
         own = with_penalties(rng, notation, [row.says for row in rows])
         rows = [row._replace(says=says) for row, says in zip(rows, own)]
-    routes = []
-    for says in random_routes(rng, notation, len(names), LOOSE):
+    routes, found = [], [*random_routes(rng, notation, len(names), kind.tables)]
+    if kind.tables.joined:
+        found += joining_routes(rng, notation, len(names), kind.tables)
+    for says in found:
         lead = rng.choice([0, 0, 1, 1, 2])
         period = rng.randrange(count) if rng.random() < 0.4 else None
         if (period or 0) + lead >= count and rng.random() >= late:

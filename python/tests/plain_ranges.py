@@ -124,15 +124,24 @@ def told_by_line(rows, of, word):
     return {lines.index(line): cells for line, *cells in rows.by_word[word]}
 
 
+def is_open_loop(problem, route):
+    """Whether a route leads from a place to itself, and as much as you like may pass there."""
+    bounds = problem.places[route.tail].bounds
+    return route.tail == route.head and bool(bounds) and bounds[1] is None
+
+
 def why_wrong_rooms(problem, rows):
     """What is wrong with the ranges of room of a plan in which nothing is missing for want of room;
-    None if nothing is."""
+    None if nothing is. Room on loops at places without a limit isn't tried: the answer is that of
+    the problem in which such a place has the limit that no plan reaches, and with more room it
+    does."""
     told = told_by_line(rows, "route", "room range")
     saves = [Fraction(cells[6] or 0) for cells in rows.by_word["route"]]
     if sorted(told) != [number for number, saving in enumerate(saves) if saving > 0]:
         return "ranges of room of other routes are told"
     for number, (*_, most) in told.items():
-        if problem.routes[number].both and problem.is_bounded(problem.routes[number]):
+        route = problem.routes[number]
+        if route.both and problem.is_bounded(route) or is_open_loop(problem, route):
             continue
         changed = functools.partial(with_room, problem, number)
         if wrong := wrong_end(problem, rows, changed, -saves[number], most):

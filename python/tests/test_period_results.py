@@ -15,6 +15,49 @@ Brewery,Depot,120,2,1,
 Depot,Kiel,90,1,0,yes
 Brewery,Kiel,40,5,,
 """
+# One row stands for the mill in all periods, and one for each route in all; one route goes both
+# ways.
+WAYS = (
+    """name,period,supply,most,keep most,keep cost
+Mill,,9.5,5.5,3,1
+Shop,May,-4,,0.5,0.5
+Shop,June,-8,,2,0.5
+Shop,July,-7,,,
+Port,May,3,,1,0
+Port,June,-2,,,
+Port,July,5,,,
+""",
+    """from,to,most,cost,lead,both
+Mill,Shop,5,2,,
+Mill,Port,,3,1,
+Shop,Port,4,1,,yes
+Mill,Shop,9,6,,
+""",
+)
+# A matrix, of which two columns are the same place.
+MATRIX = (
+    """name;period;supply;most;cost;keep most;keep cost
+Mill;;12;;;;
+Depot;;0;6;0,5;1;1
+Shop;May;-3;;;;
+Shop;June;-9;;;;
+Port;;-2;;;;
+""",
+    ";Mill;Depot;Shop;Port;Port\nMill;;1;9;8;8\nDepot;;;2;3;3,5\n",
+)
+# The heads of what is told for so many units.
+SAVES, FURTHER = ("one_more_saves_for",), ("more_costs", "more_costs_for")
+
+
+def filled(path, keys, heads, separator=","):
+    """The cells under heads of those rows of a table in which one of them is filled, by the cells
+    under keys."""
+    found = {}
+    for row in rows_of(path, separator):
+        cells = tuple(row[head] for head in heads)
+        if any(cells):
+            found[tuple(row[head] for head in keys)] = cells
+    return found
 
 
 class Periods(WithFolder):
@@ -68,6 +111,54 @@ class Periods(WithFolder):
                 ("C", "3", "0", "May"),
                 ("C", "3", "0", "June"),
             ],
+        )
+
+    def test_for_how_many_units(self):
+        """Each number stands at the departure, the store or the place, and the period, of which the
+        answer tells it."""
+        self.assertEqual(self.flow(*WAYS, "--unused", "allow", "--ranges")[0], 0)
+        self.assertEqual(
+            filled(self.out / "flows.csv", ("from", "to", "cost", "departs_in"), SAVES),
+            {("Mill", "Shop", "2", "June"): ("0.5",), ("Port", "Shop", "1", "July"): ("1",)},
+        )
+        self.assertEqual(
+            filled(self.out / "stock.csv", ("name", "period"), SAVES),
+            {("Shop", "May"): ("2",), ("Port", "May"): ("2",)},
+        )
+        self.assertEqual(
+            filled(self.out / "prices.csv", ("name", "in_period"), SAVES),
+            {("Mill", "May"): ("0.5",)},
+        )
+        self.assertEqual(
+            filled(self.out / "prices.csv", ("name", "in_period"), FURTHER),
+            {
+                ("Shop", "May"): ("4", "0"),
+                ("Port", "May"): ("-3", "0.5"),
+                ("Shop", "June"): ("6", "0"),
+                ("Port", "June"): ("5", "0"),
+                ("Shop", "July"): ("2", "2"),
+            },
+        )
+        page = (self.out / "report.html").read_text(encoding="utf-8")
+        for words in ("so many units of room more", "so many further units cost that"):
+            self.assertIn(words, page)
+
+    def test_for_how_many_units_by_a_matrix(self):
+        self.assertEqual(self.flow(*MATRIX, "--unused", "allow", "--ranges")[0], 0)
+        for name in ("flows", "stock"):
+            self.assertEqual(filled(self.out / f"{name}.csv", ("total",), SAVES, ";"), {})
+        self.assertEqual(
+            filled(self.out / "prices.csv", ("name", "in_period"), SAVES, ";"),
+            {("Depot", "June"): ("3",)},
+        )
+        self.assertEqual(
+            filled(self.out / "prices.csv", ("name", "in_period"), FURTHER, ";"),
+            {
+                ("Shop", "May"): ("3,5", "1"),
+                ("Port", "May"): ("4,5", "1"),
+                ("Shop", "June"): ("9", "1"),
+                ("Port", "June"): ("8", "1"),
+            },
         )
 
     def test_what_is_kept(self):

@@ -3,13 +3,16 @@ import collections
 import random
 import unittest
 
-from plain_periods import period_tables, random_period_problem
+from plain_periods import CROWDED, ROOMY, period_tables, random_period_problem
 from plain_plans import is_bottleneck, why_no_plan, why_wrong_figures
-from plain_ranges import why_wrong_ranges
+from plain_ranges import why_wrong_passes, why_wrong_ranges, why_wrong_rooms, why_wrong_supplies
 from random_tables import Notation
 from test_planner import PROGRAM, Answering, repeated, rows_of
 
 CASES, FIGURE_CASES, RANGE_CASES = 500, 60, 60
+# The words of the rows that tell from what to what costs may change, and for how many units figures
+# hold.
+RANGE_WORDS = ("range", "keep range", "room range", "keep room range", "pass range", "supply range")
 
 
 def faulty(places, routes, *faults):
@@ -102,11 +105,11 @@ FAULTS = [
 class Periods(Answering):
     """Random problems over periods, whose tables are written in random ways."""
 
-    def asked(self, rng, late, *more):
+    def asked(self, rng, late, *more, kind=ROOMY):
         """A random problem, the rows of its tables by line, and the status and the rows of the
         answer with further options."""
         notation = Notation(rng)
-        problem = random_period_problem(rng, notation, late)
+        problem = random_period_problem(rng, notation, late, kind)
         texts = [notation.text(*table) for table in period_tables(rng, notation, problem)]
         tables = [rows_of(notation, *pair) for pair in zip(texts, ("name", "from"))]
         policy = problem.policy
@@ -189,16 +192,23 @@ class Periods(Answering):
                     self.assertIsNone(why_wrong_figures(flat, told))
 
     def test_random_ranges(self):
-        rng, seen = random.Random(20261130), collections.Counter()
+        rng, seen = random.Random(11), collections.Counter()
         while seen[0] < RANGE_CASES:
-            problem, texts, tables, status, rows = self.asked(rng, 0.0, "--ranges", "yes")
+            asked = self.asked(rng, 0.0, "--ranges", "yes", kind=CROWDED)
+            problem, texts, tables, status, rows = asked
             seen[status] += 1
             if status == 0:
-                seen["keep"] += len(rows.by_word["keep range"])
+                flat = problem.flat()
                 with self.subTest(texts=texts, policy=problem.policy):
                     told = problem.flat_plan(rows, self.lines(tables))
-                    self.assertIsNone(why_wrong_ranges(problem.flat(), told))
-        self.assertLess(RANGE_CASES / 2, seen["keep"])
+                    self.assertIsNotNone(told)
+                    self.assertIsNone(why_wrong_ranges(flat, told))
+                    self.assertIsNone(why_wrong_supplies(flat, told))
+                    if flat.names_penalty() or not rows.number("missing"):
+                        self.assertIsNone(why_wrong_rooms(flat, told))
+                        self.assertIsNone(why_wrong_passes(flat, told))
+                        seen.update({word: len(rows.by_word[word]) for word in RANGE_WORDS})
+        self.assertLess(RANGE_CASES / 12, min(seen[word] for word in RANGE_WORDS))
 
 
 if __name__ == "__main__":
