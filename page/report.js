@@ -18,7 +18,7 @@ import { words } from './words.js';
  */
 
 // This function returns a table with the columns of another table and then groups of results. The
-// result columns hold figures.
+// result columns hold figures, except those of periods.
 /**
  * @param {string} name
  * @param {import('./tables.js').Table} like
@@ -34,7 +34,8 @@ function after(name, like, results, rows) {
     like,
     heads,
     rows: rows.map(([cells, more]) => [...places.map((place) => cellAt(cells, place)), ...more]),
-    figures: heads.map((_, k) => k).slice(places.length),
+    figures: heads.map((_, k) => k).slice(places.length)
+      .filter((k) => ![...ROUTE_PERIODS, ...PLACE_PERIOD].includes(heads[k])),
   };
 }
 

@@ -280,6 +280,19 @@ async function summed(expect, solver) {
   );
 }
 
+// The mark before decimals of a table doesn't change points in the names of its periods.
+async function pointed(expect, solver) {
+  const sources = [
+    { name: 'places', text: 'name;period;supply\nA;1.6.;1,5\nB;2.6.;-1,5\n' },
+    { name: 'routes', text: 'from;to;most;cost;lead\nA;B;;1;1\n' },
+  ];
+  const { tables, mark } = await told('flow', solver, sources, asked([]));
+  const [flows, prices] = tables.map((table) => csvOf(table, mark));
+  expect(flows.endsWith('\nA;B;;1;1;1,5;1,5;;0;yes;0;1.6.;2.6.\n'), `periods of routes: ${flows}`);
+  const last = prices.split('\n').map((line) => line.split(';').pop());
+  expect(last.join() === 'in_period,1.6.,1.6.,2.6.,2.6.,', `periods of places: ${prices}`);
+}
+
 // This function returns what rows tell under heads, of those in which one of these cells is filled,
 // by their cells under keys; all of it as one text.
 const filled = (titles, rows, keys, heads) => {
@@ -352,6 +365,7 @@ export default async function test(expect) {
   await written(expect, solver);
   await mapped(expect, solver);
   await summed(expect, solver);
+  await pointed(expect, solver);
   await unitsOverPeriods(expect, solver);
   for (const name of fs.readdirSync(plans)
     .filter((one) => fs.existsSync(path.join(plans, one, 'expected')))) {
