@@ -72,6 +72,11 @@ export class Problem {
     };
   }
 
+  // This getter returns whether a penalty is named, for all places or for some.
+  get namesPenalty() {
+    return this.penalty !== null || this.places.some(({ penalty }) => penalty !== null);
+  }
+
   // This method returns the cost of each unit that is missing at a place, or null if none is named.
   /** @type {(place: Place) => bigint | null} */
   penaltyOf({ penalty }) { return penalty === null ? this.penalty : penalty; }

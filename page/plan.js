@@ -72,7 +72,8 @@ export class FlowPlan {
       storeKeys
     );
     this.hasRanges = Boolean(policy.ranges);
-    this.hasSupplies = Boolean(this.hasRanges && policy.unused && !policy.short);
+    this.hasSupplies = this.hasRanges
+      && Boolean(policy.short ? problem.namesPenalty : policy.unused);
     const routeKeys = problem.routes.map((route) => this.keyOf(route));
     const placeKeys = problem.places.map(({ line, name, period }) => [String(line), name, period]);
     /** @type {(word: string, keys: string[][], count: number) => (string[] | undefined)[]} */

@@ -116,14 +116,15 @@ export function roomCells({ hasRanges, problem: { units } }, result, told) {
   return [told === undefined ? 'unknown' : units.amount(told)];
 }
 
-// This function returns what each further unit of a demand costs, or of a supply if it saves
-// something, and for how many units, if the plan tells that. It is empty without a limit.
+// This function returns what each further unit of a supply or of a demand costs, and for how many
+// units, if the plan tells that. The number of units is empty without a limit. Both are empty where
+// more of a supply stays, and where demands may be missing.
 /** @type {(plan: FlowPlan, k: number) => string[]} */
-export function supplyCells({ hasSupplies, supplies, problem: { units, places } }, k) {
+export function supplyCells({ hasSupplies, supplies, policy, problem: { units, places } }, k) {
   if (!hasSupplies) return [];
   const told = supplies[k];
   if (told) return [units.rate(told.cost), units.amount(told.most)];
-  const untold = places[k].supply < 0n ? 'unknown' : '';
+  const untold = places[k].supply < 0n && !policy.short ? 'unknown' : '';
   return [untold, untold];
 }
 

@@ -224,7 +224,7 @@ const PASSING = [
 const supplyOf = (table) => (table.heads.includes('period') ? {} : { edit: 'supply' });
 
 const SUPPLY_COLUMNS = [
-  number('more costs', 'each further unit that it wants, or sends if that saves'),
+  number('more costs', 'each further unit that it sends or wants'),
   number('for units', 'so many further units cost that; empty: no limit'),
 ];
 

@@ -37,7 +37,7 @@ PLACE_COLUMNS = [
     ("group", "among places of one group that is exact"),
 ]
 SUPPLY_COLUMNS = [
-    ("more costs", "each further unit that it wants, or sends if that saves"),
+    ("more costs", "each further unit that it sends or wants"),
     ("for units", "so many further units cost that; empty: no limit"),
 ]
 UNMET_COLUMNS = [("unmet", "what stays, or is missing")]

@@ -132,6 +132,10 @@ class Problem:
         cell = cell_at(cells, self.place_sheet.place("penalty"))
         return value_of(cell, self.mark) if cell else None
 
+    def names_penalty(self):
+        """Whether a penalty is named, for all places or for some."""
+        return self.penalty is not None or any(one.penalty is not None for one in self.places)
+
     def penalty_of(self, place):
         """The cost of each unit that is missing at a place, or None if none is named."""
         return self.penalty if place.penalty is None else place.penalty
@@ -212,7 +216,9 @@ class Plan:
         groups, rows = {}, problem.answer.rows["place"]
         self.places = [place_result(cells[2:], groups) for cells in rows]
         self.has_ranges = problem.options.ranges
-        self.has_supplies = self.has_ranges and problem.unused and not problem.short
+        self.has_supplies = self.has_ranges and (
+            problem.names_penalty() if problem.short else problem.unused
+        )
         # Each range has its numbers, or is None if it isn't told: from what to what a cost may
         # change; for how many units one more unit of room saves what it saves; and what further
         # units of a supply or a demand cost, and how many.

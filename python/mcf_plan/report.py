@@ -106,13 +106,15 @@ def room_cells(plan, result, told):
 
 
 def supply_cells(plan, number):
-    """What each further unit of a demand costs, or of a supply if it saves something, and for how
-    many units, if the plan tells that. The number of units is empty without a limit."""
+    """What each further unit of a supply or of a demand costs, and for how many units, if the plan
+    tells that. The number of units is empty without a limit. Both are empty where more of a supply
+    stays, and where demands may be missing."""
     if not plan.has_supplies:
         return []
     if told := plan.supplies[number]:
         return [*map(figure, told)]
-    return [UNKNOWN if plan.problem.places[number].supply < 0 else ""] * 2
+    is_met = plan.problem.places[number].supply < 0 and not plan.problem.short
+    return [UNKNOWN if is_met else ""] * 2
 
 
 def write_bottlenecks(results, problem, bottlenecks):

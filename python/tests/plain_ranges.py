@@ -124,24 +124,18 @@ def told_by_line(rows, of, word):
     return {lines.index(line): cells for line, *cells in rows.by_word[word]}
 
 
-def is_open_loop(problem, route):
-    """Whether a route leads from a place to itself, and as much as you like may pass there."""
-    bounds = problem.places[route.tail].bounds
-    return route.tail == route.head and bool(bounds) and bounds[1] is None
-
-
 def why_wrong_rooms(problem, rows):
     """What is wrong with the ranges of room of a plan in which nothing is missing for want of room;
-    None if nothing is. Room on loops at places without a limit isn't tried: the answer is that of
-    the problem in which such a place has the limit that no plan reaches, and with more room it
-    does."""
+    None if nothing is. None is told of routes from a place back to it."""
     told = told_by_line(rows, "route", "room range")
     saves = [Fraction(cells[6] or 0) for cells in rows.by_word["route"]]
-    if sorted(told) != [number for number, saving in enumerate(saves) if saving > 0]:
+    loops = [route.tail == route.head for route in problem.routes]
+    expected = [number for number, saving in enumerate(saves) if saving > 0 and not loops[number]]
+    if sorted(told) != expected:
         return "ranges of room of other routes are told"
     for number, (*_, most) in told.items():
         route = problem.routes[number]
-        if route.both and problem.is_bounded(route) or is_open_loop(problem, route):
+        if route.both and problem.is_bounded(route):
             continue
         changed = functools.partial(with_room, problem, number)
         if wrong := wrong_end(problem, rows, changed, -saves[number], most):
@@ -162,17 +156,35 @@ def why_wrong_passes(problem, rows):
     return None
 
 
+def may_tell(policy, place, cost):
+    """Whether something is told of further units of a supply or of a demand, each of which costs so
+    much if it is: a further unit of another supply stays, and of another demand is missing."""
+    if place.supply > 0:
+        return cost < 0 if policy.unused else policy.short
+    return place.supply < 0 and (policy.unused or policy.short)
+
+
 def why_wrong_supplies(problem, rows):
     """What is wrong with the ranges of supplies and demands of a plan; None if nothing is. Of
-    another supply, more of it stays."""
-    told = told_by_line(rows, "place", "supply range")
-    if not problem.policy.unused or problem.policy.short:
+    another supply, more of it stays, and of another demand, more of it is missing."""
+    told, policy = told_by_line(rows, "place", "supply range"), problem.policy
+    penalties = [
+        policy.penalty if place.penalty is None else place.penalty for place in problem.places
+    ]
+    if (policy.short and not any(one is not None for one in penalties)) or not (
+        policy.short or policy.unused
+    ):
         return "ranges of supplies are told" if told else None
     for number, place in enumerate(problem.places):
-        _, cost, most = told.get(number, ("", "0", ""))
-        if (number in told) != (place.supply < 0 or Fraction(cost) < 0 < place.supply):
-            return f"place {number}: {cost} is told" if number in told else f"place {number}: none"
+        is_told, is_missed = number in told, policy.short and place.supply < 0
+        other = penalties[number] if is_missed else 0
+        _, cost, most = told.get(number, ("", str(other), ""))
+        cost = Fraction(cost)
+        if is_told and is_missed and cost >= other:
+            return f"place {number}: {cost} is told, and its penalty is {other}"
+        if not is_missed and is_told != bool(may_tell(policy, place, cost)):
+            return f"place {number}: {cost} is told" if is_told else f"place {number}: none"
         changed = functools.partial(with_supply, problem, number)
-        if place.supply and (wrong := wrong_end(problem, rows, changed, Fraction(cost), most)):
+        if place.supply and (wrong := wrong_end(problem, rows, changed, cost, most)):
             return f"place {number}: {wrong}"
     return None
