@@ -81,6 +81,7 @@ def examples():
                 "heads": heads,
                 "unused": "--unused" in words,
                 "short": "--short" in words,
+                "ranges": "--ranges" in words,
                 "crossing": "--crossing" in words,
                 "each": words[words.index("--each") + 1] if "--each" in words else "",
             }

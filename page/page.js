@@ -175,13 +175,14 @@ async function take(list) {
 
 /** @type {(number: number) => void} */
 function example(number) {
-  const { kind, texts, heads, unused, short, crossing, each } = examples()[number];
+  const { kind, texts, heads, unused, short, ranges, crossing, each } = examples()[number];
   chooseKind(kind);
   const ids = kind === 'flow' ? ['places', 'routes'] : ['costs', 'groups'];
   ids.forEach((id, k) => put(id, texts[k] || ''));
   $('heads').value = heads;
   $('unused').checked = unused;
   $('short').checked = short;
+  $('ranges').checked = ranges;
   $('crossing').checked = crossing;
   $('each').value = each;
   $('penalty').disabled = !short;

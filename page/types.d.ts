@@ -54,6 +54,7 @@ interface Example {
   heads: string;
   unused: boolean;
   short: boolean;
+  ranges: boolean;
   crossing: boolean;
   each: Choices['each'] | '';
 }

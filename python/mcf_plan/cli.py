@@ -112,7 +112,8 @@ def add_flow(command):
     command.add_argument(
         "--ranges",
         action="store_true",
-        help="also write from what to what the cost of each route may change",
+        help="also write from what to what the cost of each route may change, and for how many"
+        " units figures hold",
     )
     command.add_argument("--no-picture", action="store_true", help="draw no picture")
 
