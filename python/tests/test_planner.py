@@ -156,6 +156,21 @@ class Plans(Answering):
                 self.assertIsNone(why_wrong_supplies(problem, rows))
         self.assertLess(0, seen)
 
+    def test_a_demand_below_its_penalty(self):
+        """A further unit of the demand costs 4.6, and its penalty is 5. Nothing is missing, so that
+        routes don't fix the price of what is."""
+        places = (
+            "name,supply,least,most,cost,penalty\nX,-2.7,1.7,9.7,0.6,5\nY,5.4,2,,-2,\n"
+            "Z,,0,8.2,-1.2,\n"
+        )
+        routes = (
+            "from,to,most,cost,both\nY,Z,1.1,1,yes\nY,Y,1,3,\nZ,Y,0.9,-2,\nX,X,1,1.9,\n"
+            "X,Y,18.5,6,yes\nY,Z,24,7.9,yes\n"
+        )
+        words = ["flow", "--unused", "allow", "--short", "allow", "--penalty", "8"]
+        status, rows = self.answered([*words, "--ranges", "yes"], [places, routes])
+        self.assertEqual((status, rows.by_word["supply range"]), (0, [["2", "X", "4.6", "2.7"]]))
+
     def test_figures_of_all_amounts(self):
         """In some of these plans, all amounts pass through a place without a limit."""
         rng, seen = random.Random(20261201), collections.Counter()

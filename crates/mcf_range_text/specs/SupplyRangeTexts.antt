@@ -9,7 +9,7 @@ use Rattle.mcf_places.specs.declared.answering.LeastPlannerPlan.{LeastPlannerPla
 use Rattle.mcf_places.specs.declared.answering.ShownModel.{ShownModel}
 use Rattle.mcf_places.specs.declared.places.Place.{Place}
 use Rattle.mcf_places.specs.declared.places.Policy.{Policy}
-use Rattle.mcf_places.specs.Models.{gate_of, hub_of, place_at}
+use Rattle.mcf_places.specs.Models.{hub_of, place_at}
 use Rattle.mcf_places.specs.Planners.{Planner, misses_least, missing_cost}
 use Rattle.mcf_plan_figures.specs.PlannerFigures.{home_of}
 use Rattle.mcf_plan_rows.specs.Cells.{amount_text, rate_text, text_if}
@@ -59,19 +59,17 @@ tells_supply policy cost = if policy.unused then int_lt cost (pos 0) else policy
 abbrev pub tells_demand : Policy → ℤ → ℤ → Bool
 tells_demand policy cost penalty = if policy.short then int_lt cost penalty else policy.unused
 
--- the test of a place that gives or wants something, by what one more unit of it costs, and by what
--- a unit costs that comes from the gate, as what is missing does
-abbrev pub tells_units : Policy → Place → ℤ → ℤ → Bool
-tells_units policy p cost from_gate =
+-- the test of a place that gives or wants something, by what one more unit of it costs
+abbrev pub tells_units : Policy → Place → ℤ → Bool
+tells_units policy p cost =
     if int_lt (pos 0) p.supply then tells_supply policy cost
-    else (int_lt p.supply (pos 0) && tells_demand policy from_gate (missing_cost policy p))
+    else (int_lt p.supply (pos 0) && tells_demand policy cost (missing_cost policy p))
 
 -- the test of a place of whose units something is told; nothing is, if as little as possible is to
 -- be missing
 abbrev pub has_supply_range : Planner → ShownModel → ℕ → Bool
 has_supply_range P s v =
-    not (misses_least P)
-    && tells_units P.policy (place_at P.places v) (unit_cost s (supply_from P v) (supply_to P v)) (unit_cost s (gate_of P.places) (supply_to P v))
+    not (misses_least P) && tells_units P.policy (place_at P.places v) (unit_cost s (supply_from P v) (supply_to P v))
 
 -- what is told of the supply, or of the demand, of a place: what one more unit costs, and for how
 -- many units that holds

@@ -7,7 +7,7 @@ ghost use Rattle.mcf_flows.specs.Network.{IsNode, at_node};
 ghost use Rattle.mcf_flows.specs.WellFormed.{IsUpTo};
 ghost use Rattle.mcf_places.specs.Answers.{IsShownIn};
 ghost use Rattle.mcf_places.specs.LimitedPlanners.{limited};
-ghost use Rattle.mcf_places.specs.Models.{exit_by, gate_of};
+ghost use Rattle.mcf_places.specs.Models.{exit_by};
 ghost use Rattle.mcf_range_text.specs.SupplyRangeTexts.{AreSupplyRanges, IsCostedRange, IsSupplyRange, costed, has_supply_range, supply_from, supply_to, tells_demand, tells_supply, tells_units};
 ghost use Rattle.mcf_unit_ranges.specs.Told.{IsUntold};
 
@@ -119,24 +119,13 @@ fn tells_demand(policy: Policy, cost: i128, penalty: i64) -> bool
 }
 
 // Returns whether something is told of further units of the supply, or of the demand, of a place.
-fn tells_units(policy: Policy, place: Place, cost: i128, from_gate: i128) -> bool
-    ensures { result ≡ tells_units policy place cost from_gate }
+fn tells_units(policy: Policy, place: Place, cost: i128) -> bool
+    ensures { result ≡ tells_units policy place cost }
 {
     if place.supply > 0 {
         tells_supply(policy, cost)
     } else {
-        place.supply < 0 && tells_demand(policy, from_gate, missing_cost(policy, place))
-    }
-}
-
-// Returns from where to where a unit goes that is missing at a place.
-fn missing_ends(planner: &Planner, ends: Ends) -> Ends
-    ensures from { result.from ≡ gate_of planner.now.places }
-    ensures to { result.to ≡ ends.to }
-{
-    Ends {
-        from: (planner.places().len() + 2) as u32,
-        to: ends.to,
+        place.supply < 0 && tells_demand(policy, cost, missing_cost(policy, place))
     }
 }
 
@@ -151,8 +140,7 @@ fn has_supply_range(planner: &Planner, shown: &ShownModel, row: usize, ends: End
     ensures { result ≡ has_supply_range planner.now shown.now row }
 {
     let cost = unit_cost(&shown.prices, ends);
-    let from_gate = unit_cost(&shown.prices, missing_ends(planner, ends));
-    let told = tells_units(planner.policy(), planner.places()[row - 1], cost, from_gate);
+    let told = tells_units(planner.policy(), planner.places()[row - 1], cost);
     !misses_least(planner) && told
 }
 
