@@ -178,9 +178,8 @@ const MONTHLY_RANGES: &[u8] = b"\n\
 \"keep range\",\"3\",\"Shop\",\"1.5\",\"\",\"Feb\",\"March\"\n\
 \"room range\",\"2\",\"Mill\",\"Shop\",\"1\",\"Feb\",\"March\"\n";
 
-// In February the mill ships 4 units by the port, and sends the rest directly at 9. If the shop
-// kept a second unit of what comes in January, or if one more unit left for the port, that would
-// replace the one that is sent so.
+// In February the mill ships 4 units through the port, and one directly at a cost of 9. A second
+// unit that the shop keeps from January, or a fifth unit through the port, would replace that one.
 const PORT_PLACES: &[u8] = b"name,supply,period,most,keep most,keep cost\n\
 Mill,10,Jan,,,\n\
 Port,,,6,,\n\
