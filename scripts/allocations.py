@@ -1,6 +1,6 @@
 #!/usr/bin/env python3
 """Checks by pattern what no clause states about memory: code without an allocator argument doesn't
-allocate, no failed allocation is ignored, and only `mcf_counts` makes and raises counts.
+allocate, no failed allocation is ignored, and only `mcf_numbers` makes and raises counts.
 
     scripts/allocations.py      lists each place in crates/*/src that breaks one of these rules,
                                 except those named here; status 1 if there is one
@@ -91,7 +91,7 @@ def look(file):
     for place, call in dropped(text):
         if call not in OWN and DROPPED.get(name) != call:
             yield place, f"the answer of {call} is dropped"
-    if not name.startswith("mcf_counts/"):
+    if not name.startswith("mcf_numbers/"):
         for found in re.finditer(r"\bCount\s*\{", text):
             yield found.start(), "a Count is made by hand"
 
@@ -106,7 +106,7 @@ def main():
             print(f"{file.relative_to(TOP)}:{line}: {what}")
             broken += 1
     for file in sorted(TOP.glob("crates/*/proofs/**/Proof.antt")):
-        if file.relative_to(TOP).parts[1] != "mcf_counts":
+        if file.relative_to(TOP).parts[1] != "mcf_numbers":
             print(f"{file.relative_to(TOP)}: a proof below the contracts")
             broken += 1
     return 1 if broken else 0

@@ -18,7 +18,7 @@ from edits import groups, run
 from edits.check import Lanes
 from edits.log import GOAL, SHAPE, THROUGH, UNDECIDED
 
-CRATE = "mcf_counts"
+CRATE = "mcf_numbers"
 COLUMN, COUNT = "file: src/column.rt\n", "file: src/count.rt\n"
 # Its caller `write` waits for it.
 ADD_ONE = COUNT + "old: *self = self.and_one();\nnew: *self = Count::zero();\n"

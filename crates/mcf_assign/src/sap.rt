@@ -7,11 +7,11 @@ ghost use Rattle.mcf_engine.specs.Outcomes.{IsOutcome};
 ghost use Rattle.mcf_assign.specs.Private.Offering.{AreOffered};
 ghost use Rattle.mcf_assign.specs.Runs.{IsMatchedByRows, IsReachedSet, IsStart};
 
-use mcf_counts::Count;
 use mcf_engine::{Engine, Outcome, Pricer};
 use mcf_flows::{Problem, Side};
 use mcf_matching::{Extended, Matching};
 use mcf_network::{Net, State, unbalanced};
+use mcf_numbers::Count;
 use mcf_text::{NoMemory, NodeId};
 use std::alloc::Global;
 use std::marker::Model;

@@ -20,8 +20,8 @@ ghost use Rattle.mcf_basis.specs.Violations.{HasNoEligible};
 use crate::basis::Basis;
 use crate::offer::ArcOffer;
 use crate::residuals::Residuals;
-use mcf_counts::Count;
 use mcf_network::{Net, NodeSet, Rid, State};
+use mcf_numbers::Count;
 use mcf_text::{ArcId, NodeId};
 use mcf_tree::Tree;
 

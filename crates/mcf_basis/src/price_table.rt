@@ -14,7 +14,7 @@ use crate::least_offer::least_offer;
 use crate::offer::ArcOffer;
 use crate::price::Price;
 use crate::reprice::reprice;
-use mcf_counts::Column;
+use mcf_numbers::Column;
 use mcf_text::NodeId;
 use std::marker::Model;
 

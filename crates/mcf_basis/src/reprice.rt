@@ -4,7 +4,7 @@ ghost use Rattle.std.specs.Prelude.{◌≡◌, ◌+◌, length, set, slice_index
 ghost use Rattle.mcf_basis.specs.Private.Turned.{AreRaised, CanRaise, CanRaiseAt};
 
 use crate::price::Price;
-use mcf_counts::Column;
+use mcf_numbers::Column;
 use mcf_text::NodeId;
 
 /// Adds a change to the prices of listed nodes.

@@ -6,10 +6,10 @@ ghost use Rattle.mcf_fast.specs.Made.{IsMadeByFast, IsMadeOrFound, IsRunUnderWay
 ghost use Rattle.mcf_network.specs.Chosen.{supply_total};
 
 use crate::running::{Watched, run_to_end, run_watched};
-use mcf_counts::Count;
 use mcf_engine::{Engine, Outcome};
 use mcf_fast_scaling::find_least;
 use mcf_network::{Net, unbalanced};
+use mcf_numbers::Count;
 use mcf_simplex::Ended;
 use mcf_text::NoMemory;
 use std::alloc::Global;

@@ -6,8 +6,8 @@ ghost use Rattle.mcf_fast.specs.Private.Watching.{IsWatched};
 ghost use Rattle.mcf_network.specs.Chosen.{supply_total};
 
 use crate::watch::{Decision, LEAST_ARCS, Watch, rule_for};
-use mcf_counts::Count;
 use mcf_network::Net;
+use mcf_numbers::Count;
 use mcf_simplex::{Ended, Run};
 use mcf_text::NoMemory;
 use std::alloc::Global;

@@ -14,9 +14,9 @@ ghost use Rattle.mcf_matching.specs.Private.Turning.{IsExtended};
 use crate::regime::NEAR_OFFERS;
 use crate::scene::{Mate, Scene};
 use crate::search::{Tables, Target};
-use mcf_counts::Count;
 use mcf_network::{Net, NodeSet, State};
-use mcf_offers::{Number, Offers, Width};
+use mcf_numbers::{Count, Number, Width};
+use mcf_offers::Offers;
 use mcf_text::{ArcId, NoMemory, NodeId, copies};
 use std::alloc::Global;
 

@@ -11,7 +11,7 @@ ghost use Rattle.mcf_matching.specs.Private.Updating.{AreUpdated, DoesArcFit, Do
 
 use crate::rows::{RowArc, row_arc};
 use crate::scene::Scene;
-use mcf_offers::Number;
+use mcf_numbers::Number;
 use mcf_text::{ArcId, NodeId};
 
 /// Whether new prices are near 0 and show the matching of a scene, none is less than before, and

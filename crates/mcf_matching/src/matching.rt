@@ -11,8 +11,8 @@ ghost use Rattle.mcf_matching.specs.Matchings.{IsMatchedRow, IsRow, price_limit}
 use crate::extended::Extended;
 use crate::partial::Partial;
 use crate::prices::is_narrow;
-use mcf_counts::Count;
 use mcf_network::{Net, NodeSet, State};
+use mcf_numbers::Count;
 use mcf_text::{NoMemory, NodeId};
 use std::alloc::Global;
 use std::marker::Model;

@@ -6,7 +6,7 @@ ghost use Rattle.mcf_matching.specs.Private.Keeping.{AreFirstPrices};
 ghost use Rattle.mcf_matching.specs.Private.Reaches.{HasWidth, first_price, greatest_cost, path_cost, price_reach};
 
 use mcf_network::Net;
-use mcf_offers::{Number, Width};
+use mcf_numbers::{Number, Width};
 use mcf_text::{NoMemory, NodeId, copies};
 use std::alloc::Global;
 

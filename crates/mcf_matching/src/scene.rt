@@ -5,7 +5,7 @@ ghost use Rattle.mcf_flows.specs.WellFormed.{IsUpTo};
 
 use crate::rows::{RowArc, Rows};
 use mcf_network::State;
-use mcf_offers::{Number, Width};
+use mcf_numbers::{Number, Width};
 use mcf_text::NodeId;
 use std::marker::Model;
 

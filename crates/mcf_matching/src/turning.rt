@@ -10,7 +10,7 @@ ghost use Rattle.mcf_matching.specs.Private.Turning.{IsExtended};
 use crate::scene::Mate;
 use crate::search::Tables;
 use mcf_network::{Rid, State};
-use mcf_offers::Width;
+use mcf_numbers::Width;
 use mcf_text::ArcId;
 
 impl<W: Width> Tables<W> {

@@ -1,6 +1,7 @@
 //! Numbers of one width, and the queue of offers.
 
-use mcf_offers::{Number, Offer, Offers, Width};
+use mcf_numbers::{Number, Width};
+use mcf_offers::{Offer, Offers};
 use mcf_text::NoMemory;
 use std::alloc::Global;
 use std::cmp::Ordering;

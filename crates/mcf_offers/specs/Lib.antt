@@ -1,3 +1,2 @@
-pub use Rattle.mcf_flows.specs.WellFormed
 pub mod Offers
 pub mod Private

@@ -8,8 +8,7 @@ ghost use Rattle.std.specs.List.{All};
 ghost use Rattle.std.specs.List.Sorted.{IsPermutation};
 ghost use Rattle.std.specs.Ordering.{as_partial_cmp, flip_args, int_cmp, int_eq, on};
 
-use crate::number::Number;
-use crate::width::Width;
+use mcf_numbers::{Number, Width};
 use mcf_text::NoMemory;
 use std::alloc::Global;
 use std::cmp::Ordering;

@@ -2,7 +2,7 @@
 ghost use Rattle.std.specs.Prelude.{◌≡◌, suc};
 ghost use Rattle.mcf_scaling.specs.Refinements.{no_steps};
 
-use mcf_counts::Count;
+use mcf_numbers::Count;
 use std::marker::Model;
 
 /// The numbers of phases, pushes and relabels: only for clauses, in no bytes.

@@ -4,7 +4,7 @@ ghost use Rattle.std.specs.Io.{ReadsAtMost};
 ghost use Rattle.std.specs.Io.KnownBytes.{Keeps, ReadConsumes, WriteAppends};
 ghost use Rattle.mcf_solver.specs.Devices.{CountsOneFailure};
 
-use mcf_counts::Count;
+use mcf_numbers::Count;
 use std::io;
 
 /// A source failed to give bytes.

@@ -1,7 +1,7 @@
 //! Runs from a source to a sink, of which one fails at a chosen call.
 ghost use Rattle.std.specs.Prelude.{IsTrue};
 
-use mcf_counts::Count;
+use mcf_numbers::Count;
 use mcf_solver::{
     Choice, FromReader, IntoWriter, Kind, RunFault, Sink, SinkFault, Source, SourceFault, run, send,
 };

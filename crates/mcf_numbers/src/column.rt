@@ -14,7 +14,7 @@ pub struct Column<T> {
 }
 
 impl<T> Model for Column<T> {
-    ghost use Rattle.mcf_counts.specs.Columns.{Counted};
+    ghost use Rattle.mcf_numbers.specs.Columns.{Counted};
 
     ghost Value = { Counted T };
 

@@ -1,0 +1,2 @@
+pub use Rattle.mcf_flows.specs.WellFormed
+pub mod Columns
