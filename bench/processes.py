@@ -24,6 +24,8 @@ LIMITS = {"netgen": 0.9, "gridgen": 1.1, "road": 1.0, "goto": 0.7}
 FAST_FAMILIES = ("netgen", "gridgen", "goto", "road", "plan", "star", "geo", "long")
 FAST_FAMILIES += ("few", "many", "large", "small", "thin", "dense", "assignment")
 FAST_SIZES = (10, 11, 12, 13, 14, 15, 16, 17, 18)
+# from this size on for the first seed alone
+FAST_ONCE = 16
 # the ranges of sizes over which means are printed, and the seconds after which no further run of a
 # case starts
 FAST_MEANS = ((10, 15), (16, 18))
@@ -76,23 +78,29 @@ def measure(words, peer, instance_of):
 
 
 def measure_fast(words, peer, instance_of):
-    """Prints a table for each seed: by family and size, the ratio of `fast` to the better of
+    """Prints a table: by family and size, for each seed the ratio of `fast` to the better of
     LEMON's network simplex and cost scaling. Returns whether the ratios and the memory are within
     their limits."""
     build(words)
+    sizes = words.exponents or FAST_SIZES
     within, found = True, []
-    for seed in words.seeds:
-        print(f"fast, seed {seed}: whole processes, the ratio to the better of LEMON's")
-        print("| Family | " + " | ".join(f"2^{exponent}" for exponent in FAST_SIZES) + " |")
-        print("|---|" + "---|" * len(FAST_SIZES))
-        for family in FAST_FAMILIES:
-            cases = fast_cases(words, peer, instance_of, family, seed)
-            print(f"| {family} |", end="", flush=True)
-            for exponent, case in cases:
-                print(f" {case.text()} |", end="", flush=True)
-                within = within and case.is_within(family, exponent)
-                found.append((exponent, case.ratio))
-            print()
+    print("fast: whole processes, the ratio to the better of LEMON's, for seeds", *words.seeds)
+    print("| Family | " + " | ".join(f"2^{exponent}" for exponent in sizes) + " |")
+    print("|---|" + "---|" * len(sizes))
+    for family in words.families or FAST_FAMILIES:
+        print(f"| {family} |", end="", flush=True)
+        before = {}
+        for exponent in sizes:
+            cases = []
+            for seed in words.seeds[: None if exponent < FAST_ONCE else 1]:
+                path = str(instance_of(family, 2**exponent, seed))
+                case, seconds = fast_case(words, peer, path, before)
+                cases += [case] if case else []
+            before = seconds
+            print("", ", ".join(case.text() for case in cases), end=" |", flush=True)
+            within = within and all(case.is_within(family, exponent) for case in cases)
+            found += [(exponent, case.ratio) for case in cases]
+        print()
     for low, high in FAST_MEANS:
         ratios = [ratio for exponent, ratio in found if low <= exponent <= high and ratio]
         if ratios:
@@ -104,25 +112,22 @@ def measure_fast(words, peer, instance_of):
     return within
 
 
-def fast_cases(words, peer, instance_of, family, seed):
-    """The cases of a family, by size."""
-    before = {}
-    for exponent in FAST_SIZES:
-        path = str(instance_of(family, 2**exponent, seed))
-        commands = {
-            "fast": [*solve("fast"), path],
-            "LEMON ns": by_lemon(peer, "ns", path),
-            "LEMON cs": by_lemon(peer, "cs", path),
-        }
-        runs = table.measured(
-            {name: command for name, command in commands.items() if before.get(name, 0) <= MOST},
-            max(5, words.runs),
-            1,
-            FAST_SECONDS,
-        )
-        before = {name: runs[name].seconds if name in runs else MOST + 1 for name in commands}
-        if "fast" in runs:
-            yield exponent, Case(runs)
+def fast_case(words, peer, path, before):
+    """The measured case of an instance, if `fast` is run, and the seconds of each command. Those
+    that took too long at the size before aren't run."""
+    commands = {
+        "fast": [*solve("fast"), path],
+        "LEMON ns": by_lemon(peer, "ns", path),
+        "LEMON cs": by_lemon(peer, "cs", path),
+    }
+    runs = table.measured(
+        {name: command for name, command in commands.items() if before.get(name, 0) <= MOST},
+        max(5, words.runs),
+        1,
+        FAST_SECONDS,
+    )
+    seconds = {name: runs[name].seconds if name in runs else MOST + 1 for name in commands}
+    return Case(runs) if "fast" in runs else None, seconds
 
 
 class Case:

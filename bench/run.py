@@ -1,13 +1,15 @@
 #!/usr/bin/env python3
 """Compares parts of the suite, or all of them, with peers that do the same work.
 
-    python3 bench/run.py [PART ...] [--runs N] [--nodes N] [--seeds N ..] [--built]
+    python3 bench/run.py [PART ...] [--runs N] [--nodes N] [--seeds N ..] [--families NAME ..]
+                         [--exponents N ..] [--built]
 
 PART
   answer    parses an answer of a million arcs and writes it again
   fast      solves nets of fifteen families and of rising size by the engine `fast`, beside the
             better of LEMON's network simplex and cost scaling, as whole processes with their peak
-            memory; prints a table for each of `--seeds` (skipped without LEMON)
+            memory; prints a table for all `--seeds`, from 2^16 nodes on for the first one; of these
+            `--families` and sizes, as `--exponents` of 2, if they are named (skipped without LEMON)
   assign    solves assignments by the engine `sap`, beside dlib and LEMON, as whole processes; the
             script skips a missing library and says so
   check     judges such an answer for its instance
@@ -380,6 +382,8 @@ def main():
     parser.add_argument("--runs", type=int, default=9)
     parser.add_argument("--nodes", type=int)
     parser.add_argument("--seeds", type=int, nargs="+", default=[1], help="of the part `fast`")
+    parser.add_argument("--families", nargs="+", help="of the part `fast`")
+    parser.add_argument("--exponents", type=int, nargs="+", help="of the part `fast`")
     parser.add_argument("--built", action="store_true")
     words = parser.parse_args()
     OUT.mkdir(exist_ok=True)
