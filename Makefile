@@ -11,7 +11,7 @@
 # make library-test tests the library from C, C++, Rust and Python: some four minutes
 # make dist         packs programs, tools and library into bin/dist/: a .deb, a wheel and a tar.gz
 # make dist-test    tests these packages elsewhere; the .deb needs debootstrap and root
-# make page         builds the page bin/mcf.html; needs rt, Binaryen and LLVM's wasm64 builtins
+# make page         builds the page bin/mcf.html; needs rt, Binaryen, LLVM's wasm64 builtins, esbuild
 # make page-test    tests the page in headless Chromium and Firefox, by node: a minute
 # make install      installs everything that is built under PREFIX, with DESTDIR before it
 # make uninstall    removes exactly what make install installs

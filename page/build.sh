@@ -8,8 +8,9 @@
 # the functions that compiled code calls by name (the product of 128 bits and the like).
 #
 # It needs rt on the path, wasm-opt (Debian: binaryen) and libclang_rt.builtins-wasm64.a (Debian:
-# libclang-rt-dev-wasm64; BUILTINS names another file). With --needs it only says which of these is
-# missing. It first proves and builds what isn't yet proved and built.
+# libclang-rt-dev-wasm64; BUILTINS names another file); page/pack.py needs esbuild (Debian: esbuild).
+# With --needs it only says which of these is missing. It first proves and builds what isn't yet
+# proved and built.
 set -euo pipefail
 cd "$(dirname "$0")/.."
 stop() { echo "page: $1" >&2; exit 3; }
@@ -18,6 +19,7 @@ command -v rt > /dev/null || stop "rt isn't on the path; it comes with the Rattl
 command -v wasm-opt > /dev/null || stop "wasm-opt isn't on the path (Debian: binaryen)"
 builtins=${BUILTINS:-$(find /usr/lib/llvm-* /usr/lib/clang -name libclang_rt.builtins-wasm64.a 2> /dev/null | sort -V | tail -1)}
 test -f "$builtins" || stop "libclang_rt.builtins-wasm64.a isn't there (Debian: libclang-rt-dev-wasm64)"
+command -v esbuild > /dev/null || stop "esbuild isn't on the path (Debian: esbuild)"
 test "${1:-}" != --needs || exit 0
 kit=$(dirname "$(rt doc)") scratch=$(mktemp -d)
 trap 'rm -rf "$scratch"' EXIT

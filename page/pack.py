@@ -2,61 +2,38 @@
 """This script packs the page into one file, bin/mcf.html: its sources, the style of mcf_plan's
 pages, the examples and the module.
 
-The tests import the sources as modules. The packed page puts them all in one scope, so no two may
-declare the same name.
+esbuild (Debian: esbuild) bundles the sources, which the tests import as modules, and shortens them.
 """
 import base64
 import gzip
 import json
 import pathlib
-import re
+import subprocess
+import sys
 
 HERE = pathlib.Path(__file__).resolve().parent
 TOP = HERE.parent
 PLANS = TOP / "examples" / "plans"
-IMPORT = re.compile(r"^import \{[^}]*\} from '\./(\w+)\.js';\n", re.M)
-DECLARED = re.compile(r"^(?:export )?(?:async )?(?:function|class) (\w+)", re.M)
-STORED = re.compile(r"^(?:export )?(?:const|let) (.*)", re.M)
-BRACKETS = re.compile(r"\([^()]*\)|\[[^][]*\]")
-# A comment on lines of its own, and the blanks before a line.
-COMMENT = re.compile(r"^ *(?://.*|/\*\*(?:[^*]|\*(?!/))*\*/ *)\n", re.M)
-INDENT = re.compile(r"^ +", re.M)
-NAMED = re.compile(r"(?:^|, )(\w+)(?= =|;|,)")
+# A page that passes by mail and opens at once: so many bytes at most.
+MOST_BYTES = 450_000
 
 
-def names(text):
-    """This function returns the names that a source declares outside of functions."""
-    stored = [
-        name for line in STORED.findall(text) for name in NAMED.findall(BRACKETS.sub("", line))
-    ]
-    return DECLARED.findall(text) + stored
+def shortened(text, *words):
+    """This function returns a text as esbuild shortens it; the words are options."""
+    return subprocess.run(
+        ["esbuild", "--minify", "--charset=utf8", *words],
+        cwd=HERE,
+        input=text,
+        stdout=subprocess.PIPE,
+        encoding="utf-8",
+        check=True,
+    ).stdout.rstrip("\n")
 
 
-def script(begin):
-    """This function returns a source and all that it imports, without comments, without the words
-    import and export, and without the blanks before lines, which no text runs over.
-
-    Each source appears once, after the sources that it imports.
-    """
-    seen, parts, declared = set(), [], {}
-
-    def add(name):
-        if name in seen:
-            return
-        seen.add(name)
-        text = (HERE / f"{name}.js").read_text(encoding="utf-8")
-        for below in IMPORT.findall(text):
-            add(below)
-        for word in names(text):
-            assert (
-                declared.setdefault(word, name) == name
-            ), f"{word} is declared in {declared[word]}.js and in {name}.js"
-        text = COMMENT.sub("", IMPORT.sub("", text))
-        assert not any(line.count("`") % 2 for line in text.split("\n")), f"{name}.js: a long text"
-        parts.append(INDENT.sub("", re.sub(r"^export ", "", text, flags=re.M)))
-
-    add(begin)
-    return "\n".join(parts)
+def script(name):
+    """This function returns a source with all that it imports, as one script."""
+    text = (HERE / f"{name}.js").read_text(encoding="utf-8")
+    return shortened(text, "--bundle", "--format=iife", "--target=es2020")
 
 
 def examples():
@@ -96,7 +73,7 @@ def main():
         HERE / "page.css"
     ).read_text(encoding="utf-8")
     parts = {
-        "STYLE": style,
+        "STYLE": shortened(style, "--loader=css"),
         "EXAMPLES": json.dumps(examples(), ensure_ascii=False).replace("<", "\\u003c"),
         "MODULE": base64.b64encode(gzip.compress(module, 9, mtime=0)).decode(),
         "WORKER": script("worker"),
@@ -107,7 +84,10 @@ def main():
         assert "</script" not in part and "@" + name + "@" in page, name
         page = page.replace(f"@{name}@", part)
     (TOP / "bin" / "mcf.html").write_text(page, encoding="utf-8")
-    print(f"bin/mcf.html: {len(page.encode())} bytes")
+    size = len(page.encode())
+    print(f"bin/mcf.html: {size} bytes")
+    if size > MOST_BYTES:
+        sys.exit(f"page: that is more than {MOST_BYTES} bytes")
 
 
 if __name__ == "__main__":
