@@ -7,5 +7,6 @@ pub use Rattle.mcf_table.specs.Texts
 pub use Rattle.mcf_table.specs.Written
 pub mod AnswerRows
 pub mod FaultWords
+pub mod FormRows
 pub mod Lines
 pub mod TableRows

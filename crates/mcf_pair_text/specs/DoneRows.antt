@@ -1,7 +1,7 @@
 -- What was done to a table of persons and things before it was read, as rows of a table.
 -- Source: own
 use Rattle.std.specs.Prelude.{ℕ, List, ◌++◌, map}
-use Rattle.mcf_form_rows.specs.FormRows.{filled_row, left_out_rows, wish_rows}
+use Rattle.mcf_answer_rows.specs.FormRows.{filled_row, left_out_rows, wish_rows}
 use Rattle.mcf_pair_tables.specs.declared.prepared.Done.{Done}
 use Rattle.mcf_pair_text.specs.PairFaultRows.{costs_word}
 use Rattle.mcf_table.specs.Texts.{Record}

@@ -10,7 +10,7 @@ use Rattle.mcf_decimal.specs.declared.mark.Mark.{Mark}
 use Rattle.mcf_group_reading.specs.GroupReading.{Entries as Groups, read_groups}
 use Rattle.mcf_group_reading.specs.declared.kinds.Fault.{Fault as GroupFault}
 use Rattle.mcf_groups.specs.declared.ordering.Crossing.{Crossing}
-use Rattle.mcf_form_rows.specs.FormRows.{filled_row, lacking_row}
+use Rattle.mcf_answer_rows.specs.FormRows.{filled_row, lacking_row}
 use Rattle.mcf_pair_tables.specs.GroupAnswers.{GroupBytes, IsGroupsText}
 use Rattle.mcf_pair_tables.specs.GroupedAnswers.{known_in}
 use Rattle.mcf_pair_tables.specs.declared.group_answer.BrokenTexts.{BrokenTexts}

@@ -2,7 +2,7 @@ pub use Rattle.mcf_answer_rows.specs.AnswerRows
 pub use Rattle.mcf_answer_rows.specs.FaultWords
 pub use Rattle.mcf_answer_rows.specs.Lines
 pub use Rattle.mcf_answer_rows.specs.TableRows
-pub use Rattle.mcf_form_rows.specs.FormRows
+pub use Rattle.mcf_answer_rows.specs.FormRows
 pub use Rattle.mcf_pair_tables.specs.GroupAnswers
 pub use Rattle.mcf_pair_tables.specs.GroupedAnswers
 pub use Rattle.mcf_pair_tables.specs.PairAnswers

@@ -9,7 +9,7 @@ use Rattle.mcf_answer_rows.specs.declared.texts.PlanText.{PlanText}
 use Rattle.mcf_answer_rows.specs.declared.texts.TextKind.{TextKind}
 use Rattle.mcf_answer_rows.specs.declared.texts.TextKind.TheVariants as told
 use Rattle.mcf_decimal.specs.declared.mark.Mark.{Mark}
-use Rattle.mcf_form_rows.specs.FormRows.{lacking_row}
+use Rattle.mcf_answer_rows.specs.FormRows.{lacking_row}
 use Rattle.mcf_pair_tables.specs.PairAnswers.{CostBytes, IsPairAnswer}
 use Rattle.mcf_pair_tables.specs.declared.answering.ChoiceAnswer.{ChoiceAnswer}
 use Rattle.mcf_pair_tables.specs.declared.answering.ChoiceAnswer.TheVariants.{Improper, Solved, TooGreat}

@@ -4,7 +4,7 @@ ghost use Rattle.mcf_answer_rows.specs.Lines.{rows_text};
 ghost use Rattle.mcf_pair_text.specs.DoneRows.{changed_rows, done_rows};
 
 use crate::words::costs_word;
-use mcf_form_rows::{put_filled, put_told, put_wishes};
+use mcf_answer_rows::{put_filled, put_told, put_wishes};
 use mcf_pair_tables::Done;
 use mcf_table::Records;
 use mcf_text::NoMemory;

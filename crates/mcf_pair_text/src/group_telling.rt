@@ -21,9 +21,10 @@ use crate::groups::{Tables, put_bounds, put_counts, put_crossings};
 use crate::pages::{Page, page_of};
 use crate::rows::{Unit, put_choice, put_competition};
 use crate::words::costs_word;
-use mcf_answer_rows::{PlanText, TextKind, put_answer, put_mark, put_table};
+use mcf_answer_rows::{
+    PlanText, TextKind, put_answer, put_filled, put_lacking, put_mark, put_table,
+};
 use mcf_decimal::Mark;
-use mcf_form_rows::{put_filled, put_lacking};
 use mcf_group_reading::{Fault as GroupFault, Known, read as read_groups};
 use mcf_groups::Crossing;
 use mcf_model::Solves;

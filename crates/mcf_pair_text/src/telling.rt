@@ -13,9 +13,8 @@ use crate::fault_rows::{put_beyond, put_cell_faults, put_greats, put_improper, p
 use crate::pages::{Page, page_of};
 use crate::rows::{Unit, put_choice, put_competition};
 use crate::words::costs_word;
-use mcf_answer_rows::{PlanText, TextKind, put_answer, put_mark, put_table};
+use mcf_answer_rows::{PlanText, TextKind, put_answer, put_lacking, put_mark, put_table};
 use mcf_decimal::Mark;
-use mcf_form_rows::put_lacking;
 use mcf_model::Solves;
 use mcf_pair_tables::{
     ChoiceAnswer, CostTexts, Options, PairAnswer, SaidTable, SolvedPairs, TableAnswer, plan_pairs,

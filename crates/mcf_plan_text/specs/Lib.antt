@@ -1,6 +1,6 @@
 pub use Rattle.mcf_answer_rows.specs.TableRows
 pub use Rattle.mcf_flow_tables.specs.TableAnswers
-pub use Rattle.mcf_form_rows.specs.FormRows
+pub use Rattle.mcf_answer_rows.specs.FormRows
 pub use Rattle.mcf_period_text.specs.PeriodAnswerRows
 pub use Rattle.mcf_plan_rows.specs.BottleneckRows
 pub use Rattle.mcf_plan_rows.specs.FaultRows

@@ -22,7 +22,7 @@ use Rattle.mcf_flow_tables.specs.declared.period_answer.PeriodAnswer.{PeriodAnsw
 use Rattle.mcf_flow_tables.specs.declared.period_answer.PeriodAnswer.TheVariants as period
 use Rattle.mcf_flow_tables.specs.declared.prepared.Done.{Done}
 use Rattle.mcf_flow_tables.specs.declared.prepared.Filled.{Filled}
-use Rattle.mcf_form_rows.specs.FormRows.{filled_row, lacking_row, left_out_rows, list_rows}
+use Rattle.mcf_answer_rows.specs.FormRows.{filled_row, lacking_row, left_out_rows, list_rows}
 use Rattle.mcf_period_text.specs.PeriodAnswerRows.{period_answer_rows, period_mark}
 use Rattle.mcf_places.specs.declared.answering.PlannerAnswer.{PlannerAnswer}
 use Rattle.mcf_places.specs.declared.answering.PlannerAnswer.TheVariants.{Beyond, Least, NoPlan}

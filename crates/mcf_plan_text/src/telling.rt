@@ -2,18 +2,19 @@
 ghost use Rattle.std.specs.Prelude.{◌≡◌, ◌++◌, ◌∷◌, [], IfOk, OnOk};
 ghost use Rattle.mcf_answer_rows.specs.Lines.{rows_text};
 ghost use Rattle.mcf_flow_tables.specs.TableAnswers.{bytes_in};
-ghost use Rattle.mcf_form_rows.specs.FormRows.{left_out_rows};
+ghost use Rattle.mcf_answer_rows.specs.FormRows.{left_out_rows};
 ghost use Rattle.mcf_plan_rows.specs.FaultRows.{table_word, tables_in};
 ghost use Rattle.mcf_reading.specs.declared.locations.Table.TheVariants.{Places, Routes};
 ghost use Rattle.mcf_plan_text.specs.PlanTexts.{IsPlanText, answer_kind, answer_rows, closing_rows, done_rows, end_rows, filled_rows, period_kind, problem_kind, problem_mark, problem_rows, said_tables, solved_kind, solved_rows, table_kind, table_mark, table_rows};
 
-use mcf_answer_rows::{PlanText, TextKind, put_answer, put_mark, put_table};
+use mcf_answer_rows::{
+    PlanText, TextKind, put_answer, put_filled, put_lacking, put_mark, put_table, put_told,
+};
 use mcf_decimal::Mark;
 use mcf_flow_tables::{
     Done, Filled, FlowAnswer, Options, PeriodAnswer, ProblemAnswer, SaidTables, SolvedProblem,
     TableAnswer, Texts, plan_tables,
 };
-use mcf_form_rows::{put_filled, put_lacking, put_told};
 use mcf_model::Solves;
 use mcf_period_text::{period_mark, put_period_answer};
 use mcf_places::PlannerAnswer;

@@ -1,6 +1,6 @@
 use Rattle.std.proofs.Common.{rules}
 use Rattle.mcf_answer_rows.proofs.RowTexts.{two_put}
-use Rattle.mcf_form_rows.specs.FormRows.{wish_rows}
+use Rattle.mcf_answer_rows.specs.FormRows.{wish_rows}
 use Rattle.mcf_pair_text.specs.DoneRows.{changed_rows}
 use Rattle.mcf_pair_text.specs.PairFaultRows.{costs_word}
 use Rattle.mcf_pair_text.proofs.done.put_done.Goals as goal

@@ -1,6 +1,6 @@
 use Rattle.std.proofs.Common.{rules, map}
 use Rattle.mcf_answer_rows.proofs.RowTexts.{two_put}
-use Rattle.mcf_form_rows.specs.FormRows.{filled_row}
+use Rattle.mcf_answer_rows.specs.FormRows.{filled_row}
 use Rattle.mcf_pair_text.specs.DoneRows.{done_rows}
 use Rattle.mcf_pair_text.specs.GroupFaultRows.{groups_word}
 use Rattle.mcf_pair_text.proofs.group_telling.put_both_done.Goals as goal

@@ -1,6 +1,6 @@
 use Rattle.std.proofs.Common.{rules, map}
 use Rattle.mcf_answer_rows.proofs.RowTexts.{two_put}
-use Rattle.mcf_form_rows.specs.FormRows.{filled_row}
+use Rattle.mcf_answer_rows.specs.FormRows.{filled_row}
 use Rattle.mcf_plan_rows.specs.FaultRows.{table_word, tables_in}
 use Rattle.mcf_reading.specs.declared.locations.Table.TheVariants.{Places, Routes}
 use Rattle.mcf_plan_text.proofs.telling.put_filled_columns.Goals as goal

@@ -1,6 +1,6 @@
 use Rattle.std.proofs.Common.{rules}
 use Rattle.mcf_answer_rows.proofs.RowTexts.{two_put}
-use Rattle.mcf_form_rows.specs.FormRows.{left_out_rows}
+use Rattle.mcf_answer_rows.specs.FormRows.{left_out_rows}
 use Rattle.mcf_plan_rows.specs.FaultRows.{table_word}
 use Rattle.mcf_reading.specs.declared.locations.Table.TheVariants.{Places, Routes}
 use Rattle.mcf_plan_text.proofs.telling.put_totals.Goals as goal

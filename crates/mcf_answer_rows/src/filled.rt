@@ -1,9 +1,10 @@
 //! Columns that are filled down, and heads of columns that aren't there.
 ghost use Rattle.std.specs.Prelude.{◌≡◌, ◌++◌, OnOk, map};
 ghost use Rattle.mcf_answer_rows.specs.Lines.{row_line, rows_text};
-ghost use Rattle.mcf_form_rows.specs.FormRows.{filled_row, lacking_row};
+ghost use Rattle.mcf_answer_rows.specs.FormRows.{filled_row, lacking_row};
 
-use mcf_answer_rows::{Wrong, number_cell, put_fault, put_line};
+use crate::cells::{number_cell, put_line};
+use crate::faults::{Wrong, put_fault};
 use mcf_forms::Filling;
 use mcf_table::Records;
 use mcf_text::NoMemory;

@@ -1,9 +1,9 @@
 //! Numbers that are told of a table.
 ghost use Rattle.std.specs.Prelude.{◌≡◌, ◌++◌, OnOk};
 ghost use Rattle.mcf_answer_rows.specs.Lines.{rows_text};
-ghost use Rattle.mcf_form_rows.specs.FormRows.{told_rows, wish_rows};
+ghost use Rattle.mcf_answer_rows.specs.FormRows.{told_rows, wish_rows};
 
-use mcf_answer_rows::{number_cell, put_line};
+use crate::cells::{number_cell, put_line};
 use mcf_text::NoMemory;
 use std::alloc::Global;
 

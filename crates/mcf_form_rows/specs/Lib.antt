@@ -1,2 +1,0 @@
-pub use Rattle.mcf_answer_rows.specs.Lines
-pub mod FormRows
