@@ -40,13 +40,8 @@ const FRONT_READINGS: u64 = 80;
 // From this many nodes on, it pays to leave a run after four quarters, and after six.
 const MANY_NODES: u32 = 12_000;
 
-// From this many nodes on, two quarters suffice if most pivots push flow: the next two take a fifth
-// of the time at 2^16 nodes (family `star`).
-const PUSHING_NODES: u32 = 50_000;
-
-// From this many nodes on, two quarters suffice if most senders still send to the root
-// (`is_scattered`), and otherwise how many nodes a pivot moves decides (`of_large`). Until that
-// decision, the blocks of such nets have fewer arcs.
+// From this many nodes on, two quarters may suffice (`is_soon_left`), and otherwise how many nodes a
+// pivot moves decides (`of_large`). Until that decision, the blocks of such nets have fewer arcs.
 const LARGE_NODES: u32 = 24_576;
 
 // A large net is left after two quarters if this percentage of its senders still send to the root
@@ -256,10 +251,7 @@ impl Watch {
         if self.is_dense {
             return Decision::Wait;
         }
-        if self.quarters == 2 && self.nodes >= PUSHING_NODES && is_moving(quarter, counts) {
-            return Decision::Leave;
-        }
-        if self.quarters == 2 && self.is_scattered(quarter) {
+        if self.quarters == 2 && self.is_soon_left(quarter) {
             return Decision::Leave;
         }
         if self.quarters == 2 && is_busy(counts) {
@@ -280,12 +272,15 @@ impl Watch {
         self.of_later(quarter)
     }
 
-    // Whether a large net is so scattered that most senders still send to the root, though cycles
-    // aren't the shortest.
-    fn is_scattered(&self, quarter: &Quarter) -> bool {
-        LARGE_NODES <= self.nodes
-            && quarter.is_still_loaded(SCATTERED_PERCENT)
-            && quarter.climbs(SCATTERED_CYCLE)
+    // Whether a large net is left after two quarters: it is so scattered that most senders still
+    // send to the root, though cycles aren't the shortest; or nearly all pivots push flow, and many
+    // nodes still send to the root. To leave the latter after four quarters takes 1.04 to 1.4 of
+    // the time at 2^15 nodes (family `star`), and 0.96 to 1.12 in networks of several periods.
+    fn is_soon_left(&self, quarter: &Quarter) -> bool {
+        let is_scattered = quarter.is_still_loaded(SCATTERED_PERCENT)
+            && quarter.climbs(SCATTERED_CYCLE);
+        let is_pushing = quarter.pushes() && quarter.is_still_loaded(11);
+        LARGE_NODES <= self.nodes && (is_scattered || is_pushing)
     }
 
     // The number of stretches if many pivots push flow: only in networks of several periods nearly
