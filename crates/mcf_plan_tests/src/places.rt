@@ -1,6 +1,8 @@
 //! Planners' problems: their faults, and what they say of themselves.
 use mcf_model::{ModelFault, RouteFault, RouteRow, Step, all_faults, some_earn};
-use mcf_places::{Bounds, Place, Planner, PlannerFault, Policy, model_of, plan_of};
+use mcf_places::{
+    Bounds, Place, Planner, PlannerFault, Policy, misses_least, missing_cost, model_of, plan_of,
+};
 use mcf_text::NoMemory;
 use std::alloc::Global;
 use std::test::Fail;
@@ -259,6 +261,37 @@ fn a_problem_says_what_it_has(rt: HostRuntime) -> Result<(), Fail> {
     assert_eq!(rt; (planner.row_count(), planner.returning().len()), (1, 0));
     let policy = planner.policy();
     assert!(rt; policy.unused && policy.short);
+    Ok(())
+}
+
+// A place's own penalty, that of all places, what a missing unit costs, and whether as little as
+// possible is to be missing.
+const PENALTIES: [(Option<i64>, Option<i64>, i64, bool); 4] = [
+    (None, None, 0, true),
+    (None, Some(5), 5, false),
+    (Some(7), Some(5), 7, false),
+    (Some(0), None, 0, false),
+];
+
+#[test]
+fn missing_units_cost_a_penalty(rt: HostRuntime) -> Result<(), Fail> {
+    for (own, penalty, cost, is_least) in PENALTIES {
+        let row = FaultRow {
+            own: [None, own],
+            penalty,
+            ..GOOD
+        };
+        let place = Place {
+            supply: -4,
+            through: None,
+            penalty: own,
+        };
+        assert_eq!(rt; missing_cost(Policy { penalty, ..POLICY }, place), cost);
+        match problem_of(rt.alloc(), &row)? {
+            Ok(planner) => assert_eq!(rt; misses_least(&planner), is_least),
+            Err(_) => assert!(rt; false),
+        }
+    }
     Ok(())
 }
 
