@@ -1,10 +1,9 @@
 pub mod Accepts
-pub mod Appends
 pub mod Grows
 pub mod LinesRead
 pub mod Parsed
+pub mod Puts
 pub mod RangeEnds
-pub mod Room
 pub mod SaidLemmas
 pub mod Simulation
 pub mod SmallAnswers

@@ -1,7 +1,7 @@
 -- The lines that a state stands for are those that it spells; so a text is parsed to an answer
 -- exactly if it spells it.
 use Rattle.std.proofs.Common.{◌≡◌, ℕ, ◌+◌, ◌<◌, ◌≤◌, true, List, [], ◌∷◌, ◌++◌, length, Some, None, Ok, Err, refl, sym, ap, subst, ◌∙◌, nat_eq, arith}
-use Rattle.std.proofs.Common.{append_assoc, append-nil}
+use Rattle.std.proofs.Common.{add-zero, append_assoc, append-nil}
 use Rattle.std.specs.Prelude.{ℤ, Option, Result, map, ◌&&◌, ⊤, nat_lt, option_map}
 use Rattle.std.specs.List.{enumerate_from}
 use Rattle.std.specs.List.Sorted.{IsStrictlyIncreasing}
@@ -30,7 +30,6 @@ use Rattle.mcf_answer.specs.declared.answers.Answer.TheVariants.{Refused as Refu
 use Rattle.mcf_answer.specs.declared.answers.Sent.{Sent}
 use Rattle.mcf_answer.specs.declared.draft.Draft.{Draft}
 use Rattle.mcf_answer.specs.declared.draft.Draft.TheVariants.{Empty, Flow, Announced, Sparse, Blocked, Refused}
-use Rattle.mcf_answer.proofs.Appends.{enumerate_from-push}
 use Rattle.mcf_answer.proofs.Grows.{with_member_fits, with_moved_fits, with_price_fits, with_sent_fits, with_sparse_price_fits}
 use Rattle.mcf_answer.proofs.LinesRead.{answer_or, outcome}
 use Rattle.mcf_answer.proofs.SaidLemmas.{cost_said-some, map-some, member_said-some, moved_said-some, price_said-some, refusal_said-some, sent_said-some}
@@ -43,6 +42,13 @@ use Rattle.mcf_text.specs.Lines.{numbered_lines}
 use Rattle.mcf_text.specs.Row.{Row, line_after, rows}
 
 -- ---- what a state spells
+
+-- one more item of a list with its place
+enumerate_from-push : {X : Type 0} (n : ℕ) (xs : List X) (x : X) → enumerate_from n (xs ++ x ∷ []) ≡ enumerate_from n xs ++ (n + length xs, x) ∷ []
+enumerate_from-push n [] x = ap (λ m. (m, x) ∷ []) (sym (add-zero n))
+enumerate_from-push n (y ∷ ys) x =
+    let next : n + 1 + length ys ≡ n + length (y ∷ ys) = omega arith in
+    ap (λ more. (n, y) ∷ more) (enumerate_from-push (n + 1) ys x ∙ ap (λ m. enumerate_from (n + 1) ys ++ (m, x) ∷ []) next)
 
 -- the lines of a state
 abbrev spelled : Draft → List (List Token)

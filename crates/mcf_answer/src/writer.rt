@@ -1,9 +1,9 @@
 //! Answers as text.
-ghost use Rattle.std.specs.Prelude.{◌≡◌, [], ◌∷◌, ◌++◌, Ok, map, flat_map, length, take, OnOk, OnErr, vec_len, vec_capacity, ◌+◌, ◌<◌, ◌≤◌};
-ghost use Rattle.std.specs.Fmt.{signed_decimal};
+ghost use Rattle.std.specs.Prelude.{◌≡◌, [], ◌∷◌, ◌++◌, Ok, map, flat_map, length, OnOk, OnErr, vec_len, vec_capacity, ◌+◌, ◌<◌, ◌≤◌};
 ghost use Rattle.std.specs.List.{enumerate_from};
 ghost use Rattle.mcf_answer.specs.BlockingSet.{IsBlockingSet};
 ghost use Rattle.mcf_answer.specs.Parsing.{parsing};
+ghost use Rattle.mcf_answer.specs.Private.Puts.{PutsText, field_text};
 ghost use Rattle.mcf_answer.specs.Solution.{IsSolution};
 ghost use Rattle.mcf_answer.specs.Spelling.{IsAnswer, Spells, flow_line, member_line, moved_line, price_line, set_lines, side_word as side_word_of};
 ghost use Rattle.mcf_answer.specs.Spelling.{solution_lines, sparse_lines};
@@ -44,11 +44,8 @@ pub fn write(answer: &Answer, out: &mut Vec<u8>) -> Result<(), NoMemory>
 // Appends an answer.
 #[tactic(auto, unfolding(crate::specs::Written::written, crate::specs::Spelling::spelling, crate::specs::Spelling::IsAnswer))]
 fn put_answer(out: &mut Vec<u8>, answer: &Answer) -> Result<(), NoMemory>
-    ensures ok { OnOk result (out.new.items ≡ out.old.items ++ written answer.now) }
+    ensures puts { PutsText out.old out.new result (written answer.now) }
     ensures in_range { IsAnswer answer.now }
-    ensures err { OnErr result (take (length out.old.items) out.new.items ≡ out.old.items) }
-    ensures capacity { vec_capacity out.old ≤ vec_capacity out.new }
-    ensures refused { OnErr result (vec_capacity out.old < vec_len out.old + length (written answer.now)) }
 {
     match answer {
         Answer::Flow(flow) => put_solution(out, flow),
@@ -64,13 +61,9 @@ fn put_answer(out: &mut Vec<u8>, answer: &Answer) -> Result<(), NoMemory>
 }
 
 // Appends the lines of a flow answer.
-#[tactic(auto, using(crate::proofs::Appends::keeps))]
 fn put_solution(out: &mut Vec<u8>, flow: &FlowAnswer) -> Result<(), NoMemory>
-    ensures ok { OnOk result (out.new.items ≡ out.old.items ++ flat_map line_text (solution_lines flow.now)) }
+    ensures puts { PutsText out.old out.new result (flat_map line_text (solution_lines flow.now)) }
     ensures in_range { IsSolution flow.now }
-    ensures err { OnErr result (take (length out.old.items) out.new.items ≡ out.old.items) }
-    ensures capacity { vec_capacity out.old ≤ vec_capacity out.new }
-    ensures refused { OnErr result (vec_capacity out.old < vec_len out.old + length (flat_map line_text (solution_lines flow.now))) }
 {
     put_line(out, b"s", &[flow.cost])?;
     put_sent(out, flow.sent.as_slice())?;
@@ -78,13 +71,9 @@ fn put_solution(out: &mut Vec<u8>, flow: &FlowAnswer) -> Result<(), NoMemory>
 }
 
 // Appends the lines of a sparse flow answer.
-#[tactic(auto, using(crate::proofs::Appends::keeps))]
 fn put_sparse(out: &mut Vec<u8>, sparse: &SparseAnswer) -> Result<(), NoMemory>
-    ensures ok { OnOk result (out.new.items ≡ out.old.items ++ flat_map line_text (sparse_lines sparse.now)) }
+    ensures puts { PutsText out.old out.new result (flat_map line_text (sparse_lines sparse.now)) }
     ensures in_range { IsSparseSolution sparse.now }
-    ensures err { OnErr result (take (length out.old.items) out.new.items ≡ out.old.items) }
-    ensures capacity { vec_capacity out.old ≤ vec_capacity out.new }
-    ensures refused { OnErr result (vec_capacity out.old < vec_len out.old + length (flat_map line_text (sparse_lines sparse.now))) }
 {
     let cost = sparse.cost;
     put_line(out, b"v", &[2])?;
@@ -94,13 +83,9 @@ fn put_sparse(out: &mut Vec<u8>, sparse: &SparseAnswer) -> Result<(), NoMemory>
 }
 
 // Appends the lines of a blocked answer.
-#[tactic(auto, using(crate::proofs::Appends::keeps))]
 fn put_set(out: &mut Vec<u8>, set: &BlockedAnswer) -> Result<(), NoMemory>
-    ensures ok { OnOk result (out.new.items ≡ out.old.items ++ flat_map line_text (set_lines set.now)) }
+    ensures puts { PutsText out.old out.new result (flat_map line_text (set_lines set.now)) }
     ensures in_range { IsBlockingSet set.now }
-    ensures err { OnErr result (take (length out.old.items) out.new.items ≡ out.old.items) }
-    ensures capacity { vec_capacity out.old ≤ vec_capacity out.new }
-    ensures refused { OnErr result (vec_capacity out.old < vec_len out.old + length (flat_map line_text (set_lines set.now))) }
 {
     let nodes = set.nodes.as_slice();
     put_word_line(out, b"i", nodes.len() as i128, side_word(set.side))?;
@@ -118,12 +103,8 @@ fn side_word(side: Side) -> &'static [u8]
 }
 
 // Appends the flow lines.
-#[tactic(auto, using(crate::proofs::Appends::keeps))]
 fn put_sent(out: &mut Vec<u8>, sent: &[Sent]) -> Result<(), NoMemory>
-    ensures ok { OnOk result (out.new.items ≡ out.old.items ++ flat_map line_text (map flow_line sent.now)) }
-    ensures err { OnErr result (take (length out.old.items) out.new.items ≡ out.old.items) }
-    ensures capacity { vec_capacity out.old ≤ vec_capacity out.new }
-    ensures refused { OnErr result (vec_capacity out.old < vec_len out.old + length (flat_map line_text (map flow_line sent.now))) }
+    ensures { PutsText out.old out.new result (flat_map line_text (map flow_line sent.now)) }
 {
     for s in sent {
         put_flow(out, *s)?;
@@ -133,22 +114,15 @@ fn put_sent(out: &mut Vec<u8>, sent: &[Sent]) -> Result<(), NoMemory>
 
 // Appends the flow line of an arc.
 fn put_flow(out: &mut Vec<u8>, s: Sent) -> Result<(), NoMemory>
-    ensures ok { OnOk result (out.new.items ≡ out.old.items ++ line_text (flow_line s)) }
-    ensures err { OnErr result (take (length out.old.items) out.new.items ≡ out.old.items) }
-    ensures capacity { vec_capacity out.old ≤ vec_capacity out.new }
-    ensures refused { OnErr result (vec_capacity out.old < vec_len out.old + length (line_text (flow_line s))) }
+    ensures { PutsText out.old out.new result (line_text (flow_line s)) }
 {
     let numbers = [i128::from(s.src.get()), i128::from(s.dst.get()), s.flow];
     put_line(out, b"f", &numbers)
 }
 
 // Appends the lines of the named arcs.
-#[tactic(auto, using(crate::proofs::Appends::keeps))]
 fn put_moved(out: &mut Vec<u8>, moved: &[(ArcId, i128)]) -> Result<(), NoMemory>
-    ensures ok { OnOk result (out.new.items ≡ out.old.items ++ flat_map line_text (map moved_line moved.now)) }
-    ensures err { OnErr result (take (length out.old.items) out.new.items ≡ out.old.items) }
-    ensures capacity { vec_capacity out.old ≤ vec_capacity out.new }
-    ensures refused { OnErr result (vec_capacity out.old < vec_len out.old + length (flat_map line_text (map moved_line moved.now))) }
+    ensures { PutsText out.old out.new result (flat_map line_text (map moved_line moved.now)) }
 {
     for m in moved {
         put_arc(out, *m)?;
@@ -158,21 +132,14 @@ fn put_moved(out: &mut Vec<u8>, moved: &[(ArcId, i128)]) -> Result<(), NoMemory>
 
 // Appends the line of a named arc.
 fn put_arc(out: &mut Vec<u8>, m: (ArcId, i128)) -> Result<(), NoMemory>
-    ensures ok { OnOk result (out.new.items ≡ out.old.items ++ line_text (moved_line m)) }
-    ensures err { OnErr result (take (length out.old.items) out.new.items ≡ out.old.items) }
-    ensures capacity { vec_capacity out.old ≤ vec_capacity out.new }
-    ensures refused { OnErr result (vec_capacity out.old < vec_len out.old + length (line_text (moved_line m))) }
+    ensures { PutsText out.old out.new result (line_text (moved_line m)) }
 {
     put_line(out, b"g", &[i128::from(m.0.get()), m.1])
 }
 
 // Appends the price lines, from node 1 on.
-#[tactic(auto, using(crate::proofs::Appends::keeps))]
 fn put_prices(out: &mut Vec<u8>, prices: &[i128]) -> Result<(), NoMemory>
-    ensures ok { OnOk result (out.new.items ≡ out.old.items ++ flat_map line_text (map price_line (enumerate_from 1 prices.now))) }
-    ensures err { OnErr result (take (length out.old.items) out.new.items ≡ out.old.items) }
-    ensures capacity { vec_capacity out.old ≤ vec_capacity out.new }
-    ensures refused { OnErr result (vec_capacity out.old < vec_len out.old + length (flat_map line_text (map price_line (enumerate_from 1 prices.now)))) }
+    ensures { PutsText out.old out.new result (flat_map line_text (map price_line (enumerate_from 1 prices.now))) }
 {
     for (k, price) in prices.iter().enumerate() {
         put_price(out, k + 1, *price)?;
@@ -182,21 +149,14 @@ fn put_prices(out: &mut Vec<u8>, prices: &[i128]) -> Result<(), NoMemory>
 
 // Appends the price line of a node.
 fn put_price(out: &mut Vec<u8>, id: usize, price: i128) -> Result<(), NoMemory>
-    ensures ok { OnOk result (out.new.items ≡ out.old.items ++ line_text (price_line (id, price))) }
-    ensures err { OnErr result (take (length out.old.items) out.new.items ≡ out.old.items) }
-    ensures capacity { vec_capacity out.old ≤ vec_capacity out.new }
-    ensures refused { OnErr result (vec_capacity out.old < vec_len out.old + length (line_text (price_line (id, price)))) }
+    ensures { PutsText out.old out.new result (line_text (price_line (id, price))) }
 {
     put_line(out, b"y", &[id as i128, price])
 }
 
 // Appends the member lines.
-#[tactic(auto, using(crate::proofs::Appends::keeps))]
 fn put_nodes(out: &mut Vec<u8>, nodes: &[NodeId]) -> Result<(), NoMemory>
-    ensures ok { OnOk result (out.new.items ≡ out.old.items ++ flat_map line_text (map member_line nodes.now)) }
-    ensures err { OnErr result (take (length out.old.items) out.new.items ≡ out.old.items) }
-    ensures capacity { vec_capacity out.old ≤ vec_capacity out.new }
-    ensures refused { OnErr result (vec_capacity out.old < vec_len out.old + length (flat_map line_text (map member_line nodes.now))) }
+    ensures { PutsText out.old out.new result (flat_map line_text (map member_line nodes.now)) }
 {
     for node in nodes {
         put_node(out, *node)?;
@@ -206,54 +166,61 @@ fn put_nodes(out: &mut Vec<u8>, nodes: &[NodeId]) -> Result<(), NoMemory>
 
 // Appends the line of a node.
 fn put_node(out: &mut Vec<u8>, node: NodeId) -> Result<(), NoMemory>
-    ensures ok { OnOk result (out.new.items ≡ out.old.items ++ line_text (member_line node)) }
-    ensures err { OnErr result (take (length out.old.items) out.new.items ≡ out.old.items) }
-    ensures capacity { vec_capacity out.old ≤ vec_capacity out.new }
-    ensures refused { OnErr result (vec_capacity out.old < vec_len out.old + length (line_text (member_line node))) }
+    ensures { PutsText out.old out.new result (line_text (member_line node)) }
 {
     put_line(out, b"x", &[i128::from(node.get())])
 }
 
 // Appends a line of a word and numbers.
-#[tactic(auto, using(crate::proofs::Appends::keeps))]
 fn put_line(out: &mut Vec<u8>, word: &[u8], numbers: &[i128]) -> Result<(), NoMemory>
-    ensures ok { OnOk result (out.new.items ≡ out.old.items ++ line_text (Word word.now ∷ map Number numbers.now)) }
-    ensures err { OnErr result (take (length out.old.items) out.new.items ≡ out.old.items) }
-    ensures capacity { vec_capacity out.old ≤ vec_capacity out.new }
-    ensures refused { OnErr result (vec_capacity out.old < vec_len out.old + length (line_text (Word word.now ∷ map Number numbers.now))) }
+    ensures { PutsText out.old out.new result (line_text (Word word.now ∷ map Number numbers.now)) }
 {
-    out.extend_from_slice(word)?;
-    for number in numbers {
-        put_field(out, *number)?;
-    }
-    out.push(b'\n')?;
-    Ok(())
+    put_bytes(out, word)?;
+    put_fields(out, numbers)?;
+    put_byte(out, b'\n')
 }
 
 // Appends a line of a word, a number and a word.
-#[tactic(auto, using(crate::proofs::Appends::keeps))]
 fn put_word_line(out: &mut Vec<u8>, word: &[u8], number: i128, last: &[u8]) -> Result<(), NoMemory>
-    ensures ok { OnOk result (out.new.items ≡ out.old.items ++ line_text (Word word.now ∷ Number number ∷ Word last.now ∷ [])) }
-    ensures err { OnErr result (take (length out.old.items) out.new.items ≡ out.old.items) }
-    ensures capacity { vec_capacity out.old ≤ vec_capacity out.new }
-    ensures refused { OnErr result (vec_capacity out.old < vec_len out.old + length (line_text (Word word.now ∷ Number number ∷ Word last.now ∷ []))) }
+    ensures { PutsText out.old out.new result (line_text (Word word.now ∷ Number number ∷ Word last.now ∷ [])) }
 {
-    out.extend_from_slice(word)?;
+    put_bytes(out, word)?;
     put_field(out, number)?;
-    out.push(b' ')?;
-    out.extend_from_slice(last)?;
-    out.push(b'\n')?;
+    put_byte(out, b' ')?;
+    put_bytes(out, last)?;
+    put_byte(out, b'\n')
+}
+
+// Appends numbers, a blank before each.
+fn put_fields(out: &mut Vec<u8>, numbers: &[i128]) -> Result<(), NoMemory>
+    ensures { PutsText out.old out.new result (flat_map field_text numbers.now) }
+{
+    for number in numbers {
+        put_field(out, *number)?;
+    }
     Ok(())
 }
 
 // Appends a blank and a number.
-#[tactic(auto, using(crate::proofs::Appends::keeps))]
 fn put_field(out: &mut Vec<u8>, number: i128) -> Result<(), NoMemory>
-    ensures ok { OnOk result (out.new.items ≡ out.old.items ++ 32 ∷ signed_decimal number) }
-    ensures err { OnErr result (take (length out.old.items) out.new.items ≡ out.old.items) }
-    ensures capacity { vec_capacity out.old ≤ vec_capacity out.new }
-    ensures refused { OnErr result (vec_capacity out.old < vec_len out.old + length (32 ∷ signed_decimal number)) }
+    ensures { PutsText out.old out.new result (field_text number) }
 {
-    out.push(b' ')?;
+    put_byte(out, b' ')?;
     put_number(out, number)
+}
+
+// Appends bytes.
+fn put_bytes(out: &mut Vec<u8>, bytes: &[u8]) -> Result<(), NoMemory>
+    ensures { PutsText out.old out.new result bytes.now }
+{
+    out.extend_from_slice(bytes)?;
+    Ok(())
+}
+
+// Appends a byte.
+fn put_byte(out: &mut Vec<u8>, byte: u8) -> Result<(), NoMemory>
+    ensures { PutsText out.old out.new result (byte ∷ []) }
+{
+    out.push(byte)?;
+    Ok(())
 }
