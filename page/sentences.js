@@ -198,10 +198,11 @@ export class Teller {
   }
 
   // This method notes a fault. The first one of a kind tells all; of columns that a table lacks,
-  // too. A fault of a cell counts once, in whichever periods it is.
+  // too. A fault of a cell counts once, in whichever periods it is. The head may be spelled as the
+  // table has it.
   /** @type {(fault: string[]) => void} */
   note([word, line, head, what, read, period = '']) {
-    const [column, cell] = this.located(word, line, head, what, read);
+    const [column, cell] = this.located(word, line, fold(head), what, read);
     const isLacking = what === 'no such column', isNumber = /^[0-9]+$/.test(column);
     const here = [word, line, what, column].join('\n');
     if (period && this.done.has(here)) return;

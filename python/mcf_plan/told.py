@@ -181,8 +181,9 @@ class Teller:
 
     def note(self, word, line, head, what, cell, period=""):
         """Notes a fault. The first one of a kind tells all; of columns that a table lacks, too. A
-        fault of a cell counts once, in whichever periods it is."""
-        column, cell = self.located(word, line, head, what, cell)
+        fault of a cell counts once, in whichever periods it is. The head may be spelled as the
+        table has it."""
+        column, cell = self.located(word, line, head.lower(), what, cell)
         is_lacking, here = what == "no such column", (word, line, what, column)
         kind = word, what, is_lacking or column.isdecimal() or column
         if period and here in self.done:
