@@ -390,9 +390,15 @@ export function rivalsLines(roster, rivals) {
   const lines = [`No such pairs exist, ${words().none}:`];
   for (const found of rivals.slice(0, TOLD_NAMES)) lines.push(`  ${rivalsSentence(found)}`);
   lines.push(...leftOutLines(roster));
-  const isSend = roster.answer.number('side') === 'send';
-  if (isSend && roster.isPlain && roster.persons.size > roster.things.size) {
-    lines.push(`${words().each}, and persons may be left over.`);
-  }
-  return lines;
+  return [...lines, ...eachHint(roster)];
+}
+
+// This function returns a hint, if there are more persons than things and each person must get one.
+// Whether each thing can get one isn't known.
+/** @type {(roster: Roster) => string[]} */
+function eachHint(roster) {
+  const isWho = roster.answer.number('side') === 'send' && roster.isPlain;
+  return isWho && roster.each !== 'what' && roster.persons.size > roster.things.size
+    ? [`${words().each}, if that can be, and persons may be left over.`]
+    : [];
 }

@@ -264,6 +264,18 @@ async function mapped(expect, solver) {
   );
 }
 
+// A hint at a choice isn't told to whoever has made it.
+async function hinted(expect, solver) {
+  const sources = [
+    { name: 'costs', text: 'who,what,cost\nA,X,1\nB,X,1\n' },
+    { name: 'groups', text: 'group,who,least\ntwo,A,\ntwo,B,2\n' },
+  ];
+  for (const [words, wanted] of [[[], true], [['--each', 'what'], false]]) {
+    const { said } = await told('pairs', solver, sources, asked(words));
+    expect(said.includes('would get a person, if that can be') === wanted, `a hint: ${said}`);
+  }
+}
+
 // Sums of pairs: by things, by persons with several, by costs with the mark of the table, and by a
 // column of one's own, of which values without a pair count, too.
 async function summed(expect, solver) {
@@ -364,6 +376,7 @@ export default async function test(expect) {
   const solver = solverHere();
   await written(expect, solver);
   await mapped(expect, solver);
+  await hinted(expect, solver);
   await summed(expect, solver);
   await pointed(expect, solver);
   await unitsOverPeriods(expect, solver);

@@ -96,10 +96,14 @@ def blocked_lines(roster):
 
 
 def each_hint(roster):
-    """A hint, if there are more persons than things and each person must get one."""
+    """A hint, if there are more persons than things and each person must get one. Whether each
+    thing can get one isn't known."""
     is_who = roster.answer.one("side") == "send" and roster.is_plain
-    if is_who and len(roster.persons) > len(roster.things):
-        return ["With --each what each thing would get a person, and persons may be left over."]
+    if is_who and roster.options.each != "what" and len(roster.persons) > len(roster.things):
+        return [
+            "With --each what each thing would get a person, if that can be, and persons may be"
+            " left over."
+        ]
     return []
 
 

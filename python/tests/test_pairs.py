@@ -38,8 +38,18 @@ class Pairs(WithFolder):
         status, said, _ = self.pairs(",X,Y\nA,1,1\nB,1,1\nC,1,1\n")
         self.assertEqual(status, 1)
         self.assertIn(
-            "3 persons compete for 2 things: A, B, C can only get X, Y.\nWith --each what", said
+            "3 persons compete for 2 things: A, B, C can only get X, Y.\n"
+            "With --each what each thing would get a person, if that can be, and persons may be"
+            " left over.\n",
+            said,
         )
+
+    def test_no_hint_at_what_was_asked(self):
+        groups = self.put("groups.csv", "group,who,least\ntwo,A,\ntwo,B,2\n")
+        words = ["--groups", groups, "--each", "what"]
+        status, said, _ = self.pairs("who,what,cost\nA,X,1\nB,X,1\n", *words)
+        self.assertEqual(status, 1)
+        self.assertNotIn("With --each", said)
 
     def test_a_person_without_a_thing(self):
         self.assertIn("B can get nothing.", self.pairs(",X,Y\nA,1,1\nB,,\n")[1])
