@@ -29,9 +29,14 @@ const UNPRINTED = /^(?:[\p{C}\p{Zl}\p{Zp}]|(?! )\p{Zs})$/u;
 export function shown(cell) {
   const letters = [...cell];
   const short = letters.length <= 40 ? letters : [...letters.slice(0, 37), '...'];
-  const spelt = (/** @type {string} */ c) =>
-    `\\x${(c.codePointAt(0) & 255).toString(16).padStart(2, '0')}`;
-  return `'${short.map((c) => (UNPRINTED.test(c) ? spelt(c) : c)).join('')}'`;
+  return `'${short.map((c) => (UNPRINTED.test(c) ? spelt(c.codePointAt(0)) : c)).join('')}'`;
+}
+
+// This function spells out a character by its number.
+/** @type {(code: number) => string} */
+function spelt(code) {
+  const [mark, width] = code < 256 ? ['x', 2] : ['u', 4];
+  return `\\${mark}${code.toString(16).padStart(width, '0')}`;
 }
 
 export class Faults {

@@ -29,7 +29,13 @@ def trouble(text):
 def shown(cell):
     """A cell in quotes, shortened, with unprintable characters spelt out."""
     cell = cell if len(cell) <= 40 else cell[:37] + "..."
-    return "'" + "".join(c if c.isprintable() else f"\\x{ord(c) & 0xFF:02x}" for c in cell) + "'"
+    return "'" + "".join(c if c.isprintable() else spelt(ord(c)) for c in cell) + "'"
+
+
+def spelt(code):
+    """A character by its number. Bytes that aren't text are the last bytes of surrogates."""
+    is_byte = code <= 0xFF or 0xDC80 <= code <= 0xDCFF
+    return f"\\x{code & 0xFF:02x}" if is_byte else f"\\u{code:04x}"
 
 
 class Kind:
