@@ -72,10 +72,9 @@ class Nodes:
     def crossings(self, rows):
         """The routes and the places that lead out of a bottleneck or into it."""
         found = []
-        for kind in ("route", "back"):
-            for line, tail, head, least, most, *periods in rows[kind]:
-                departs, arrives = periods or ("", "")
-                found.append(self.link(kind, line, (tail, departs), (head, arrives), least, most))
+        for kind, (line, tail, head, least, most, *periods) in self.ways(rows):
+            departs, arrives = periods or ("", "")
+            found.append(self.link(kind, line, (tail, departs), (head, arrives), least, most))
         for line, name, least, most, period, after in rows["keep"]:
             found.append(self.link("keep", line, (name, period), (name, after), least, most))
         for line, name, _, _, _, _, least, most, *period in rows["place"]:
@@ -83,6 +82,15 @@ class Nodes:
             ends, names = (number, self.exits[number - 1]), (self.label(number),)
             amounts = number_in(least), number_in(most)
             found.append(Crossing("through", int(line), *ends, names, *amounts))
+        return found
+
+    def ways(self, rows):
+        """The rows of routes, and those of what goes back, with their words. Over periods, they are
+        in the order of the departures."""
+        found = [(kind, cells) for kind in ("route", "back") for cells in rows[kind]]
+        if rows["back"] and self.problem.periods:
+            periods = self.problem.periods
+            found.sort(key=lambda way: (int(way[1][0]), periods.index(way[1][5]), way[0] == "back"))
         return found
 
     def label(self, number):
@@ -106,7 +114,9 @@ class Nodes:
             one for one in crossings if one.most is not None and getattr(one, inner) in part
         ]
         limiting += [
-            self.hub_arc(side, node) for node in sorted(part) if hub and self.meets_hub(side, node)
+            self.hub_arc(side, node)
+            for node in sorted(part, key=self.place)
+            if hub and self.meets_hub(side, node)
         ]
         must = sum(mine.values()) + sum(one.least for one in forcing)
         can = sum(one.most for one in limiting)
