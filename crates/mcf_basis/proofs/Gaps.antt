@@ -1,10 +1,15 @@
 -- Prices, reduced costs and changes, by how a table with a gap stores them.
-use Rattle.std.proofs.Common.{◌≡◌, ℕ, ◌+◌, ◌*◌, arith, ℤ, pos, neg_ℤ, ◌+ℤ◌, ◌-ℤ◌, ◌<ℤ◌, ◌≤ℤ◌}
+use Rattle.std.proofs.Common.{◌≡◌, ℕ, ◌+◌, ◌-◌, ◌*◌, ◌^◌, ◌≤◌, arith, ℤ, pos, neg_ℤ, ◌+ℤ◌, ◌-ℤ◌, ◌<ℤ◌, ◌≤ℤ◌}
 use Rattle.std.proofs.lemmas.Int.{ints}
 use Rattle.mcf_flows.specs.Limits.{limits}
 use Rattle.mcf_flows.specs.WellFormed.{IsUpTo}
 use Rattle.mcf_basis.specs.Private.Gaps.{IsSpread, change_by, moved_out, price_by, spread_limit, stand_in}
 use Rattle.mcf_basis.specs.Private.Gaps.IsSpread.{plain, above, below}
+use Rattle.mcf_basis.specs.Private.Layouts.{limit_in}
+
+-- a width has room for a reduced cost, and for a price that changes by one
+pub limit_fits : (room : ℕ) → 2 ^ 63 - 1 ≤ room → limits.cost + 3 * limit_in room ≤ room
+limit_fits room least = grind arith
 
 -- a number and what it is moved to
 pub data IsMoved (bound by : ℕ) (s z : ℤ) : Type 0 where

@@ -1,11 +1,14 @@
 -- The least of some values, place by place: where several are least, the first.
-use Rattle.std.proofs.Common.{◌≡◌, ℕ, ◌+◌, ◌<◌, ◌≤◌, inl, inr, List, length, get_or, ap, arith, subst, sym, ℤ, pos, ◌<ℤ◌, ◌≤ℤ◌}
+use Rattle.std.proofs.Common.{◌≡◌, ℕ, ◌+◌, ◌<◌, ◌≤◌, ◌-◌, ◌^◌, true, false, inl, inr, List, get_or, ap, arith, subst, sym, ℤ, pos, ◌<ℤ◌, ◌≤ℤ◌, ◌-ℤ◌, ◌∙◌}
+use Rattle.std.specs.Ordering.{int_cmp, is_lt}
 use Rattle.std.proofs.lemmas.Int.{ints}
 use Rattle.std.proofs.lemmas.Bool.{cases_eq}
+use Rattle.std.proofs.lemmas.List.{get_or_default}
 use Rattle.mcf_flows.specs.WellFormed.{IsUpTo}
 use Rattle.mcf_basis.specs.declared.offer.ArcOffer.{ArcOffer}
-use Rattle.mcf_basis.specs.Private.Layouts.{no_offer}
-use Rattle.mcf_basis.specs.Private.Offered.{CanCompare, HasPricedEnds}
+use Rattle.mcf_basis.specs.Private.Layouts.{limit_in, no_offer}
+use Rattle.mcf_basis.specs.Private.Offered.{CanCompare, reduced_by}
+use Rattle.mcf_basis.proofs.Gaps.{limit_fits}
 
 -- nothing below 0 was met; or the value at a place was, and each one before it is greater
 pub data IsFirstMet (value : ℕ → ℤ) (begin i place : ℕ) (least : ℤ) : Type 0 where
@@ -19,6 +22,12 @@ pub record IsLeastSoFar (value : ℕ → ℤ) (begin i place : ℕ) (least : ℤ
   pub each : (j : ℕ) → begin ≤ j → j < i → least ≤ℤ value j
   pub first : IsFirstMet value begin i place least
 
+less : (y z : ℤ) → is_lt (int_cmp y z) ≡ true → y <ℤ z
+less y z h = grind (arith, ints)
+
+not_less : (y z : ℤ) → is_lt (int_cmp y z) ≡ false → z ≤ℤ y
+not_less y z h = grind (arith, ints)
+
 module _ (value : ℕ → ℤ) (begin i place : ℕ) (least : ℤ) (in_order : begin ≤ i) (so : IsLeastSoFar value begin i place least) where
   low : least ≤ℤ pos 0
   low = elim so.first [
@@ -27,8 +36,9 @@ module _ (value : ℕ → ℤ) (begin i place : ℕ) (least : ℤ) (in_order : b
   ]
 
   -- a value that is less takes over
-  pub so_far-less : (now : ℤ) → now ≡ value i → now <ℤ least → IsLeastSoFar value begin (i + 1) i now
-  so_far-less now is lt =
+  pub so_far-less : (now : ℤ) → now ≡ value i → is_lt (int_cmp now least) ≡ true → IsLeastSoFar value begin (i + 1) i now
+  so_far-less now is t =
+      let lt = less now least t in
       record {
         each = λ j from to. elim (cases_eq j i) [
           | inl e ↦ (let same : value j ≡ value i = ap value e in omega (arith, ints, same, is))
@@ -39,10 +49,10 @@ module _ (value : ℕ → ℤ) (begin i place : ℕ) (least : ℤ) (in_order : b
       }
 
   -- one that isn't changes nothing
-  pub so_far-same : (now : ℤ) → now ≡ value i → least ≤ℤ now → IsLeastSoFar value begin (i + 1) place least
-  so_far-same now is ge = record {
+  pub so_far-same : (now : ℤ) → now ≡ value i → is_lt (int_cmp now least) ≡ false → IsLeastSoFar value begin (i + 1) place least
+  so_far-same now is t = record {
     each = λ j from to. elim (cases_eq j i) [
-      | inl e ↦ (let same : value j ≡ value i = ap value e in omega (arith, ints, same, is, ge))
+      | inl e ↦ (let same : value j ≡ value i = ap value e in let ge = not_less now least t in omega (arith, ints, same, is, ge))
       | inr ne ↦ so.each j from (omega (arith, to, ne))
     ];
     first = elim so.first [
@@ -56,20 +66,25 @@ pub so_far-is : (value : ℕ → ℤ) (begin i place place' : ℕ) (least least'
 so_far-is value begin i place place' least least' e f so =
     subst (λ p. IsLeastSoFar value begin i p least') (sym e) (subst (λ x. IsLeastSoFar value begin i place x) (sym f) so)
 
--- what is read of an offer, and its reduced cost
-pub record IsReadAt (prices : List ℤ) (limit : ℕ) (offers : List ArcOffer) (i : ℕ) : Type 0 where
-  pub in_range : i < length offers
-  pub ends : HasPricedEnds (length prices) (get_or offers i no_offer)
-  pub from_small : IsUpTo limit (get_or prices (get_or offers i no_offer).from (pos 0))
-  pub to_small : IsUpTo limit (get_or prices (get_or offers i no_offer).to (pos 0))
+-- what is read of an offer, and that a width of this room holds its reduced cost
+pub record IsReadAt (prices : List ℤ) (room : ℕ) (o : ArcOffer) : Type 0 where
+  pub from : (z : ℤ) → z ≡ get_or prices o.from z → z ≡ get_or prices o.from (pos 0)
+  pub to : (z : ℤ) → z ≡ get_or prices o.to z → z ≡ get_or prices o.to (pos 0)
+  pub less_from : IsUpTo room (o.cost -ℤ get_or prices o.from (pos 0))
+  pub reduced : IsUpTo room (reduced_by prices o)
 
-pub read_at : (prices : List ℤ) (limit : ℕ) (offers : List ArcOffer) (begin end i : ℕ) → CanCompare prices limit offers begin end
-    → begin ≤ i → i < end → IsReadAt prices limit offers i
-read_at prices limit offers begin end i can low high =
+pub read_at : (prices : List ℤ) (room : ℕ) (offers : List ArcOffer) (begin end i : ℕ) → 2 ^ 63 - 1 ≤ room
+    → CanCompare prices (limit_in room) offers begin end → begin ≤ i → i < end → IsReadAt prices room (get_or offers i no_offer)
+read_at prices room offers begin end i least can low high =
+    let o = get_or offers i no_offer in
     let ends = can.ends i low high in
+    let cost = ends.cost in
+    let from = can.small o.from ends.from in
+    let to = can.small o.to ends.to in
+    let fits = limit_fits room least in
     record {
-      in_range = omega (arith, can.high, high);
-      ends = ends;
-      from_small = can.small (get_or offers i no_offer).from ends.from;
-      to_small = can.small (get_or offers i no_offer).to ends.to;
+      from = λ z is. is ∙ get_or_default prices o.from z (pos 0) ends.from;
+      to = λ z is. is ∙ get_or_default prices o.to z (pos 0) ends.to;
+      less_from = (omega (arith, ints, cost, from, fits), omega (arith, ints, cost, from, fits));
+      reduced = (omega (arith, ints, cost, from, to, fits), omega (arith, ints, cost, from, to, fits));
     }

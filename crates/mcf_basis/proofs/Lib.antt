@@ -6,7 +6,6 @@ mod Spreads
 mod Offers
 mod Views
 mod LeastOffers
-mod PriceLists
 mod MostViolated
 pub mod RankLaws
 pub mod LastBases

@@ -1,7 +1,7 @@
 -- The star of the artificial arcs is a basis, and so it is stored.
 use Rattle.std.proofs.Common.{◌≡◌, ◌≢◌, ℕ, zero, suc, ◌+◌, ◌-◌, ◌<◌, inl, inr, false, eqb, List, [], length, map, take, drop, replicate, get_or, refl, sym, ap}
 use Rattle.std.proofs.Common.{◌∙◌, arith, subst, ℤ, pos, neg_ℤ, ◌+ℤ◌, ◌-ℤ◌, length-append, ◌≤◌, ◌++◌, Bool, cond, ◌∷◌, true}
-use Rattle.std.specs.Prelude.{unsigned_abs, int_le, if◌then◌else◌, int_lt, max, sum}
+use Rattle.std.specs.Prelude.{unsigned_abs, int_le, if◌then◌else◌, int_lt, sum}
 use Rattle.std.specs.List.{All, range_with_len}
 use Rattle.std.proofs.lemmas.Bool.{cases_Bool, eq-eqb, cases_lt, cond-true, cond-false}
 use Rattle.std.proofs.lemmas.Bool.Decides.{nat_tests}

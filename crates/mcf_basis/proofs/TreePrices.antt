@@ -1,17 +1,14 @@
 -- Where the prices of a basis lie.
-use Rattle.std.proofs.Common.{◌≡◌, ℕ, zero, suc, ◌+◌, ◌-◌, ◌*◌, ◌<◌, ◌≤◌, ◌⊎◌, inl, inr, List, [], ◌∷◌, length, ap, ◌∙◌, arith, subst, sym, get_or, ℤ, pos}
+use Rattle.std.proofs.Common.{◌≡◌, ℕ, zero, suc, ◌+◌, ◌-◌, ◌*◌, ◌<◌, ◌≤◌, ◌⊎◌, inl, inr, ap, ◌∙◌, arith, subst, sym, ℤ, pos}
 use Rattle.std.proofs.Common.{◌+ℤ◌, ◌-ℤ◌}
-use Rattle.std.specs.Prelude.{unsigned_abs}
-use Rattle.std.specs.List.{All}
 use Rattle.std.proofs.lemmas.Int.{ints}
 use Rattle.std.proofs.Math.Nat.{mul-le-mul, mul-le-mul_left}
 use Rattle.std.proofs.lemmas.Bool.{cases_eq}
-use Rattle.mcf_flows.specs.declared.arc.Arc.{Arc}
-use Rattle.mcf_flows.specs.Limits.{limits, node_limit}
+use Rattle.mcf_flows.specs.Limits.{node_limit}
 use Rattle.mcf_flows.specs.Network.{Network, IsArcNumber, IsNode, node_count}
 use Rattle.mcf_flows.specs.WellFormed.{IsUpTo}
-use Rattle.mcf_flows.proofs.Bounds.{size_up_to, up_to_size}
-use Rattle.mcf_network.specs.Nets.{IsNet, IsNetArc, greatest_cost}
+use Rattle.mcf_flows.proofs.Bounds.{up_to_size}
+use Rattle.mcf_network.specs.Nets.{IsNet, greatest_cost}
 use Rattle.mcf_network.specs.Residual.{no_arc, arc_at}
 use Rattle.mcf_network.proofs.Costs.{greatest_small, size_within}
 use Rattle.mcf_tree.specs.SpanningTree.{depth_of, label_of, parent_of, size_of}

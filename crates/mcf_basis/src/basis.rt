@@ -100,7 +100,7 @@ impl<'n> Basis<'n> {
         ensures small { IsUpTo price_limit result }
         ensures basis { IsBasis self.now }
     {
-        self.table.get(v.get())
+        self.table.get(v.get() as usize)
     }
 
     /// The reduced cost of an arc, at most 7 * 10^36 from 0: its cost, less the price of the node

@@ -20,7 +20,6 @@ mod laws;
 mod least_offer;
 mod offer;
 mod pivot;
-mod price;
 mod price_table;
 mod push;
 mod reprice;

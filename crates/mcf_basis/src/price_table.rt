@@ -12,9 +12,8 @@ ghost use Rattle.mcf_basis.specs.Structures.{price_limit, reduced_limit};
 
 use crate::least_offer::least_offer;
 use crate::offer::ArcOffer;
-use crate::price::Price;
 use crate::reprice::reprice;
-use mcf_numbers::Column;
+use mcf_numbers::{Column, Number};
 use mcf_text::NodeId;
 use std::marker::Model;
 
@@ -34,8 +33,8 @@ pub struct PriceTable {
 // they need one.
 #[derive(Drop)]
 enum PriceColumn {
-    Narrow(Column<i64>, u128),
-    Wide(Column<i128>),
+    Narrow(Column<Number<i64>>, u128),
+    Wide(Column<Number<i128>>),
 }
 
 impl Model for PriceTable {
@@ -54,7 +53,7 @@ impl Model for PriceTable {
 
 impl PriceTable {
     /// A table of prices in 64 bits, each nearer to 0 by this gap; none counts as written.
-    pub fn narrow(prices: Vec<i64>, gap: u128) -> PriceTable
+    pub fn narrow(prices: Vec<Number<i64>>, gap: u128) -> PriceTable
         requires { gap ≤ price_limit }
         ensures { result ≡ record { prices = map (price_by gap) prices.items; priced = 0; limit = narrow_limit + gap; gap = gap } }
     {
@@ -64,7 +63,7 @@ impl PriceTable {
     }
 
     /// A table of prices that may need 128 bits.
-    pub fn wide(prices: Vec<i128>) -> PriceTable
+    pub fn wide(prices: Vec<Number<i128>>) -> PriceTable
         ensures { result ≡ record { prices = prices.items; priced = 0; limit = price_limit; gap = 0 } }
     {
         PriceTable {
@@ -73,13 +72,13 @@ impl PriceTable {
     }
 
     /// The price of a node.
-    pub fn get(&self, v: u32) -> i128
+    pub fn get(&self, v: usize) -> i128
         requires { v < length self.now.prices }
         ensures { result ≡ get_or self.now.prices v (pos 0) }
     {
         match &self.column {
-            PriceColumn::Narrow(prices, gap) => price_by(prices.entries()[v as usize], *gap),
-            PriceColumn::Wide(prices) => prices.entries()[v as usize],
+            PriceColumn::Narrow(prices, gap) => price_by(prices.entries()[v], *gap),
+            PriceColumn::Wide(prices) => prices.entries()[v].wide(),
         }
     }
 
@@ -90,7 +89,7 @@ impl PriceTable {
         ensures value { result ≡ reduced_by self.now.prices offer }
         ensures small { IsUpTo reduced_limit result }
     {
-        i128::from(offer.cost) - self.get(offer.from) + self.get(offer.to)
+        i128::from(offer.cost) - self.get(offer.from as usize) + self.get(offer.to as usize)
     }
 
     /// Of the offers from place `begin` up to but not including `end`, the first one of least
@@ -110,9 +109,8 @@ impl PriceTable {
         requires { length self.now.prices ≡ length prices.old + 1 }
         ensures { prices.new ≡ drop 1 self.now.prices }
     {
-        match &self.column {
-            PriceColumn::Narrow(narrow, gap) => widen(&narrow.entries()[1..], *gap, prices),
-            PriceColumn::Wide(wide) => prices.copy_from_slice(&wide.entries()[1..]),
+        for i in 0..prices.len() {
+            prices[i] = self.get(i + 1);
         }
     }
 
@@ -138,28 +136,20 @@ fn reprice_column(column: &mut PriceColumn, part: &[NodeId], change: i128)
     ensures counted { priced_in column.new ≡ priced_in column.old + length part.now }
 {
     match column {
-        PriceColumn::Narrow(prices, gap) => reprice(prices, part, stored_change(change, *gap)),
-        PriceColumn::Wide(prices) => reprice(prices, part, change),
-    }
-}
-
-// Writes the prices that are stored in 64 bits with this gap.
-fn widen(narrow: &[i64], gap: u128, wide: &mut [i128])
-    requires sizes { length narrow.now ≡ length wide.old }
-    requires gap { gap ≤ price_limit }
-    ensures { wide.new ≡ map (price_by gap) narrow.now }
-{
-    for i in 0..narrow.len() {
-        wide[i] = price_by(narrow[i], gap);
+        PriceColumn::Narrow(prices, gap) => {
+            let change = stored_change(change, *gap) as i64;
+            reprice(prices, part, Number::of(change));
+        }
+        PriceColumn::Wide(prices) => reprice(prices, part, Number::of_wide(change)),
     }
 }
 
 // The price that is stored with this gap.
-fn price_by(stored: i64, gap: u128) -> i128
+fn price_by(stored: Number<i64>, gap: u128) -> i128
     requires { gap ≤ price_limit }
     ensures { result ≡ price_by gap stored }
 {
-    let stored = i128::from(stored);
+    let stored = stored.wide();
     if 0 < stored {
         stored + gap as i128
     } else if stored < 0 {

@@ -1,31 +1,21 @@
 //! The prices of a part of the tree.
 
-ghost use Rattle.std.specs.Prelude.{◌≡◌, ◌+◌, length, set, slice_index_or, pos, ◌+ℤ◌};
-ghost use Rattle.mcf_basis.specs.Private.Turned.{AreRaised, CanRaise, CanRaiseAt};
+ghost use Rattle.std.specs.Prelude.{◌≡◌, ◌+◌, length};
+ghost use Rattle.mcf_basis.specs.Private.Layouts.{limit_in};
+ghost use Rattle.mcf_basis.specs.Private.Turned.{AreRaised, CanRaise};
 
-use crate::price::Price;
-use mcf_numbers::Column;
+use mcf_numbers::{Column, Number, Width};
 use mcf_text::NodeId;
 
 /// Adds a change to the prices of listed nodes.
-pub(crate) fn reprice<P: Price>(prices: &mut Column<P>, part: &[NodeId], change: i128)
-    requires { CanRaise part.now change P.limit (P.values prices.old.entries) }
-    ensures prices { AreRaised part.now change (P.values prices.old.entries) (P.values prices.new.entries) }
+pub(crate) fn reprice<W: Width>(prices: &mut Column<Number<W>>, part: &[NodeId], change: Number<W>)
+    requires { CanRaise part.now change (limit_in W.room) prices.old.entries }
+    ensures prices { AreRaised part.now change prices.old.entries prices.new.entries }
     ensures counted { prices.new.written ≡ prices.old.written + length part.now }
 {
-    let change = P::of(change);
     'part: for v in part {
-        raise(prices, v.get() as usize, change);
+        let place = v.get() as usize;
+        let price = prices.entries()[place].plus(change);
+        prices.write(place, price);
     }
-}
-
-// Adds a change to the price at one place.
-fn raise<P: Price>(prices: &mut Column<P>, place: usize, change: P)
-    requires { CanRaiseAt P.limit (P.value change) (P.values prices.old.entries) place }
-    ensures price { P.values prices.new.entries
-        ≡ set (P.values prices.old.entries) place (slice_index_or (P.values prices.old.entries) place (pos 0) +ℤ P.value change) }
-    ensures counted { prices.new.written ≡ prices.old.written + 1 }
-{
-    let price = prices.entries()[place].raised(change);
-    prices.write(place, price);
 }

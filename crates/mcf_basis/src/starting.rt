@@ -1,8 +1,8 @@
 //! The initial basis of the simplex.
-ghost use Rattle.std.specs.Prelude.{◌≡◌, ℕ, Some, ◌∷◌, ◌≤ℤ◌, IfOk, if◌then◌else◌, int_le, int_lt, length, map, max, min, neg_ℤ, pos, unsigned_abs};
+ghost use Rattle.std.specs.Prelude.{◌≡◌, ℕ, Some, ◌∷◌, IfOk, if◌then◌else◌, int_le, int_lt, length, map, max, min, neg_ℤ, pos, unsigned_abs};
 ghost use Rattle.std.specs.List.{range_with_len};
 ghost use Rattle.mcf_flows.specs.Network.{IsArcNumber, IsNode, at_node, node_count};
-ghost use Rattle.mcf_flows.specs.WellFormed.{weight};
+ghost use Rattle.mcf_flows.specs.WellFormed.{IsUpTo, weight};
 ghost use Rattle.mcf_network.specs.Nets.{IsNet};
 ghost use Rattle.mcf_network.specs.Residual.{arc_at};
 ghost use Rattle.mcf_basis.specs.Artificial.{artificial_cost, is_sender};
@@ -12,11 +12,10 @@ ghost use Rattle.mcf_basis.specs.Starts.{IsStart};
 
 use crate::basis::Basis;
 use crate::offer::ArcOffer;
-use crate::price::Price;
 use crate::price_table::{PriceTable, STAND_IN};
 use crate::residuals::{Residuals, artificial_residuals};
 use mcf_network::Net;
-use mcf_numbers::Count;
+use mcf_numbers::{Count, Number, Width};
 use mcf_text::{ArcId, NoMemory, NodeId};
 use mcf_tree::Tree;
 use std::alloc::Global;
@@ -127,11 +126,12 @@ fn star_table(alloc: Global, net: &Net, cost: i128) -> Result<PriceTable, NoMemo
 {
     match price_gap(net, cost) {
         Some(gap) => {
-            let prices = star_prices(alloc, net, cost - gap as i128)?;
+            let cost = (cost - gap as i128) as i64;
+            let prices = star_prices(alloc, net, Number::of(cost))?;
             Ok(PriceTable::narrow(prices, gap))
         }
         None => {
-            let prices = star_prices(alloc, net, cost)?;
+            let prices = star_prices(alloc, net, Number::of_wide(cost))?;
             Ok(PriceTable::wide(prices))
         }
     }
@@ -155,29 +155,34 @@ fn price_gap(net: &Net, cost: i128) -> Option<u128>
 }
 
 // The prices of that tree if its arcs have this cost.
-fn star_prices<P: Price>(alloc: Global, net: &Net, cost: i128) -> Result<Vec<P>, NoMemory>
-    requires cost { pos 0 ≤ℤ cost }
-    requires room { cost ≤ℤ pos P.limit }
-    ensures { IfOk result (λ made. P.values made.items ≡ prices_of_star net.now cost) }
+fn star_prices<W: Width>(
+    alloc: Global,
+    net: &Net,
+    cost: Number<W>,
+) -> Result<Vec<Number<W>>, NoMemory>
+    requires { IsUpTo W.room cost }
+    ensures { IfOk result (λ made. made.items ≡ prices_of_star net.now cost) }
 {
     let count = net.node_count();
     let mut made = Vec::with_capacity(alloc, count as usize + 1)?;
-    made.push_reserved(P::of(0));
+    made.push_reserved(Number::of(0));
     for i in 0..count {
         let price = star_price(net.supply(NodeId::at(i)), cost);
-        made.push_reserved(P::of(price));
+        made.push_reserved(price);
     }
     Ok(made)
 }
 
 // The price of a node with this supply.
-fn star_price(supply: i128, cost: i128) -> i128
-    requires { pos 0 ≤ℤ cost }
-    ensures value { result ≡ (if int_le (pos 0) supply then cost else neg_ℤ cost) }
-    ensures low { neg_ℤ cost ≤ℤ result }
-    ensures high { result ≤ℤ cost }
+fn star_price<W: Width>(supply: i128, cost: Number<W>) -> Number<W>
+    requires { IsUpTo W.room cost }
+    ensures { result ≡ (if int_le (pos 0) supply then cost else neg_ℤ cost) }
 {
-    if 0 <= supply { cost } else { -cost }
+    if 0 <= supply {
+        cost
+    } else {
+        Number::of(0).minus(cost)
+    }
 }
 
 // The greatest absolute value of a price of a basis of the net, if its artificial arcs have this

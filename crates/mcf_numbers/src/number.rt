@@ -90,6 +90,16 @@ impl Number<i64> {
     }
 }
 
+impl Number<i128> {
+    /// A number of 128 bits.
+    #[inline(always)]
+    pub fn of_wide(number: i128) -> Number<i128>
+        ensures { result ≡ number }
+    {
+        Number { stored: number }
+    }
+}
+
 impl<W: Width> PartialEq for Number<W> {
     ghost eq = { int_eq };
 

@@ -1,6 +1,6 @@
 //! The width of a number.
-ghost use Rattle.std.specs.Prelude.{◌≡◌, ◌^◌, ◌-◌, ℕ, ℤ, ◌+ℤ◌, ◌-ℤ◌};
-ghost use Rattle.std.proofs.Common.{refl};
+ghost use Rattle.std.specs.Prelude.{◌≡◌, ◌^◌, ◌-◌, ◌≤◌, ℕ, ℤ, ◌+ℤ◌, ◌-ℤ◌};
+ghost use Rattle.std.proofs.Common.{arith, refl};
 ghost use Rattle.std.specs.Ordering.{int_cmp};
 ghost use Rattle.mcf_flows.specs.WellFormed.{IsUpTo};
 
@@ -41,6 +41,9 @@ pub trait Width: Copy {
     /// The order of the two.
     fn compare(self, other: Self) -> Ordering
         ensures { result ≡ int_cmp (value self) (value other) };
+
+    // The room is at least that of 64 bits.
+    ghost least_room: { 2 ^ 63 - 1 ≤ room };
 }
 
 impl Width for i64 {
@@ -76,6 +79,8 @@ impl Width for i64 {
     fn compare(self, other: i64) -> Ordering {
         self.cmp(&other)
     }
+
+    ghost least_room = { Prim.omega arith };
 }
 
 impl Width for i128 {
@@ -111,4 +116,6 @@ impl Width for i128 {
     fn compare(self, other: i128) -> Ordering {
         self.cmp(&other)
     }
+
+    ghost least_room = { Prim.omega arith };
 }

@@ -3,4 +3,4 @@ use Rattle.mcf_basis.proofs.LeastOffers.{IsLeastSoFar}
 use Rattle.mcf_basis.proofs.least_offer.least_offer.Given as goal
 
 abbrev pub invariant-offers : goal.invariant-offers
-invariant-offers g l = IsLeastSoFar (reduced_of (g.P.Price.values l.prices) l.offers) l.begin l.i l.place (g.P.Price.value l.least)
+invariant-offers g l = IsLeastSoFar (reduced_of l.prices l.offers) l.begin l.i l.place l.least
