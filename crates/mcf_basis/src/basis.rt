@@ -78,8 +78,6 @@ impl<'n> Basis<'n> {
         ensures value { result ≡ length self.now.tree.moved }
         ensures basis { IsBasis self.now }
     {
-        // Called only for its clause: this is a basis.
-        let _net = self.net();
         self.tree.moved().len()
     }
 
@@ -88,8 +86,6 @@ impl<'n> Basis<'n> {
     pub fn climbed(&self) -> u32
         ensures { IsBasis self.now }
     {
-        // Called only for its clause: this is a basis.
-        let _net = self.net();
         self.climbed
     }
 
@@ -156,8 +152,6 @@ impl<'n> Basis<'n> {
         ensures value { IsMostViolatedPick self.now first end result }
         ensures basis { IsBasis self.now }
     {
-        // Called only for its clause: this is a basis.
-        let _net = self.net();
         let begin = first as usize - 1;
         let place = self
             .table

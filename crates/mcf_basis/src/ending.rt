@@ -41,10 +41,8 @@ impl<'n> Basis<'n> {
         ensures valid { IsPseudoflow state.new }
         ensures basis { IsBasis self.now }
     {
-        // Called only for its clause: this is a basis.
-        let _net = self.net();
         write_outside(self.net, &self.offers, state);
-        write_tree(self.net, &self.tree, &self.residuals, state);
+        write_tree(&self.tree, &self.residuals, state);
     }
 
     /// Whether no artificial arc carries anything, so that the flow is one of the net.
@@ -52,8 +50,6 @@ impl<'n> Basis<'n> {
         ensures value { IsTrue result ↔ HasNoArtificial self.now }
         ensures basis { IsBasis self.now }
     {
-        // Called only for its clause: this is a basis.
-        let _net = self.net();
         all_zero(&self.artificial)
     }
 
@@ -62,8 +58,6 @@ impl<'n> Basis<'n> {
     pub fn loaded_count(&self) -> usize
         ensures { IsBasis self.now }
     {
-        // Called only for its clause: this is a basis.
-        let _net = self.net();
         loaded(&self.artificial)
     }
 
@@ -75,8 +69,6 @@ impl<'n> Basis<'n> {
         ensures small { All (IsUpTo price_limit) prices.new }
         ensures basis { IsBasis self.now }
     {
-        // Called only for its clause: this is a basis.
-        let _net = self.net();
         self.table.write_nodes(prices);
     }
 
@@ -162,24 +154,22 @@ fn amount_outside(net: &Net, offer: ArcOffer, k: ArcId) -> i128
 }
 
 // Writes the amount of each arc of the net that is in the tree.
-fn write_tree(net: &Net, tree: &Tree, residuals: &[Residuals], state: &mut State<'_>)
-    requires net { state.old.net ≡ net.now }
-    requires size { size_of tree.now ≡ node_count net.now + 1 }
-    requires residuals { length residuals.now ≡ node_count net.now + 1 }
-    requires low { (v : ℕ) → IsNode (node_count net.now) v → 1 ≤ label_of tree.now v }
-    requires apart { (u v : ℕ) → IsNode (node_count net.now) u → IsNode (node_count net.now) v → label_of tree.now u ≡ label_of tree.now v → u ≡ v }
-    requires widths { (v : ℕ) → IsNode (node_count net.now) v → label_of tree.now v ≤ length net.now.arcs
-        → pos ((slice_index_or residuals.now v no_residuals).up + (slice_index_or residuals.now v no_residuals).down) ≡ (arc_at net.now (label_of tree.now v)).cap }
-    ensures net { state.new.net ≡ net.now }
+fn write_tree(tree: &Tree, residuals: &[Residuals], state: &mut State<'_>)
+    requires size { size_of tree.now ≡ node_count state.old.net + 1 }
+    requires residuals { length residuals.now ≡ node_count state.old.net + 1 }
+    requires low { (v : ℕ) → IsNode (node_count state.old.net) v → 1 ≤ label_of tree.now v }
+    requires apart { (u v : ℕ) → IsNode (node_count state.old.net) u → IsNode (node_count state.old.net) v → label_of tree.now u ≡ label_of tree.now v → u ≡ v }
+    requires widths { (v : ℕ) → IsNode (node_count state.old.net) v → label_of tree.now v ≤ length state.old.net.arcs
+        → pos ((slice_index_or residuals.now v no_residuals).up + (slice_index_or residuals.now v no_residuals).down) ≡ (arc_at state.old.net (label_of tree.now v)).cap }
+    ensures net { state.new.net ≡ state.old.net }
     ensures valid { IsPseudoflow state.new }
-    ensures inside { (v : ℕ) → IsNode (node_count net.now) v → label_of tree.now v ≤ length net.now.arcs → amount_at state.new (label_of tree.now v)
-        ≡ (if (arc_at net.now (label_of tree.now v)).src == v then pos (slice_index_or residuals.now v no_residuals).down
+    ensures inside { (v : ℕ) → IsNode (node_count state.old.net) v → label_of tree.now v ≤ length state.old.net.arcs → amount_at state.new (label_of tree.now v)
+        ≡ (if (arc_at state.old.net (label_of tree.now v)).src == v then pos (slice_index_or residuals.now v no_residuals).down
         else pos (slice_index_or residuals.now v no_residuals).up) }
-    ensures outside { (k : ℕ) → IsArcNumber net.now k → ((v : ℕ) → IsNode (node_count net.now) v → label_of tree.now v ≢ k)
+    ensures outside { (k : ℕ) → IsArcNumber state.old.net k → ((v : ℕ) → IsNode (node_count state.old.net) v → label_of tree.now v ≢ k)
         → amount_at state.new k ≡ amount_at state.old k }
 {
-    // Called only for its clause: each amount lies between 0 and the width of its arc.
-    let _net = state.net();
+    let net = state.net();
     for i in 0..net.node_count() {
         let v = NodeId::at(i);
         write_inside(
