@@ -15,7 +15,7 @@ pub(crate) fn is_narrow(net: &Net, greatest: u128) -> bool
     requires { greatest ≡ greatest_cost net.now }
     ensures { result ≡ true → HasWidth (2 ^ 63 - 1) net.now }
 {
-    64 * path_cost(net, greatest) <= MOST
+    64 * path_cost(net, greatest) <= i64::MAX as u128
 }
 
 // The greatest cost of a path, by the greatest cost of an arc.
@@ -68,6 +68,3 @@ pub(crate) fn widen<W: Width>(wide: &mut [i128], prices: &[Number<W>])
         wide[i] = prices[i].wide();
     }
 }
-
-// The greatest number of 64 bits.
-const MOST: u128 = (1 << 63) - 1;
