@@ -231,10 +231,19 @@ export function csvOf({ heads, rows, like, figures }, mark) {
   return `${like.mark ? '\ufeff' : ''}${named}${lines.join('\n')}\n`;
 }
 
-// This function lists likely mistakes in tables that can be read.
+// This function says whether a row of places has stock before the first period, or after the last.
+/** @type {(table: import('./tables.js').Table) => boolean} */
+function hasStock(table) {
+  const read = table.reader(['first stock', 'last stock']);
+  return table.rows.some(({ cells }) => read(cells).some((cell) => /[^0]/.test(cell)));
+}
+
+// This function lists likely mistakes in tables that can be read. Stock counts in the supplies of
+// the problem, so it leaves nothing to say.
 /** @type {(problem: Problem, policy: Policy) => string[]} */
 export function slips(problem, policy) {
   const [supply, demand] = balanceOf(problem), { places, placeTable } = problem;
+  if (hasStock(placeTable)) return [];
   if (supply && !demand) {
     const stays = policy.unused ? ', and all that is sent stays' : '';
     return [

@@ -89,7 +89,7 @@ const SENTENCES = {
       + 'smaller lead',
   'a penalty, but a supply above 0':
     'a penalty is the cost of what is missing, and this place sends: leave the cell empty; or '
-      + 'is the sign of the supply wrong?',
+      + 'is the sign of the supply wrong?{firstStock}',
   'no penalty, but other places have one':
     'this is empty, and other places have a penalty: give each place that takes one, '
       + '{ofAll}{stock}',
@@ -132,6 +132,9 @@ const NOTHING =
     + 'column';
 // What is wrong with a title that isn't read, and the head that it is about.
 const TITLE = /^(nearly|not read without) (.*)$/;
+// A reminder that a first stock counts among supplies.
+const FIRST_STOCK = ' Less the demand of the first period, a first stock is a supply: write a line '
+  + 'for each period, the first one without a penalty';
 // The heads of numbers.
 /** @type {Record<string, RegExp>} */
 const NUMBERS = {
@@ -284,6 +287,7 @@ export class Teller {
       wishes: () => this.wishes(word),
       range: word === 'costs' && !isList(table) && RANGE.test(cell) ? NUMBERED : '',
       stock: table.reader(['last stock'])(row)[0] ? '; a last stock is a demand, too' : '',
+      firstStock: table.reader(['first stock'])(row)[0] ? FIRST_STOCK : '',
       meant: shown(meant),
       heads: listed(table.titles.map(shown)),
       separator: shown(table.separator),

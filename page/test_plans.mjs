@@ -292,6 +292,20 @@ async function summed(expect, solver) {
   );
 }
 
+// Stock may leave no supply, or no demand; no sign is wrong then.
+async function stocked(expect, solver) {
+  const routes = { name: 'routes', text: 'from,to,most,cost\nShop,Shop,,1\n' };
+  for (const rows of ['Shop,May,-3,3,\nShop,June,-2,,\n', 'Shop,May,5,,\nShop,June,3,,3\n']) {
+    const places = {
+      name: 'places',
+      text: `name,period,supply,first stock,last stock\n${rows}`,
+    };
+    const choices = asked(['--short', 'allow', '--unused', 'allow']);
+    const { said, status } = await told('flow', solver, [places, routes], choices);
+    expect(status === 0 && !said.includes('warning'), `stock: ${said}`);
+  }
+}
+
 // The mark before decimals of a table doesn't change points in the names of its periods.
 async function pointed(expect, solver) {
   const sources = [
@@ -378,6 +392,7 @@ export default async function test(expect) {
   await mapped(expect, solver);
   await hinted(expect, solver);
   await summed(expect, solver);
+  await stocked(expect, solver);
   await pointed(expect, solver);
   await unitsOverPeriods(expect, solver);
   for (const name of fs.readdirSync(plans)

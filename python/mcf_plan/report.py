@@ -15,6 +15,7 @@ from .results import (
 )
 from .words import TOLD_NAMES, count_of, listed
 
+STOCK_HEADS = ("first stock", "last stock")
 # A range that isn't told.
 UNKNOWN = "unknown"
 RANGES = (
@@ -141,7 +142,11 @@ def arc_cells(crossing):
 
 
 def slips(problem):
-    """Likely slips in tables that are readable."""
+    """Likely slips in tables that are readable. Stock counts in the supplies of the answer, so it
+    leaves nothing to say."""
+    column = problem.place_sheet.place("supply")
+    if has_stock(problem):
+        return []
     if problem.supply and not problem.demand:
         stays = ", and all that is sent stays" if problem.unused else ""
         return [
@@ -154,12 +159,18 @@ def slips(problem):
             f"no supply is above 0, so no place sends anything{lacks}: was supply written as a"
             " negative number?"
         ]
-    column = problem.place_sheet.place("supply")
     if not problem.supply and not all(cell_at(one.cells, column) for one in problem.places):
         return [
             "all supplies are empty or 0, so no place sends or takes anything: was one forgotten?"
         ]
     return []
+
+
+def has_stock(problem):
+    """Whether a row of places has stock before the first period, or after the last."""
+    places = [problem.place_sheet.place(head) for head in STOCK_HEADS]
+    cells = (cell_at(cells, place) for _, cells in problem.place_sheet.rows for place in places)
+    return any(cell.strip("0") for cell in cells)
 
 
 def balance_sentence(problem):

@@ -99,7 +99,7 @@ SENTENCES = {
     ),
     "a penalty, but a supply above 0": (
         "a penalty is the cost of what is missing, and this place sends: leave the cell empty; or"
-        " is the sign of the supply wrong?"
+        " is the sign of the supply wrong?{stock}"
     ),
     "no penalty, but other places have one": (
         "this is empty, and other places have a penalty: give each place that takes one, or say"
@@ -143,6 +143,20 @@ SENTENCES = {
     "no group": "there is no line below the heads, and so no group",
     "no thing": "no thing" + NOTHING,
     "no person": "no person" + NOTHING,
+}
+# Reminders that stock counts among supplies and demands, by faults, with the head of the stock.
+STOCK = {
+    "a penalty, but a supply above 0": (
+        "first stock",
+        (
+            " Less the demand of the first period, a first stock is a supply: write a line for each"
+            " period, the first one without a penalty"
+        ),
+    ),
+    "no penalty, but other places have one": (
+        "last stock",
+        "; a last stock is a demand, too",
+    ),
 }
 RANGE = re.compile("[0-9]+ ?([.][.]|-|–) ?[0-9]+")
 DATE = re.compile(r"[0-9]{4}-|\.\s?\w{3}")
@@ -244,7 +258,7 @@ class Teller:
             "other": lambda: self.other(mark_in(cell)),
             "near": lambda: self.near_name(cell, column),
             "other_group": lambda: shown(self.crossed[line]),
-            "stock": lambda: self.stock(sheet, row),
+            "stock": lambda: stock_hint(sheet, row, what),
             "date": lambda: "; was it taken for a date?" if DATE.search(cell) else "",
             "merged": lambda: self.merged(word, line, column),
             "wishes": lambda: self.wishes(word),
@@ -334,17 +348,18 @@ class Teller:
         is_range = word == "costs" and not is_list(self.sheets[word]) and RANGE.fullmatch(cell)
         return NUMBERED if is_range else ""
 
-    def stock(self, sheet, row):
-        """A reminder that a last stock counts among demands, if a row of places has one."""
-        place = sheet.place("last stock")
-        return "; a last stock is a demand, too" if cell_at(row, place) else ""
-
     def wishes(self, word):
         """A hint at a sheet of wishes, if most filled cells of a matrix are words."""
         sheet = self.sheets[word]
         cells = [cell for _, row in sheet.rows for cell in row[1:] if cell.lower() not in FORBIDDEN]
         are_words = 2 * sum(cell[:1].isalpha() for cell in cells) > len(cells)
         return WISHES if word == "costs" and not is_list(sheet) and are_words else ""
+
+
+def stock_hint(sheet, row, what):
+    """A reminder of how stock counts, if a row of places has some that the fault is about."""
+    head, text = STOCK[what]
+    return text if cell_at(row, sheet.place(head)) else ""
 
 
 def has_letter(cell):

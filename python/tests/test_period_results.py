@@ -161,6 +161,17 @@ class Periods(WithFolder):
             },
         )
 
+    def test_stock_is_no_slip(self):
+        """The demand of May is met from stock, so that no supply is left; what is left of June's
+        supply is stock."""
+        routes = "from,to,most,cost\nShop,Shop,,1\n"
+        for rows in ("Shop,May,-3,3,\nShop,June,-2,,\n", "Shop,May,5,,\nShop,June,3,,3\n"):
+            with self.subTest(rows=rows):
+                places = f"name,period,supply,first stock,last stock\n{rows}"
+                words = ["--short", "allow", "--unused", "allow"]
+                status, _, told = self.flow(places, routes, *words)
+                self.assertEqual((status, told), (0, ""))
+
     def test_what_is_kept(self):
         places = PLACES.replace("May,-60", "May,-10").replace("July,-100", "July,-140")
         status, said, told = self.flow(places, ROUTES, "--unused", "allow")
