@@ -2,7 +2,7 @@
 import re
 
 from . import asked, flowpage, groups, life, notes, pairs, pairspage, picture, report, scene, sums
-from .answer import answer_to
+from .answer import answer_to, cell_at
 from .bottlenecks import Blocked
 from .caption import caption_of
 from .faults import Faults, Stop
@@ -119,6 +119,14 @@ def policy_words(unused, short, penalty):
     return words + (["--penalty", penalty] if short and penalty else [])
 
 
+def check_most_flow(problem, options):
+    """Refuses penalties of places beside --most-flow: by them, less than the most may flow."""
+    sheet = problem.place_sheet
+    if options.most_flow and any(cell_at(row, sheet.place("penalty")) for _, row in sheet.rows):
+        told = "--most-flow: places have penalties, by which less than the most may flow: leave out"
+        raise Stop(f"{told} the column penalty, or say --unused allow --short allow", 2)
+
+
 def flow_command(options, reading):
     """Runs `flow`: returns the lines of the summary and the status."""
     if options.penalty is not None and options.short != "allow":
@@ -133,6 +141,7 @@ def flow_command(options, reading):
     with results_in(options.folder) as folder:
         found = asking.write(folder)
         problem = problem_of(found, asking.tables, options)
+        check_most_flow(problem, options)
         life.warn(report.slips(problem))
         columns = sums.columns_named(options.by, sums.tables_of(problem))
         results = Results(folder, options, problem.mark, asking.tables)

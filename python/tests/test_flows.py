@@ -307,6 +307,17 @@ class Unbalanced(WithFolder):
         for text in ("cost 29.", "1 stay at: A 1.", "6 are missing at: C 6."):
             self.assertIn(text, said)
 
+    def test_as_much_as_can_be_beside_penalties(self):
+        """At a penalty of 1, nothing is sent over a route that costs 4."""
+        places = "name,supply,penalty\nA,9,\nB,-5,1\n"
+        routes = "from,to,most,cost\nA,B,3,4\n"
+        status, said, told = self.flow(places, routes, "--most-flow")
+        self.assertEqual((status, said, self.out.exists()), (2, "", False))
+        self.assertIn("mcf_plan: --most-flow: places have penalties", told)
+        status, said, _ = self.flow(places.replace("5,1", "5,"), routes, "--most-flow")
+        self.assertEqual(status, 0)
+        self.assertIn("2 are missing at: B 2.", said)
+
     def test_a_bottleneck_beside_the_balance(self):
         places, routes = "name,supply\nA,9\nB,-5\nC,-9\n", "from,to,most,cost\nA,B,4,1\nA,C,9,1\n"
         status, said, _ = self.flow(places, routes)
