@@ -67,7 +67,8 @@ def linear_sum_assignment(
     Parameters
     ----------
     cost_matrix : sequence of sequences, or array
-        The cost of matching each row with each column. An infinite entry forbids a pair.
+        The cost of matching each row with each column. An infinite entry forbids a pair; if the
+        cost is maximized, minus infinity does.
     maximize : bool
         Whether to find the greatest cost instead of the least.
     engine : {'auto', 'sap', 'simplex', 'scaling', 'fast', 'cancel'}
@@ -86,8 +87,8 @@ def linear_sum_assignment(
     Raises
     ------
     ValueError
-        No matching covers all rows or all columns without an infinite entry; or `cost_matrix` isn't
-        a matrix.
+        No matching covers all rows or all columns without an infinite entry; or an entry is a NaN,
+        or the infinity that forbids nothing; or `cost_matrix` isn't a matrix.
     Refused
         A scaled entry is beyond 10^15.
     TypeError
