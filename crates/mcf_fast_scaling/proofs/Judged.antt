@@ -2,12 +2,11 @@
 use Rattle.std.proofs.Common.{◌≡◌, ℕ, ◌+◌, ◌-◌, ◌<◌, List, length, get_or, sym, ◌∙◌, arith, inl, inr, refl, subst, ℤ, pos}
 use Rattle.std.specs.Prelude.{◌<ℤ◌}
 use Rattle.std.proofs.lemmas.Int.{ints}
-use Rattle.std.specs.List.{All}
 use Rattle.std.proofs.lemmas.List.{get_or_default}
 use Rattle.std.proofs.lemmas.Bool.{cases_eq}
 use Rattle.mcf_flows.specs.declared.arc.Arc.{Arc}
 use Rattle.mcf_flows.specs.Flow.{IsComplementary, Shows, reduced_cost}
-use Rattle.mcf_flows.specs.Network.{Network, IsArcNumber, IsNode, node_count}
+use Rattle.mcf_flows.specs.Network.{Network, IsArcNumber, IsNode}
 use Rattle.mcf_flows.specs.WellFormed.{IsUpTo}
 use Rattle.mcf_flows.proofs.AllZips.{AllZip_from}
 use Rattle.mcf_flows.proofs.Duality.{shown_flows_are_least_lem}
@@ -16,9 +15,8 @@ use Rattle.mcf_network.specs.Residual.{no_arc, arc_at}
 use Rattle.mcf_network.specs.States.{HasNoSurplus, IsPseudoflow, Pseudoflow, amount_at}
 use Rattle.mcf_network.proofs.ArcLaws.{amount_count, net_arc_at}
 use Rattle.mcf_network.proofs.StuckLaws.{feasible_of_state}
-use Rattle.mcf_engine.specs.NearPrices.{AreNearPrices, near_limit}
+use Rattle.mcf_engine.specs.NearPrices.{near_limit}
 use Rattle.mcf_engine.specs.Outcomes.{IsLeastState}
-use Rattle.mcf_engine.proofs.NearLaws.{shown_near}
 
 -- a fact of each number up to one, and of the next
 pub every_next : (P : ℕ → Type 0) (n m : ℕ) → m ≡ n + 1 → ((v : ℕ) → IsNode n v → P v) → P m → (v : ℕ) → IsNode (n + 1) v → P v
@@ -50,10 +48,6 @@ least_judged s prices ok none shown =
       least = shown_flows_are_least_lem s.net prices s.amounts ok.of_net.ends (feasible_of_state s ok none) shown;
     }
 
-pub near_judged : (s : Pseudoflow) (prices : List ℤ) → IsPseudoflow s → length prices ≡ node_count s.net → All (IsUpTo near_limit) prices
-    → Shows s.net.arcs prices s.amounts → AreNearPrices s 1 0 prices
-near_judged s prices ok count small shown = shown_near s prices ok count small shown
-
 -- an arc of a net whose amount fits its reduced cost
 pub complementary : (prices : List ℤ) (a : Arc) (f reduced amount width : ℤ) → IsNetArc a → reduced ≡ reduced_cost prices a → amount ≡ f → width ≡ a.cap
     → (pos 0 <ℤ reduced → amount ≡ pos 0) → (reduced <ℤ pos 0 → amount ≡ width) → IsComplementary prices a f
@@ -66,6 +60,4 @@ complementary prices a f reduced amount width arc here there wide above below = 
 pub cost_near : (g : Network) (k : ℕ) (cost : ℤ) → IsNet g → IsArcNumber g k → cost ≡ (arc_at g k).cost → IsUpTo near_limit cost
 cost_near g k cost ok arc e =
     let small = (net_arc_at g k ok arc).cost_small in
-    let low = small.0 in
-    let high = small.1 in
-    (omega (arith, ints, low, e), omega (arith, ints, high, e))
+    (omega (arith, ints, small.0, e), omega (arith, ints, small.1, e))

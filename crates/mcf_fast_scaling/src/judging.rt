@@ -9,14 +9,19 @@ ghost use Rattle.mcf_network.specs.States.{HasNoSurplus, IsPseudoflow, amount_at
 ghost use Rattle.mcf_engine.specs.NearPrices.{AreNearPrices, near_limit};
 ghost use Rattle.mcf_engine.specs.Outcomes.{IsLeastState};
 
-use crate::search::Search;
-use mcf_columns::at;
+use crate::star::Star;
+use mcf_columns::{count_up, narrow};
 use mcf_network::{Net, Rid, State};
 use mcf_text::{ArcId, NodeId};
 
 /// Writes the result of a search into a state, and returns whether it is a least flow that the
-/// prices show.
-pub(crate) fn judge(search: &mut Search, state: &mut State<'_>, prices: &mut [i128]) -> bool
+/// prices show. `nexts` is a table of the nodes.
+pub(crate) fn judge(
+    star: &Star,
+    nexts: &mut [u32],
+    state: &mut State<'_>,
+    prices: &mut [i128],
+) -> bool
     requires count { length prices.old ≡ node_count state.old.net }
     requires small { All (IsUpTo near_limit) prices.old }
     ensures net { state.new.net ≡ state.old.net }
@@ -24,8 +29,8 @@ pub(crate) fn judge(search: &mut Search, state: &mut State<'_>, prices: &mut [i1
     ensures least { result ≡ true → IsLeastState state.old.net state.new }
     ensures near { result ≡ true → AreNearPrices state.new 1 0 prices.new }
 {
-    carry_all(search, state);
-    write_prices(search, prices);
+    carry_all(star, nexts, state);
+    write_prices(star, prices);
     is_shown(state, prices)
 }
 
@@ -41,17 +46,19 @@ pub fn is_shown(state: &State<'_>, prices: &[i128]) -> bool
     has_no_surplus(state) && shows(state, prices)
 }
 
-// Sets the amount of each arc to that of the search.
-fn carry_all(search: &mut Search, state: &mut State<'_>)
+// Sets the amount of each arc to that of the search, whose forward arcs of each node lie in the
+// order of the net.
+fn carry_all(star: &Star, nexts: &mut [u32], state: &mut State<'_>)
     ensures net { state.new.net ≡ state.old.net }
     ensures flow { IsPseudoflow state.new }
 {
     let net = state.net();
+    star.write_firsts(nexts, 0);
     'arcs: for number in 0..net.arc_count() {
         let arc = ArcId::at(number);
         let (src, dst) = net.ends(arc);
         if src != dst {
-            leave(state, arc, search.next_room(src.get() - 1));
+            leave(state, arc, star.room(count_up(nexts, src.get() - 1)));
         }
     }
 }
@@ -69,14 +76,13 @@ fn leave(state: &mut State<'_>, arc: ArcId, left: i64)
 }
 
 // Writes the price of each node: the negative of the search's price.
-fn write_prices(search: &Search, prices: &mut [i128])
+fn write_prices(star: &Star, prices: &mut [i128])
     requires small { All (IsUpTo near_limit) prices.old }
     ensures count { length prices.new ≡ length prices.old }
     ensures small { All (IsUpTo near_limit) prices.new }
 {
     'nodes: for i in 0..prices.len() {
-        let number = i.min(u32::MAX as usize) as u32;
-        prices[i] = -i128::from(at(&search.star.prices, number, 0));
+        prices[i] = -i128::from(star.price(narrow(i)));
     }
 }
 
@@ -152,16 +158,7 @@ fn reduced_of(net: &Net, prices: &[i128], k: ArcId) -> i128
     ensures { result ≡ reduced_cost prices.now (arc_at net.now k) }
 {
     let (src, dst) = net.ends(k);
-    cost_of(net, k) - price_of(prices, src) + price_of(prices, dst)
-}
-
-// The cost of an arc.
-fn cost_of(net: &Net, k: ArcId) -> i128
-    requires { IsArcNumber net.now k }
-    ensures value { result ≡ (arc_at net.now k).cost }
-    ensures small { IsUpTo near_limit result }
-{
-    net.cost(k)
+    net.cost(k) - price_of(prices, src) + price_of(prices, dst)
 }
 
 // The price of a node.

@@ -6,7 +6,7 @@
 //! It builds on `mcf_network`, `mcf_engine` and `mcf_columns`. The numbers that tune its speed
 //! stand in `tuning`.
 
-mod finish;
+mod budget;
 mod judging;
 mod phase;
 mod refinement;

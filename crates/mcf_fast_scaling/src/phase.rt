@@ -1,7 +1,8 @@
 //! A phase: the flow becomes optimal within the slack, and balanced.
 
-use crate::search::Search;
-use crate::star::{LIMIT, NOTHING};
+use crate::spreading::Update;
+use crate::star::{NOTHING, Star};
+use crate::tables::{Buckets, Queue};
 use crate::tuning::{MOST_ARCS, MOST_NODES};
 use mcf_columns::{NOWHERE, at, put};
 
@@ -28,13 +29,27 @@ impl Path {
     }
 }
 
-impl Search {
-    /// Fills what is far from optimal, and augments the flow until no node is active. It says no
-    /// where some surplus can't go anywhere, and where it takes too long.
-    pub(crate) fn run_phase(&mut self) -> bool {
+/// A phase that augments the flow along paths. It begins with an empty queue, and ends with one if
+/// it succeeds.
+#[derive(Drop)]
+pub(crate) struct Phase<'a> {
+    pub(crate) star: &'a mut Star,
+    // for each node the place of its current arc
+    pub(crate) currents: &'a mut [u32],
+    // the active nodes: those with a surplus
+    pub(crate) queue: &'a mut Queue,
+    pub(crate) buckets: &'a mut Buckets,
+    // how often prices were lowered since the last update
+    pub(crate) relabels: u32,
+}
+
+impl Phase<'_> {
+    /// Fills what is far from optimal, and augments the flow until no node is active. It returns
+    /// false where some surplus can't go anywhere, and where it takes too long.
+    pub(crate) fn run(&mut self) -> bool {
+        self.star.write_firsts(self.currents, 0);
         self.fill_all();
         self.queue_active();
-        self.relabels = 0;
         'nodes: for _ in 0..u64::MAX {
             let Some(node) = self.queue.pop() else {
                 return true;
@@ -46,37 +61,34 @@ impl Search {
         false
     }
 
-    // Fills each residual arc whose reduced cost is further below 0 than the slack, and lets each
-    // node begin with its first arc.
+    // Fills each residual arc whose reduced cost is further below 0 than the slack.
     fn fill_all(&mut self) {
-        self.star.write_firsts(&mut self.currents, 0);
-        'nodes: for node in 0..self.node_count() {
+        'nodes: for node in 0..self.star.node_count() {
             self.fill(node);
-        }
-    }
-
-    // Lets the nodes with a surplus wait, in their order, and no others.
-    fn queue_active(&mut self) {
-        self.queue.clear();
-        'nodes: for node in 0..self.node_count() {
-            if at(&self.surpluses, node, 0) > 0 {
-                self.queue.push(node);
-            }
         }
     }
 
     // Fills those that leave a node.
     fn fill(&mut self, node: u32) {
         let least = self.star.slack().wrapping_neg();
-        let mut from = self.star.first(node);
-        self.pay_degree(node);
+        let (mut from, end) = (self.star.first(node), self.star.end(node));
+        self.star.pay_degree(node);
         'arcs: for _ in 0..u32::MAX {
-            let Some(arc) = self.star.first_below(node, from, least) else {
+            let Some(arc) = self.star.seek(node, from, end, least).0 else {
                 break;
             };
             let room = self.star.room(arc.place);
-            self.push(arc.place, node, arc.head, room);
+            self.star.push_along(arc.place, node, arc.head, room);
             from = arc.place.wrapping_add(1);
+        }
+    }
+
+    // Lets the active nodes wait, in their order.
+    fn queue_active(&mut self) {
+        'nodes: for node in 0..self.star.node_count() {
+            if self.star.surplus(node) > 0 {
+                self.queue.push(node);
+            }
         }
     }
 
@@ -84,7 +96,7 @@ impl Search {
     // the queue, so that none starves the others.
     fn discharge(&mut self, node: u32) -> bool {
         'paths: for _ in 0..u64::MAX {
-            if at(&self.surpluses, node, 0) <= 0 {
+            if self.star.surplus(node) <= 0 {
                 return true;
             }
             let mut path = Path {
@@ -92,12 +104,11 @@ impl Search {
                 nodes: [node; MOST_NODES],
                 len: 0,
             };
-            if self.work > self.budget || !self.extend(&mut path) {
+            if self.star.budget.is_spent() || !self.extend(&mut path) {
                 return false;
             }
             self.augment(&path);
-            if self.relabels > self.most_relabels {
-                self.relabels = 0;
+            if self.is_late() {
                 self.queue.push(node);
                 return self.update_prices();
             }
@@ -109,18 +120,18 @@ impl Search {
     fn extend(&mut self, path: &mut Path) -> bool {
         'arcs: for _ in 0..u32::MAX {
             let tip = path.tip();
-            let is_over = path.len as usize >= MOST_ARCS || self.relabels > self.most_relabels;
-            if is_over || at(&self.surpluses, tip, 0) < 0 {
+            let is_over = path.len as usize >= MOST_ARCS || self.is_late();
+            if is_over || self.star.surplus(tip) < 0 {
                 return true;
             }
-            let current = at(&self.currents, tip, 0);
+            let current = at(self.currents, tip, 0);
             let (found, least) = self.star.seek(tip, current, self.star.end(tip), 0);
             if let Some(arc) = found {
-                self.pay(current, arc.place);
-                put(&mut self.currents, tip, arc.place);
+                self.star.budget.pay(arc.place.wrapping_sub(current));
+                put(self.currents, tip, arc.place);
                 path.push(arc.place, arc.head);
             } else {
-                self.pay_degree(tip);
+                self.star.pay_degree(tip);
                 let (_, before) = self.star.seek(tip, self.star.first(tip), current, 0);
                 if !self.relabel(path, least.min(before)) {
                     return false;
@@ -140,36 +151,40 @@ impl Search {
         let tip = path.tip();
         path.len = path.len.saturating_sub(1);
         let fall = if least == NOTHING { 0 } else { least };
-        let (first, price) = (self.star.first(tip), self.star.price(tip));
-        let lowered = price.wrapping_sub(fall).wrapping_sub(self.star.slack());
+        let lowered = self.star.price(tip).wrapping_sub(fall);
+        let lowered = lowered.wrapping_sub(self.star.slack());
         self.relabels = self.relabels.wrapping_add(1);
-        put(&mut self.star.prices, tip, lowered);
-        put(&mut self.currents, tip, first);
-        lowered >= LIMIT.wrapping_neg()
+        put(self.currents, tip, self.star.first(tip));
+        self.star.set_price(tip, lowered)
     }
 
-    // Pushes along each arc of a path in turn, as much as its tail has and it has room for.
+    // Whether an update of all prices is due.
+    fn is_late(&self) -> bool {
+        self.relabels > self.star.node_count() / 5 * 2
+    }
+
+    // Updates all prices. Each node begins with its first arc then.
+    fn update_prices(&mut self) -> bool {
+        self.relabels = 0;
+        self.star.write_firsts(self.currents, 0);
+        let mut update = Update {
+            star: self.star,
+            buckets: self.buckets,
+        };
+        update.raise_prices()
+    }
+
+    // Pushes along each arc of a path in turn, as much as its tail has and it has room for. Its
+    // head waits then if it has a surplus.
     fn augment(&mut self, path: &Path) {
         'arcs: for i in 0..path.len {
             let place = at(&path.places, i, NOWHERE);
             let from = at(&path.nodes, i, NOWHERE);
             let to = at(&path.nodes, i.wrapping_add(1), NOWHERE);
-            let amount = at(&self.surpluses, from, 0).min(self.star.room(place));
-            if amount > 0 {
-                self.push(place, from, to, amount);
+            let amount = self.star.surplus(from).min(self.star.room(place));
+            if amount > 0 && self.star.push_along(place, from, to, amount) > 0 {
+                self.queue.push(to);
             }
-        }
-    }
-
-    // Pushes an amount along a residual arc. Its head waits then if it has a surplus.
-    fn push(&mut self, place: u32, from: u32, to: u32, amount: i64) {
-        let left = at(&self.surpluses, from, 0).wrapping_sub(amount);
-        put(&mut self.surpluses, from, left);
-        let more = at(&self.surpluses, to, 0).wrapping_add(amount);
-        put(&mut self.surpluses, to, more);
-        self.star.send(place, amount);
-        if more > 0 {
-            self.queue.push(to);
         }
     }
 }

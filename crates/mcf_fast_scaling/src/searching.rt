@@ -102,7 +102,10 @@ fn find(
     ensures least { result ≡ true → IsLeastState state.old.net state.new }
     ensures prices { result ≡ true → AreStatePrices state.old.net state.new prices.new }
 {
-    if !search.run() || !judge(search, state, prices) {
+    let Some((star, nexts)) = search.run() else {
+        return false;
+    };
+    if !judge(star, nexts, state, prices) {
         return false;
     }
     pricer.raise(state, 1, 0, prices);

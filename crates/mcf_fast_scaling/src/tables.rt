@@ -9,7 +9,7 @@ use std::alloc::Global;
 /// to itself.
 #[derive(Drop)]
 pub(crate) struct Queue {
-    pub(crate) nexts: Vec<u32>,
+    nexts: Vec<u32>,
     first: u32,
     last: u32,
 }
@@ -22,12 +22,6 @@ impl Queue {
             first: NOWHERE,
             last: NOWHERE,
         })
-    }
-
-    /// Empties the queue.
-    pub(crate) fn clear(&mut self) {
-        self.nexts.as_mut_slice().fill(NOWHERE);
-        self.first = NOWHERE;
     }
 
     /// Queues a node, unless it is queued.

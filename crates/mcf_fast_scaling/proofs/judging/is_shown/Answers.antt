@@ -1,4 +1,5 @@
-use Rattle.mcf_fast_scaling.proofs.Judged.{least_judged, near_judged}
+use Rattle.mcf_engine.proofs.NearLaws.{shown_near}
+use Rattle.mcf_fast_scaling.proofs.Judged.{least_judged}
 use Rattle.mcf_fast_scaling.proofs.judging.is_shown.Goals as goal
 
 pub returns-then-has_no_surplus-clause-least : goal.returns-then-has_no_surplus-clause-least
@@ -7,4 +8,4 @@ returns-then-has_no_surplus-clause-least c right =
 
 pub returns-then-has_no_surplus-clause-near : goal.returns-then-has_no_surplus-clause-near
 returns-then-has_no_surplus-clause-near c right =
-    near_judged c.args.state.now c.args.prices.now c.has_no_surplus.ensures.valid c.requires.count c.requires.small (c.shows.ensures right)
+    shown_near c.args.state.now c.args.prices.now c.has_no_surplus.ensures.valid c.requires.count c.requires.small (c.shows.ensures right)
