@@ -16,15 +16,12 @@
 ghost use Rattle.std.specs.Prelude.{◌≡◌, ◌≤◌};
 ghost use Rattle.mcf_simplex.specs.Following.{first_following};
 
+use mcf_fast_scaling::is_dense;
 use mcf_network::Net;
 use mcf_simplex::{Following, RunCounts};
 
-// The runs of denser nets, with more arcs per node, are never left: dense assignments and
-// transports take 0.4 to 0.7 of the time of the faster of LEMON's network simplex and cost scaling.
-const DENSE: u64 = 64;
-
-// The runs of nets with fewer nodes are never left: the simplex is as fast as the search or faster
-// on all families.
+// The runs of dense nets (`is_dense`), and of nets with fewer nodes, are never left: the simplex is
+// as fast as the search or faster on all families.
 const LEAST_NODES_TO_LEAVE: u32 = 1_500;
 
 // From this many nodes on, it pays to leave a run within the first quarter if the eligible arcs
@@ -40,8 +37,8 @@ const FRONT_READINGS: u64 = 80;
 // From this many nodes on, it pays to leave a run after four quarters, and after six.
 const MANY_NODES: u32 = 12_000;
 
-// From this many nodes on, two quarters may suffice (`is_soon_left`), and otherwise how many nodes a
-// pivot moves decides (`of_large`). Until that decision, the blocks of such nets have fewer arcs.
+// From this many nodes on, two quarters may suffice (`is_soon_left`), and otherwise how many nodes
+// a pivot moves decides (`of_large`). Until that decision, the blocks of such nets have fewer arcs.
 const LARGE_NODES: u32 = 24_576;
 
 // A large net is left after two quarters if this percentage of its senders still send to the root
@@ -160,11 +157,6 @@ impl Quarter {
     fn climbs(&self, arcs: u64) -> bool {
         arcs.wrapping_mul(self.step) <= self.climbed
     }
-}
-
-// Whether a net has too many arcs per node for the search.
-fn is_dense(net: &Net) -> bool {
-    DENSE * u64::from(net.node_count()) < u64::from(net.arc_count())
 }
 
 /// The pricing rule for a run of a net: on dense nets its blocks keep their size. The model of a

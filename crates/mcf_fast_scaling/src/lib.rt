@@ -19,4 +19,4 @@ mod tables;
 mod tuning;
 
 pub use judging::is_shown;
-pub use searching::find_least;
+pub use searching::{find_least, is_dense};

@@ -1,10 +1,11 @@
 //! Least states found by the search, and judged.
-ghost use Rattle.std.specs.Prelude.{◌≡◌, ◌≤◌, IfNone, IfOk, IfSome, OnErr, length, true};
+ghost use Rattle.std.specs.Prelude.{◌≡◌, ◌*◌, ◌≤◌, IfNone, IfOk, IfSome, OnErr, length, nat_lt, true};
 ghost use Rattle.std.specs.List.{All};
 ghost use Rattle.mcf_flows.specs.Network.{node_count};
 ghost use Rattle.mcf_flows.specs.WellFormed.{IsUpTo};
 ghost use Rattle.mcf_engine.specs.NearPrices.{near_limit};
 ghost use Rattle.mcf_engine.specs.Outcomes.{AreStatePrices, IsLeastState};
+ghost use Rattle.mcf_fast_scaling.specs.declared.tuning.TheConstants.{MOST_ARCS_PER_NODE};
 
 use crate::judging::judge;
 use crate::search::Search;
@@ -61,12 +62,18 @@ fn without_nodes<'n>(alloc: Global, net: &'n Net) -> Result<(State<'n>, Vec<i128
 
 // Whether to try the search on a net: it has few arcs per node, and all widths together fit.
 fn suits(net: &Net) -> bool {
-    let most = u64::from(net.node_count()) * MOST_ARCS_PER_NODE;
     let mut total = 0i128;
     'arcs: for number in 0..net.arc_count() {
         total = total.saturating_add(net.width(ArcId::at(number)));
     }
-    u64::from(net.arc_count()) <= most && total <= i128::from(LIMIT)
+    !is_dense(net) && total <= i128::from(LIMIT)
+}
+
+/// Whether a net has too many arcs per node for the search.
+pub fn is_dense(net: &Net) -> bool
+    ensures { result ≡ nat_lt (MOST_ARCS_PER_NODE * node_count net.now) (length net.now.arcs) }
+{
+    MOST_ARCS_PER_NODE * u64::from(net.node_count()) < u64::from(net.arc_count())
 }
 
 // The search's result, if the judge shows it to be least.
