@@ -1,5 +1,6 @@
 mod AreFirsts
 mod Told
+mod ToldRows
 mod DearerPeriods
 mod OriginsOver
 mod PeriodRangeLaws

@@ -1,7 +1,7 @@
 -- For how many units more room on a route saves what the prices of a least plan say, as rows of a
 -- table.
 -- Source: own
-use Rattle.std.specs.Prelude.{◌≡◌, ◌==◌, ℕ, suc, ◌<◌, ◌-◌, Bool, true, false, List, [], ◌∷◌, codes, decimal, length, ℤ, pos, ◌≤ℤ◌, ◌<ℤ◌, Option, None, IfNone, IfSome, slice_index_or, ◌⊎◌, ◌↔◌}
+use Rattle.std.specs.Prelude.{◌≡◌, ◌==◌, ℕ, suc, ◌<◌, ◌-◌, Bool, true, false, List, [], ◌∷◌, codes, decimal, length, ℤ, pos, ◌≤ℤ◌, ◌<ℤ◌, Option, None, IfNone, IfSome, slice_index_or, ◌⊎◌}
 use Rattle.std.specs.List.{flat_map, range_with_len}
 use Rattle.mcf_answer_rows.specs.AnswerRows.{cell_under, line_at}
 use Rattle.mcf_figures.specs.Figures.{saving}

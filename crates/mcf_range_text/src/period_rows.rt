@@ -1,6 +1,6 @@
 //! Ranges over periods as rows of a table.
 ghost use Rattle.std.specs.Prelude.{◌≡◌, ◌++◌, IfOk, None, OnOk, drop, slice_index_or};
-ghost use Rattle.mcf_answer_rows.specs.Lines.{row_line, rows_text};
+ghost use Rattle.mcf_answer_rows.specs.Lines.{rows_text};
 ghost use Rattle.mcf_period_reading.specs.PlaceTimes.{periods_in};
 ghost use Rattle.mcf_period_text.specs.PeriodAnswerRows.{timed_of};
 ghost use Rattle.mcf_period_text.specs.TimedTables.{timed_in};
@@ -61,18 +61,21 @@ fn end_cells(alloc: Global, scales: Scales, range: CostRange) -> Result<EndCells
     Ok(EndCells { down, up })
 }
 
-// Appends the range of a departure.
+// Appends the range of a departure, if it is told.
 fn put_departure_range(
     alloc: Global,
     out: &mut Vec<u8>,
     timed: Timed<'_, '_>,
     scales: Scales,
     departure: DepartureOrigin,
-    range: CostRange,
+    told: Option<CostRange>,
 ) -> Result<(), NoMemory>
     ensures { OnOk result (out.new.items ≡ out.old.items
-        ++ row_line (departure_range_row (timed_in timed.entry) scales departure range)) }
+        ++ rows_text (row_if_told (departure_range_row (timed_in timed.entry) scales departure) told)) }
 {
+    let Some(range) = told else {
+        return Ok(());
+    };
     let line = line_cell(alloc, timed.two.routes, departure.row as usize)?;
     let ends = end_cells(alloc, scales, range)?;
     let tail = leaves_from(timed, departure);
@@ -85,24 +88,6 @@ fn put_departure_range(
             b"range", &line, tail, head, &ends.down, &ends.up, leaves, arrives,
         ],
     )
-}
-
-// Appends the range of a departure, if it is told.
-fn put_told_departure(
-    alloc: Global,
-    out: &mut Vec<u8>,
-    timed: Timed<'_, '_>,
-    scales: Scales,
-    departure: DepartureOrigin,
-    told: Option<CostRange>,
-) -> Result<(), NoMemory>
-    ensures { OnOk result (out.new.items ≡ out.old.items
-        ++ rows_text (row_if_told (departure_range_row (timed_in timed.entry) scales departure) told)) }
-{
-    match told {
-        Some(range) => put_departure_range(alloc, out, timed, scales, departure, range),
-        None => Ok(()),
-    }
 }
 
 // Appends the ranges of all departures, if the ranges are those of stores and then theirs.
@@ -119,23 +104,26 @@ fn put_departure_ranges(
     let own = ranges_after(ranges, timed.origins.stores.len());
     for place in 0..timed.origins.departures.len() {
         let departure = departure_origin(timed, place);
-        put_told_departure(alloc, out, timed, scales, departure, range_at(own, place))?;
+        put_departure_range(alloc, out, timed, scales, departure, range_at(own, place))?;
     }
     Ok(())
 }
 
-// Appends the range of a store.
+// Appends the range of a store, if it is told.
 fn put_keep_range(
     alloc: Global,
     out: &mut Vec<u8>,
     timed: Timed<'_, '_>,
     scales: Scales,
     store: StoreOrigin,
-    range: CostRange,
+    told: Option<CostRange>,
 ) -> Result<(), NoMemory>
     ensures { OnOk result (out.new.items ≡ out.old.items
-        ++ row_line (keep_range_row (timed_in timed.entry) scales store range)) }
+        ++ rows_text (row_if_told (keep_range_row (timed_in timed.entry) scales store) told)) }
 {
+    let Some(range) = told else {
+        return Ok(());
+    };
     let line = line_cell(alloc, timed.two.places, store.row as usize)?;
     let ends = end_cells(alloc, scales, range)?;
     let name = place_name(timed, store.row as usize);
@@ -155,24 +143,6 @@ fn put_keep_range(
     )
 }
 
-// Appends the range of a store, if it is told.
-fn put_told_keep(
-    alloc: Global,
-    out: &mut Vec<u8>,
-    timed: Timed<'_, '_>,
-    scales: Scales,
-    store: StoreOrigin,
-    told: Option<CostRange>,
-) -> Result<(), NoMemory>
-    ensures { OnOk result (out.new.items ≡ out.old.items
-        ++ rows_text (row_if_told (keep_range_row (timed_in timed.entry) scales store) told)) }
-{
-    match told {
-        Some(range) => put_keep_range(alloc, out, timed, scales, store, range),
-        None => Ok(()),
-    }
-}
-
 // Appends the ranges of all stores, which are the first ones.
 fn put_keep_ranges(
     alloc: Global,
@@ -186,7 +156,7 @@ fn put_keep_ranges(
 {
     for place in 0..timed.origins.stores.len() {
         let store = store_origin(timed, place);
-        put_told_keep(alloc, out, timed, scales, store, range_at(ranges, place))?;
+        put_keep_range(alloc, out, timed, scales, store, range_at(ranges, place))?;
     }
     Ok(())
 }

@@ -1,6 +1,6 @@
 //! The units for which prices hold over periods, as rows of a table.
 ghost use Rattle.std.specs.Prelude.{◌≡◌, ◌++◌, IfOk, OnOk};
-ghost use Rattle.mcf_answer_rows.specs.Lines.{row_line, rows_text};
+ghost use Rattle.mcf_answer_rows.specs.Lines.{rows_text};
 ghost use Rattle.mcf_period_reading.specs.PlaceTimes.{periods_in};
 ghost use Rattle.mcf_period_text.specs.PeriodAnswerRows.{timed_of};
 ghost use Rattle.mcf_period_text.specs.TimedTables.{timed_in};
@@ -28,32 +28,8 @@ use mcf_unit_ranges::UnitsRange;
 use mcf_units::Scales;
 use std::alloc::Global;
 
-// Appends the range of the room on a departure.
-fn put_departure_room(
-    alloc: Global,
-    out: &mut Vec<u8>,
-    timed: Timed<'_, '_>,
-    scales: Scales,
-    departure: DepartureOrigin,
-    range: UnitsRange,
-) -> Result<(), NoMemory>
-    ensures { OnOk result (out.new.items ≡ out.old.items
-        ++ row_line (departure_room_row (timed_in timed.entry) scales departure range)) }
-{
-    let line = line_cell(alloc, timed.two.routes, departure.row as usize)?;
-    let most = units_cell(alloc, scales, range.most)?;
-    let tail = leaves_from(timed, departure);
-    let head = arrives_at(timed, departure);
-    let leaves = period_name(timed, departure.period as usize);
-    let arrives = period_name(timed, departure.arrival as usize);
-    put_line(
-        out,
-        &[b"room range", &line, tail, head, &most, leaves, arrives],
-    )
-}
-
 // Appends the range of the room on a departure, if it is told.
-fn put_told_departure(
+fn put_departure_room(
     alloc: Global,
     out: &mut Vec<u8>,
     timed: Timed<'_, '_>,
@@ -64,10 +40,19 @@ fn put_told_departure(
     ensures { OnOk result (out.new.items ≡ out.old.items
         ++ rows_text (row_if_told (departure_room_row (timed_in timed.entry) scales departure) told)) }
 {
-    match told {
-        Some(range) => put_departure_room(alloc, out, timed, scales, departure, range),
-        None => Ok(()),
-    }
+    let Some(range) = told else {
+        return Ok(());
+    };
+    let line = line_cell(alloc, timed.two.routes, departure.row as usize)?;
+    let most = units_cell(alloc, scales, range.most)?;
+    let tail = leaves_from(timed, departure);
+    let head = arrives_at(timed, departure);
+    let leaves = period_name(timed, departure.period as usize);
+    let arrives = period_name(timed, departure.arrival as usize);
+    put_line(
+        out,
+        &[b"room range", &line, tail, head, &most, leaves, arrives],
+    )
 }
 
 // Appends the ranges of the room on all departures, if the ranges are those of stores and then
@@ -85,33 +70,13 @@ fn put_departure_rooms(
     let own = ranges_after(ranges, timed.origins.stores.len());
     for place in 0..timed.origins.departures.len() {
         let departure = departure_origin(timed, place);
-        put_told_departure(alloc, out, timed, scales, departure, range_at(own, place))?;
+        put_departure_room(alloc, out, timed, scales, departure, range_at(own, place))?;
     }
     Ok(())
 }
 
-// Appends the range of how much more a place may keep.
-fn put_keep_room(
-    alloc: Global,
-    out: &mut Vec<u8>,
-    timed: Timed<'_, '_>,
-    scales: Scales,
-    store: StoreOrigin,
-    range: UnitsRange,
-) -> Result<(), NoMemory>
-    ensures { OnOk result (out.new.items ≡ out.old.items
-        ++ row_line (keep_room_row (timed_in timed.entry) scales store range)) }
-{
-    let line = line_cell(alloc, timed.two.places, store.row as usize)?;
-    let most = units_cell(alloc, scales, range.most)?;
-    let name = place_name(timed, store.row as usize);
-    let after = period_name(timed, store.period as usize);
-    let next = period_name(timed, store.period as usize + 1);
-    put_line(out, &[b"keep room range", &line, name, &most, after, next])
-}
-
 // Appends the range of how much more a place may keep, if it is told.
-fn put_told_keep(
+fn put_keep_room(
     alloc: Global,
     out: &mut Vec<u8>,
     timed: Timed<'_, '_>,
@@ -122,10 +87,15 @@ fn put_told_keep(
     ensures { OnOk result (out.new.items ≡ out.old.items
         ++ rows_text (row_if_told (keep_room_row (timed_in timed.entry) scales store) told)) }
 {
-    match told {
-        Some(range) => put_keep_room(alloc, out, timed, scales, store, range),
-        None => Ok(()),
-    }
+    let Some(range) = told else {
+        return Ok(());
+    };
+    let line = line_cell(alloc, timed.two.places, store.row as usize)?;
+    let most = units_cell(alloc, scales, range.most)?;
+    let name = place_name(timed, store.row as usize);
+    let after = period_name(timed, store.period as usize);
+    let next = period_name(timed, store.period as usize + 1);
+    put_line(out, &[b"keep room range", &line, name, &most, after, next])
 }
 
 // Appends the ranges of all stores, which are the first ones.
@@ -141,33 +111,13 @@ fn put_keep_rooms(
 {
     for place in 0..timed.origins.stores.len() {
         let store = store_origin(timed, place);
-        put_told_keep(alloc, out, timed, scales, store, range_at(ranges, place))?;
+        put_keep_room(alloc, out, timed, scales, store, range_at(ranges, place))?;
     }
     Ok(())
 }
 
-// Appends the range of what passes through a place in a period.
-fn put_pass(
-    alloc: Global,
-    out: &mut Vec<u8>,
-    timed: Timed<'_, '_>,
-    scales: Scales,
-    origin: PlaceOrigin,
-    range: UnitsRange,
-) -> Result<(), NoMemory>
-    ensures { OnOk result (out.new.items ≡ out.old.items
-        ++ row_line (period_pass_row (timed_in timed.entry) scales origin range)) }
-{
-    let row = told_row(origin);
-    let line = line_cell(alloc, timed.two.places, row)?;
-    let most = units_cell(alloc, scales, range.most)?;
-    let name = place_name(timed, row);
-    let period = period_name(timed, origin.period as usize);
-    put_line(out, &[b"pass range", &line, name, &most, period])
-}
-
 // Appends the range of what passes through a place in a period, if it is told.
-fn put_told_pass(
+fn put_pass(
     alloc: Global,
     out: &mut Vec<u8>,
     timed: Timed<'_, '_>,
@@ -178,10 +128,15 @@ fn put_told_pass(
     ensures { OnOk result (out.new.items ≡ out.old.items
         ++ rows_text (row_if_told (period_pass_row (timed_in timed.entry) scales origin) told)) }
 {
-    match told {
-        Some(range) => put_pass(alloc, out, timed, scales, origin, range),
-        None => Ok(()),
-    }
+    let Some(range) = told else {
+        return Ok(());
+    };
+    let row = told_row(origin);
+    let line = line_cell(alloc, timed.two.places, row)?;
+    let most = units_cell(alloc, scales, range.most)?;
+    let name = place_name(timed, row);
+    let period = period_name(timed, origin.period as usize);
+    put_line(out, &[b"pass range", &line, name, &most, period])
 }
 
 // Appends the ranges of what passes through all places in all periods.
@@ -197,34 +152,13 @@ fn put_passes(
 {
     for place in 0..timed.origins.places.len() {
         let origin = place_origin(timed, place);
-        put_told_pass(alloc, out, timed, scales, origin, range_at(ranges, place))?;
+        put_pass(alloc, out, timed, scales, origin, range_at(ranges, place))?;
     }
     Ok(())
 }
 
-// Appends the range of the supply, or of the demand, of a place in a period.
-fn put_supply(
-    alloc: Global,
-    out: &mut Vec<u8>,
-    timed: Timed<'_, '_>,
-    scales: Scales,
-    origin: PlaceOrigin,
-    range: SupplyRange,
-) -> Result<(), NoMemory>
-    ensures { OnOk result (out.new.items ≡ out.old.items
-        ++ row_line (period_supply_row (timed_in timed.entry) scales origin range)) }
-{
-    let row = told_row(origin);
-    let line = line_cell(alloc, timed.two.places, row)?;
-    let cost = decimal_cell(alloc, range.cost, scales.costs)?;
-    let most = units_cell(alloc, scales, range.most)?;
-    let name = place_name(timed, row);
-    let period = period_name(timed, origin.period as usize);
-    put_line(out, &[b"supply range", &line, name, &cost, &most, period])
-}
-
 // Appends the range of the supply, or of the demand, of a place in a period, if it is told.
-fn put_told_supply(
+fn put_supply(
     alloc: Global,
     out: &mut Vec<u8>,
     timed: Timed<'_, '_>,
@@ -235,10 +169,16 @@ fn put_told_supply(
     ensures { OnOk result (out.new.items ≡ out.old.items
         ++ rows_text (row_if_told (period_supply_row (timed_in timed.entry) scales origin) told)) }
 {
-    match told {
-        Some(range) => put_supply(alloc, out, timed, scales, origin, range),
-        None => Ok(()),
-    }
+    let Some(range) = told else {
+        return Ok(());
+    };
+    let row = told_row(origin);
+    let line = line_cell(alloc, timed.two.places, row)?;
+    let cost = decimal_cell(alloc, range.cost, scales.costs)?;
+    let most = units_cell(alloc, scales, range.most)?;
+    let name = place_name(timed, row);
+    let period = period_name(timed, origin.period as usize);
+    put_line(out, &[b"supply range", &line, name, &cost, &most, period])
 }
 
 // Appends the ranges of the supplies and demands of all places in all periods.
@@ -254,7 +194,7 @@ fn put_supplies(
 {
     for place in 0..timed.origins.places.len() {
         let origin = place_origin(timed, place);
-        put_told_supply(alloc, out, timed, scales, origin, range_at(ranges, place))?;
+        put_supply(alloc, out, timed, scales, origin, range_at(ranges, place))?;
     }
     Ok(())
 }

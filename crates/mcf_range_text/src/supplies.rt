@@ -1,5 +1,5 @@
 //! What one more unit of a supply or of a demand costs, and for how many units that holds.
-ghost use Rattle.std.specs.Prelude.{◌≡◌, ◌≤◌, ◌-ℤ◌, IfNone, IfOk, IfSome, if◌then◌else◌, int_lt, length, option_map, pos};
+ghost use Rattle.std.specs.Prelude.{◌≡◌, ◌≤◌, ◌-ℤ◌, ◌↔◌, IfNone, IfOk, IfSome, IsTrue, if◌then◌else◌, int_lt, length, option_map, pos};
 ghost use Rattle.std.specs.List.{All};
 ghost use Rattle.mcf_figures.specs.Figures.{figure_limit};
 ghost use Rattle.mcf_figures.specs.FigureLaws.{IsPriced};
@@ -177,22 +177,24 @@ fn costed_range<S: Solves>(
     Ok(with_cost(told, cost))
 }
 
-// Returns the range of the supply, or of the demand, of a place, if it is told.
+// Returns the range of the supply, or of the demand, of a place, if it is told; `small` says
+// whether all prices are.
 fn supply_range<S: Solves>(
     alloc: Global,
     solver: &mut S,
     planner: &Planner,
     least: &LeastPlannerPlan,
     row: usize,
+    small: bool,
 ) -> Result<Option<SupplyRange>, NoMemory>
     requires shown { IsShownIn (limited planner.now) least.now }
     requires low { 1 ≤ row }
     requires high { row ≤ length planner.now.places }
+    requires small { IsTrue small ↔ All (IsUpTo figure_limit) least.now.shown.prices.items }
     ensures { IfOk result (IsSupplyRange planner.now least.now.shown row) }
 {
     sound_planners_have_sound_models();
     told_figures_are_the_planners();
-    let small = are_small(&least.shown.prices);
     if !small {
         return Ok(None);
     }
@@ -219,9 +221,10 @@ pub(crate) fn supply_ranges<S: Solves>(
     ensures { IfOk result (λ made. AreSupplyRanges planner.now least.now made.items) }
 {
     let count = planner.places().len();
+    let small = are_small(&least.shown.prices);
     let mut made = Vec::with_capacity(alloc, count)?;
     for place in 0..count {
-        let told = supply_range(alloc, solver, planner, least, place + 1)?;
+        let told = supply_range(alloc, solver, planner, least, place + 1, small)?;
         made.push(told)?;
     }
     Ok(made)

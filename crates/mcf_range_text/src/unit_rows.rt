@@ -1,6 +1,6 @@
 //! The units for which prices hold, as rows of a table.
 ghost use Rattle.std.specs.Prelude.{◌≡◌, ◌++◌, IfOk, None, OnOk, slice_index_or, suc};
-ghost use Rattle.mcf_answer_rows.specs.Lines.{row_line, rows_text};
+ghost use Rattle.mcf_answer_rows.specs.Lines.{rows_text};
 ghost use Rattle.mcf_plan_rows.specs.Cells.{amount_text, text_if};
 ghost use Rattle.mcf_plan_rows.specs.FaultRows.{tables_in};
 ghost use Rattle.mcf_range_text.specs.PassRangeTexts.{pass_range_row, pass_range_rows};
@@ -36,26 +36,8 @@ pub(crate) fn units_cell(
     }
 }
 
-// Appends the range of the room on the route of a row.
-fn put_room(
-    alloc: Global,
-    out: &mut Vec<u8>,
-    routes: &Records,
-    scales: Scales,
-    row: usize,
-    range: UnitsRange,
-) -> Result<(), NoMemory>
-    ensures { OnOk result (out.new.items ≡ out.old.items ++ row_line (room_range_row scales routes.now row range)) }
-{
-    let line = line_cell(alloc, routes, row)?;
-    let tail = cell_under(routes, b"from", row);
-    let head = cell_under(routes, b"to", row);
-    let most = units_cell(alloc, scales, range.most)?;
-    put_line(out, &[b"room range", &line, tail, head, &most])
-}
-
 // Appends the range of the room on the route of a row, if it is told.
-fn put_told_room(
+fn put_room(
     alloc: Global,
     out: &mut Vec<u8>,
     routes: &Records,
@@ -65,10 +47,14 @@ fn put_told_room(
 ) -> Result<(), NoMemory>
     ensures { OnOk result (out.new.items ≡ out.old.items ++ rows_text (row_if_told (room_range_row scales routes.now row) told)) }
 {
-    match told {
-        Some(range) => put_room(alloc, out, routes, scales, row, range),
-        None => Ok(()),
-    }
+    let Some(range) = told else {
+        return Ok(());
+    };
+    let line = line_cell(alloc, routes, row)?;
+    let tail = cell_under(routes, b"from", row);
+    let head = cell_under(routes, b"to", row);
+    let most = units_cell(alloc, scales, range.most)?;
+    put_line(out, &[b"room range", &line, tail, head, &most])
 }
 
 // Appends the ranges of the room on the routes of all rows.
@@ -82,30 +68,13 @@ fn put_rooms(
     ensures { OnOk result (out.new.items ≡ out.old.items ++ rows_text (room_range_rows scales routes.now ranges.now)) }
 {
     for place in 0..ranges.len() {
-        put_told_room(alloc, out, routes, scales, place + 1, ranges[place])?;
+        put_room(alloc, out, routes, scales, place + 1, ranges[place])?;
     }
     Ok(())
 }
 
-// Appends the range of a place.
-fn put_pass(
-    alloc: Global,
-    out: &mut Vec<u8>,
-    places: &Records,
-    scales: Scales,
-    row: usize,
-    range: UnitsRange,
-) -> Result<(), NoMemory>
-    ensures { OnOk result (out.new.items ≡ out.old.items ++ row_line (pass_range_row scales places.now row range)) }
-{
-    let line = line_cell(alloc, places, row)?;
-    let name = cell_under(places, b"name", row);
-    let most = units_cell(alloc, scales, range.most)?;
-    put_line(out, &[b"pass range", &line, name, &most])
-}
-
 // Appends the range of a place, if it is told.
-fn put_told_pass(
+fn put_pass(
     alloc: Global,
     out: &mut Vec<u8>,
     places: &Records,
@@ -115,10 +84,13 @@ fn put_told_pass(
 ) -> Result<(), NoMemory>
     ensures { OnOk result (out.new.items ≡ out.old.items ++ rows_text (row_if_told (pass_range_row scales places.now row) told)) }
 {
-    match told {
-        Some(range) => put_pass(alloc, out, places, scales, row, range),
-        None => Ok(()),
-    }
+    let Some(range) = told else {
+        return Ok(());
+    };
+    let line = line_cell(alloc, places, row)?;
+    let name = cell_under(places, b"name", row);
+    let most = units_cell(alloc, scales, range.most)?;
+    put_line(out, &[b"pass range", &line, name, &most])
 }
 
 // Appends the ranges of all places.
@@ -132,31 +104,13 @@ fn put_passes(
     ensures { OnOk result (out.new.items ≡ out.old.items ++ rows_text (pass_range_rows scales places.now ranges.now)) }
 {
     for place in 0..ranges.len() {
-        put_told_pass(alloc, out, places, scales, place + 1, ranges[place])?;
+        put_pass(alloc, out, places, scales, place + 1, ranges[place])?;
     }
     Ok(())
 }
 
-// Appends the range of the supply, or of the demand, of a place.
-fn put_supply(
-    alloc: Global,
-    out: &mut Vec<u8>,
-    places: &Records,
-    scales: Scales,
-    row: usize,
-    range: SupplyRange,
-) -> Result<(), NoMemory>
-    ensures { OnOk result (out.new.items ≡ out.old.items ++ row_line (supply_range_row scales places.now row range)) }
-{
-    let line = line_cell(alloc, places, row)?;
-    let name = cell_under(places, b"name", row);
-    let cost = decimal_cell(alloc, range.cost, scales.costs)?;
-    let most = units_cell(alloc, scales, range.most)?;
-    put_line(out, &[b"supply range", &line, name, &cost, &most])
-}
-
 // Appends the range of the supply, or of the demand, of a place, if it is told.
-fn put_told_supply(
+fn put_supply(
     alloc: Global,
     out: &mut Vec<u8>,
     places: &Records,
@@ -166,10 +120,14 @@ fn put_told_supply(
 ) -> Result<(), NoMemory>
     ensures { OnOk result (out.new.items ≡ out.old.items ++ rows_text (row_if_told (supply_range_row scales places.now row) told)) }
 {
-    match told {
-        Some(range) => put_supply(alloc, out, places, scales, row, range),
-        None => Ok(()),
-    }
+    let Some(range) = told else {
+        return Ok(());
+    };
+    let line = line_cell(alloc, places, row)?;
+    let name = cell_under(places, b"name", row);
+    let cost = decimal_cell(alloc, range.cost, scales.costs)?;
+    let most = units_cell(alloc, scales, range.most)?;
+    put_line(out, &[b"supply range", &line, name, &cost, &most])
 }
 
 // Appends the ranges of the supplies and demands of all places.
@@ -183,7 +141,7 @@ fn put_supplies(
     ensures { OnOk result (out.new.items ≡ out.old.items ++ rows_text (supply_range_rows scales places.now ranges.now)) }
 {
     for place in 0..ranges.len() {
-        put_told_supply(alloc, out, places, scales, place + 1, ranges[place])?;
+        put_supply(alloc, out, places, scales, place + 1, ranges[place])?;
     }
     Ok(())
 }

@@ -10,5 +10,5 @@ loop-place-preserved c =
     let t = timed_in c.args.timed in
     let rows = departure_room_at t c.args.scales (drop (length t.origins.stores.items) c.args.ranges.now) in
     let small : c.loop-place.place < length t.origins.departures.items = search rules in
-    let put : c.put_told_departure.new.out.items ≡ c.loop-place.out.items ++ rows_text (rows c.loop-place.place) = search rules in
+    let put : c.put_departure_room.new.out.items ≡ c.loop-place.out.items ++ rows_text (rows c.loop-place.place) = search rules in
     sets_step rows _ _ _ c.loop-place.place (length t.origins.departures.items) small c.loop-place.invariant put

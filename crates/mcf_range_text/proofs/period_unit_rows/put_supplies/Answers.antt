@@ -10,5 +10,5 @@ loop-place-preserved c =
     let t = timed_in c.args.timed in
     let rows = period_supply_at t c.args.scales c.args.ranges.now in
     let small : c.loop-place.place < length t.origins.places.items = search rules in
-    let put : c.put_told_supply.new.out.items ≡ c.loop-place.out.items ++ rows_text (rows c.loop-place.place) = search rules in
+    let put : c.put_supply.new.out.items ≡ c.loop-place.out.items ++ rows_text (rows c.loop-place.place) = search rules in
     sets_step rows _ _ _ c.loop-place.place (length t.origins.places.items) small c.loop-place.invariant put

@@ -8,5 +8,5 @@ pub loop-place-preserved : goal.loop-place-preserved
 loop-place-preserved c =
     let rows = pass_range_at c.args.scales c.args.places.now c.args.ranges.now in
     let small : c.loop-place.place < length c.args.ranges.now = search rules in
-    let put : c.put_told_pass.new.out.items ≡ c.loop-place.out.items ++ rows_text (rows c.loop-place.place) = search rules in
+    let put : c.put_pass.new.out.items ≡ c.loop-place.out.items ++ rows_text (rows c.loop-place.place) = search rules in
     sets_step rows _ _ _ c.loop-place.place (length c.args.ranges.now) small c.loop-place.invariant put

@@ -3,6 +3,8 @@ use Rattle.std.specs.Prelude.{OnOk}
 use Rattle.mcf_answer_rows.specs.AnswerRows.{cell_under, line_at}
 use Rattle.mcf_answer_rows.specs.Lines.{row_line}
 use Rattle.mcf_plan_rows.specs.Cells.{amount_text, rate_text, text_if}
+use Rattle.mcf_range_text.proofs.ToldRows.{told_text}
+use Rattle.mcf_range_text.specs.SupplyRangeTexts.{supply_range_row}
 use Rattle.mcf_range_text.proofs.unit_rows.put_supply.Goals as goal
 
 pub returns : goal.returns
@@ -10,12 +12,13 @@ returns c =
     let places = c.args.places.now in
     let row = c.args.row in
     let line : c.deref.result.now ≡ decimal (line_at places row) = search rules in
-    let cost : c.deref-2.result.now ≡ rate_text c.args.scales c.args.range.cost = search rules in
-    let most : c.deref-3.result.now ≡ text_if (amount_text c.args.scales) c.args.range.most = search rules in
+    let cost : c.deref-2.result.now ≡ rate_text c.args.scales c.in-Some.range.cost = search rules in
+    let most : c.deref-3.result.now ≡ text_if (amount_text c.args.scales) c.in-Some.range.most = search rules in
     let cells = λ (a b d e : List ℕ). codes "supply range" ∷ a ∷ b ∷ d ∷ e ∷ [] in
     let name = cell_under (codes "name") places row in
     let same = ap (λ a. cells a c.cell_under-name.result.now c.deref-2.result.now c.deref-3.result.now) line
     ∙ ap (λ b. cells (decimal (line_at places row)) b c.deref-2.result.now c.deref-3.result.now) c.cell_under-name.ensures
     ∙ ap (λ d. cells (decimal (line_at places row)) name d c.deref-3.result.now) cost
-    ∙ ap (cells (decimal (line_at places row)) name (rate_text c.args.scales c.args.range.cost)) most in
-    subst (λ r. OnOk c.put_line.result (c.put_line.new.out.items ≡ c.args.out.now.items ++ row_line r)) same c.put_line.ensures
+    ∙ ap (cells (decimal (line_at places row)) name (rate_text c.args.scales c.in-Some.range.cost)) most in
+    subst (λ text. OnOk c.put_line.result (c.put_line.new.out.items ≡ c.args.out.now.items ++ text))
+    (ap row_line same ∙ told_text (supply_range_row c.args.scales places row) c.args.told c.in-Some.range c.in-Some.is) c.put_line.ensures
