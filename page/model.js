@@ -18,7 +18,7 @@ import {
 } from './periods.js';
 import { NEEDED, numberCells, readLine } from './sentences.js';
 import { SPOT_HEADS, spotsOf } from './spots.js';
-import { Table, cellAt, fold, notesOf } from './tables.js';
+import { Table, alikeLines, cellAt, fold, notesOf } from './tables.js';
 import { words } from './words.js';
 
 const BOUND_HEADS = ['least', 'most', 'cost'];
@@ -98,6 +98,8 @@ export class Problem {
     const empty = placeTable.rows.filter(({ cells: row }) => !cellAt(row, supply)).length;
     return [
       ...this.notes,
+      ...alikeLines('places', [...new Set(this.places.map(({ name }) => name))]),
+      ...alikeLines('periods', this.periods),
       ...(empty ? [`${countOf(empty, 'empty supply is', 'empty supplies are')} read as 0.`] : []),
       ...(isUnused
         ? [`Penalties aren't used, since no demand may be short (${words().short}).`]

@@ -1,12 +1,12 @@
 // @ts-check
 // Persons and things: which pairs an answer chooses, or who competes.
 import { Said, Units, decimalsOf, exactOf, scaled, settledBy } from './amounts.js';
-import { TOLD_NAMES, countOf, listed, shown } from './faults.js';
+import { TOLD_NAMES, countOf, listed } from './faults.js';
 import { groupLines, idleLines, leftOutLines } from './groups.js';
 import { carriedLines, carriedOf, otherwiseLines } from './heads.js';
 import { partsOf } from './network.js';
 import { FORBIDDEN, NEEDED, isList, numberCells, readLine } from './sentences.js';
-import { Table, cellAt, fold, notesOf } from './tables.js';
+import { Table, alikeLines, cellAt, fold, notesOf } from './tables.js';
 import { words } from './words.js';
 
 /**
@@ -15,21 +15,6 @@ import { words } from './words.js';
  */
 
 const GROUP_HEADS = ['group', 'who', 'what', 'least', 'most'];
-
-// This function returns a line on persons or things whose names differ in capitals or blanks alone.
-/** @type {(word: string, names: string[]) => string[]} */
-function alikeLines(word, names) {
-  /** @type {Map<string, string[]>} */
-  const found = new Map();
-  for (const name of names) {
-    const key = fold(name.replace(/\s+/g, ''));
-    found.set(key, [...found.get(key) || [], shown(name)]);
-  }
-  const alike = [...found.values()].filter((same) => same.length > 1);
-  return alike.length
-    ? [`Read as different ${word}: ${listed(alike.map((same) => same.join(' and ')))}.`]
-    : [];
-}
 
 // What an answer says of a table of persons and things. The table is plain if it doesn't say how
 // many a person takes or a thing needs.

@@ -78,7 +78,7 @@ const SENTENCES = {
   'named twice in a period':
     'an earlier line of this place holds in this period, too; a line without a period holds in '
       + 'each',
-  'no such period': 'there is no period {cell} in the table of places',
+  'no such period': 'there is no period {cell} in the table of places{near}',
   'no number of periods': '{cell} is no number of periods: write a whole number from 0 on',
   'not in the first period':
     'a first stock is there before the first period, and this line holds in a later one',
@@ -303,14 +303,15 @@ export class Teller {
     );
   }
 
-  // This method returns the names of the places, or of the persons (who) or the things (what).
+  // This method returns the names of the places or the periods, or of the persons (who) or the
+  // things (what).
   names(head = 'name') {
     const isMember = head === 'who' || head === 'what';
     const table = this.tables[isMember ? 'costs' : 'places'];
     if (isMember && !isList(table)) {
       return head === 'what' ? table.titles.slice(1) : table.rows.map(({ cells }) => cells[0]);
     }
-    const read = table.reader([isMember ? head : 'name']);
+    const read = table.reader([isMember || head === 'period' ? head : 'name']);
     return [...new Set(table.rows.map(({ cells }) => read(cells)[0]).filter(Boolean))];
   }
 

@@ -307,6 +307,22 @@ export function headIn(texts, column) {
 /** @type {(texts: TableText[]) => string[]} */
 export const notesOf = (texts) => texts.flatMap(({ changes }) => changes);
 
+// This function returns a line on what has names that differ in capitals or blanks alone, by a word
+// for it.
+/** @type {(word: string, names: string[]) => string[]} */
+export function alikeLines(word, names) {
+  /** @type {Map<string, string[]>} */
+  const found = new Map();
+  for (const name of names) {
+    const key = fold(name.replace(/\s+/g, ''));
+    if (found.has(key)) found.get(key).push(name);
+    else found.set(key, [name]);
+  }
+  const alike = [...found.values()].filter((same) => same.length > 1)
+    .map((same) => same.map(shown).join(' and '));
+  return alike.length ? [`Read as different ${word}: ${listed(alike)}.`] : [];
+}
+
 // The rows of a table. `heads` are its heads in small letters, `titles` as the planner wrote them.
 export class Table {
   /**

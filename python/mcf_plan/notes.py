@@ -1,5 +1,6 @@
 """Notes on how the tables were read: the columns that are carried along, and numbers that may be
 read in two ways."""
+import collections
 import re
 
 from .answer import cell_at
@@ -273,6 +274,18 @@ def prepared_lines(tables):
     return [line for table in tables if table for line in table.notes + table.changes]
 
 
+def alike_lines(**words):
+    """Lines on what has names that differ in capitals or blanks alone, by a word for it."""
+    lines = []
+    for word, names in words.items():
+        found = collections.defaultdict(list)
+        for name in names:
+            found["".join(name.split()).lower()].append(name)
+        alike = [" and ".join(map(shown, same)) for same in found.values() if len(same) > 1]
+        lines += [f"Read as different {word}: {listed(alike)}."] if alike else []
+    return lines
+
+
 def supply_lines(problem):
     """A line on empty supplies, if there are some."""
     sheet = problem.place_sheet
@@ -294,7 +307,9 @@ def notes_of(problem):
     words, tables = ("places", "routes"), (problem.place_table, problem.route_table)
     sheets = problem.place_sheet, problem.route_sheet
     cells = [cell for one in zip(words, tables, sheets) for cell in number_cells(*one)]
-    lines = prepared_lines(tables) + supply_lines(problem) + penalty_lines(problem)
+    names = dict.fromkeys(place.name for place in problem.places)
+    lines = prepared_lines(tables) + alike_lines(places=names, periods=problem.periods)
+    lines += supply_lines(problem) + penalty_lines(problem)
     used = columns_named(problem.options.by, tables_of(problem))
     lines += carried_lines(words, tables, sheets, used)
     return lines + reading_lines(cells, problem, problem.options.decimal)

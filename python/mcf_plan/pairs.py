@@ -1,7 +1,6 @@
 """The pairs of an answer: their table, and the summary."""
 from . import groups, notes
 from .competitions import competitions_of
-from .faults import shown
 from .figures import Figure
 from .roster import PAIR_HEADS
 from .sums import pair_columns
@@ -11,7 +10,8 @@ from .words import TOLD_NAMES, count_of, listed
 def notes_of(roster):
     """Notes on how the table was read. All columns of a matrix are used."""
     table, sheet = roster.table, roster.sheet
-    lines = notes.prepared_lines([table, roster.group_table]) + alike_lines(roster)
+    lines = notes.prepared_lines([table, roster.group_table])
+    lines += notes.alike_lines(persons=roster.persons, things=roster.things)
     lines, words = lines + groups.idle_lines(roster), []
     words += [("costs", table, sheet)] if roster.is_list else []
     words += [("groups", roster.group_table, roster.group_sheet)] if roster.group_sheet else []
@@ -19,18 +19,6 @@ def notes_of(roster):
     lines += notes.carried_lines(*zip(*words), used) if words else []
     cells = notes.number_cells("costs", table, sheet)
     return lines + notes.reading_lines(cells, roster, roster.options.decimal)
-
-
-def alike_lines(roster):
-    """Lines on persons and on things whose names differ in capitals or blanks alone."""
-    lines = []
-    for word, names in (("persons", roster.persons), ("things", roster.things)):
-        found = {}
-        for name in names:
-            found.setdefault("".join(name.split()).casefold(), []).append(shown(name))
-        alike = [" and ".join(same) for same in found.values() if len(same) > 1]
-        lines += [f"Read as different {word}: {listed(alike)}."] if alike else []
-    return lines
 
 
 def write_pairs(results, roster):

@@ -85,7 +85,7 @@ SENTENCES = {
         "an earlier line of this place holds in this period, too; a line without a period holds in"
         " each"
     ),
-    "no such period": "there is no period {cell} in the table of places",
+    "no such period": "there is no period {cell} in the table of places{near}",
     "no number of periods": "{cell} is no number of periods: write a whole number from 0 on",
     "not in the first period": (
         "a first stock is there before the first period, and this line holds in a later one"
@@ -282,15 +282,18 @@ class Teller:
         return f"{shown(cell)} ({table.name}, line {line})"
 
     def names(self, head="name"):
-        """The names of the places, or of the persons or the things of a table of costs."""
-        sheet = self.sheets["places" if head == "name" else "costs"]
-        if head != "name" and not is_list(sheet):
+        """The names of the places or the periods, or of the persons or the things of a table of
+        costs."""
+        sheet = self.sheets["costs" if head in ("who", "what") else "places"]
+        if head in ("who", "what") and not is_list(sheet):
             return sheet.titles[1:] if head == "what" else [cells[0] for _, cells in sheet.rows]
         return [cell_at(cells, sheet.place(head)) for _, cells in sheet.rows]
 
     def near_name(self, name, column):
-        """A hint at a name of a place, a person or a thing that is like one that isn't there."""
-        names = list(dict.fromkeys(self.names(column if column in ("who", "what") else "name")))
+        """A hint at a name of a place, a period, a person or a thing that is like one that isn't
+        there."""
+        head = column if column in ("who", "what", "period") else "name"
+        names = list(filter(None, dict.fromkeys(self.names(head))))
         near = [other for other in names if other.casefold() == name.casefold()]
         near = near or difflib.get_close_matches(name, names[:10_000], 1)
         return f"; is {shown(near[0])} meant?" if near else ""
