@@ -1,11 +1,12 @@
 -- What a call for arrays hands out.
 -- Source: own
-use Rattle.std.specs.Prelude.{◌≡◌, ℕ, ◌≤◌, ◌⊎◌, Bool, List, length, ℤ, pos, FitsSigned, Some, if◌then◌else◌}
+use Rattle.std.specs.Prelude.{◌≡◌, ◌≢◌, ℕ, ◌≤◌, ◌⊎◌, ◌↔◌, Bool, List, length, ℤ, pos, FitsSigned, Option, Some, None, IfSome, if◌then◌else◌}
 use Rattle.std.specs.Int.{w64}
 use Rattle.std.specs.List.{All}
 use Rattle.mcf_answer.specs.BlockingSet.{BlockingSet, IsBlockingSet}
 use Rattle.mcf_answer.specs.Solution.{Solution}
 use Rattle.mcf_c.specs.Verdicts.{Tells, TellsFault, TellsSet}
+use Rattle.mcf_c.specs.declared.statuses.TheConstants.{BLOCKED, BUFFER_TOO_SMALL, FLOW, INVALID_CHOICE, INVALID_INPUT, NO_MEMORY, PRICE_OVERFLOW}
 use Rattle.mcf_c.specs.declared.verdicts.McfVerdict.{McfVerdict}
 use Rattle.mcf_checker.specs.Correct.{IsRightFlow}
 use Rattle.mcf_checker.specs.declared.verdict.Verdict.TheVariants.{Flow}
@@ -13,14 +14,13 @@ use Rattle.mcf_instance.specs.Arrays.{array_fault}
 use Rattle.mcf_flows.specs.Blocking.{in_list}
 use Rattle.mcf_flows.specs.Limits.{arc_limit, limits, node_limit}
 use Rattle.mcf_flows.specs.Network.{IsNode, Network, at_node, node_count}
-use Rattle.mcf_flows.specs.WellFormed.{IsUpTo}
+use Rattle.mcf_flows.specs.WellFormed.{IsUpTo, IsWellFormed}
 use Rattle.mcf_instance.specs.declared.arrays.ArrayFault.{ArrayFault}
 use Rattle.mcf_flows.specs.declared.problem.Problem.TheVariants.{Min}
 use Rattle.mcf_solver.specs.Answering.{IsLeastFlow, IsLeastSolution, IsNoFlowProof}
 use Rattle.mcf_solver.specs.Making.{IsMadeBy, StandsForMade, meant, suited}
 use Rattle.mcf_choice.specs.declared.choice.Choice.{Choice}
 use Rattle.mcf_choice.specs.declared.choice.EngineChoice.{EngineChoice}
-use Rattle.mcf_choice.specs.declared.choice.Form.TheVariants.{One}
 
 -- a flow by arc that no feasible flow undercuts, its cost, and prices by node that show it
 pub record HandsFlow (g : Network) (flow prices : List ℤ) (told : McfVerdict) : Type 0 where
@@ -33,10 +33,6 @@ pub record HandsFlow (g : Network) (flow prices : List ℤ) (told : McfVerdict) 
 -- means for the problem
 abbrev pub IsMadeFlow : Choice → Network → List ℤ → Type 0
 IsMadeFlow choice g flow = StandsForMade (IsMadeBy choice) g flow
-
--- the choice with the full form
-abbrev pub in_one_form : Choice → Choice
-in_one_form c = record { engine = c.engine; pricing = c.pricing; block = c.block; form = One }
 
 -- the mark of a node, by whether it is in a set
 abbrev pub mark_of : Bool → ℤ
@@ -77,3 +73,21 @@ pub record HandsFault (g : Network) (told : McfVerdict) : Type 0 where
   pub fault : ArrayFault
   pub found : array_fault limits g ≡ Some fault
   pub tells : TellsFault fault told
+
+-- what a call answers that solves the problem of a network, by the choice that its numbers mean, if
+-- they mean one: what it hands out in `flow`, `prices` and `told` at each status, and what stays as
+-- it was there
+pub record Answers (g : Network) (chosen : Option Choice) (status : ℕ) (flow flow' prices prices' : List ℤ) (told told' : McfVerdict) : Type 0 where
+  pub statuses : status ≤ PRICE_OVERFLOW
+  pub hands_flow : status ≡ FLOW → HandsFlow g flow' prices' told'
+  pub hands_set : status ≡ BLOCKED → HandsSet g prices' told'
+  pub hands_fault : status ≡ INVALID_INPUT → HandsFault g told'
+  pub within : (status ≤ BLOCKED) ⊎ (status ≡ PRICE_OVERFLOW) → IsWellFormed limits g
+  pub memory : status ≡ NO_MEMORY → IfSome chosen (λ c. TakesMemory c.engine g)
+  pub sized : status ≡ NO_MEMORY → KeepsSizes g
+  pub room : status ≡ BUFFER_TOO_SMALL → (length flow ≢ length g.arcs) ⊎ (length prices ≢ node_count g)
+  pub choice : (status ≡ INVALID_CHOICE) ↔ (chosen ≡ None)
+  pub wide : status ≡ PRICE_OVERFLOW → HasWidePrice g
+  pub flow_stays : (BLOCKED ≤ status) × (status ≤ INVALID_CHOICE) → flow' ≡ flow
+  pub prices_stay : (INVALID_INPUT ≤ status) × (status ≤ INVALID_CHOICE) → prices' ≡ prices
+  pub told_stays : NO_MEMORY ≤ status → told' ≡ told

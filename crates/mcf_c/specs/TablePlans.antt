@@ -4,6 +4,7 @@ use Rattle.std.specs.Prelude.{◌≡◌, ℕ, ◌==◌, Bool, true, false, if◌
 use Rattle.mcf_answer_rows.specs.declared.texts.PlanText.{PlanText}
 use Rattle.mcf_answer_rows.specs.declared.texts.TextKind.{TextKind}
 use Rattle.mcf_answer_rows.specs.declared.texts.TextKind.TheVariants.{Plan, NoPlan, Faults}
+use Rattle.mcf_c.specs.declared.statuses.TheConstants.{BLOCKED, FLOW, INVALID_INPUT}
 use Rattle.mcf_c.specs.declared.table_plans.AskedPairs.{AskedPairs}
 use Rattle.mcf_c.specs.declared.table_plans.AskedTables.{AskedTables}
 use Rattle.mcf_c.specs.declared.table_plans.McfPairOptions.{McfPairOptions}
@@ -29,9 +30,9 @@ use Rattle.mcf_units.specs.declared.terms.Terms.{Terms}
 
 -- the status of an answer of a kind
 abbrev pub plan_status : TextKind → ℕ
-plan_status Plan = 0
-plan_status NoPlan = 1
-plan_status Faults = 2
+plan_status Plan = FLOW
+plan_status NoPlan = BLOCKED
+plan_status Faults = INVALID_INPUT
 
 -- the bytes of two tables, and of the heads of the columns that are filled down
 abbrev pub flow_bytes : List ℕ → List ℕ → McfPlanOptions → FlowBytes

@@ -12,11 +12,23 @@ use Rattle.mcf_flows.specs.declared.code.Code.TheVariants.{Cost, Extra, Side, To
 use Rattle.mcf_flows.specs.declared.problem.Side.{Side as TheSide}
 use Rattle.mcf_flows.specs.declared.problem.Side.TheVariants.{Send, Take}
 
+-- the kind of an accepted flow
+abbrev pub flow_kind : ℕ
+flow_kind = 0
+
+-- the kind of an accepted set, and of a set from arrays
+abbrev pub set_kind : ℕ
+set_kind = 1
+
+-- the kind of an accepted refusal, and of a fault of arrays
+abbrev pub refusal_kind : ℕ
+refusal_kind = 2
+
 -- the number of a kind of verdict; the first three accept
 abbrev pub kind_number : Verdict → ℕ
-kind_number (Flow cost) = 0
-kind_number (Blocked count) = 1
-kind_number (Refused r) = 2
+kind_number (Flow cost) = flow_kind
+kind_number (Blocked count) = set_kind
+kind_number (Refused r) = refusal_kind
 kind_number (BadShape line) = 3
 kind_number BadKind = 4
 kind_number BadRefusal = 5
@@ -97,7 +109,7 @@ fault_place (FaultyArc k _) = k
 
 -- the numbers of a fault of arrays
 pub record TellsFault (fault : ArrayFault) (c : McfVerdict) : Type 0 where
-  pub kind : c.kind ≡ 2
+  pub kind : c.kind ≡ refusal_kind
   pub code : c.code ≡ fault_code fault
   pub negative : c.negative ≡ 0
   pub size : c.low + 2 ^ 64 * c.high ≡ fault_place fault
@@ -109,7 +121,7 @@ side_number Take = 1
 
 -- the numbers of a node set that blocks by a side
 pub record TellsSet (side : TheSide) (count : ℕ) (c : McfVerdict) : Type 0 where
-  pub kind : c.kind ≡ 1
+  pub kind : c.kind ≡ set_kind
   pub code : c.code ≡ side_number side
   pub negative : c.negative ≡ 0
   pub size : c.low + 2 ^ 64 * c.high ≡ count

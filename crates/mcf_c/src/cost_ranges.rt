@@ -1,10 +1,8 @@
 //! Ranges of the costs of arcs, for arrays.
-ghost use Rattle.std.specs.Prelude.{◌≡◌, ◌≢◌, ◌≤◌, ◌⊎◌, ◌↔◌, IfNone, IfOk, IfSome, IsTrue, length, ℤ};
+ghost use Rattle.std.specs.Prelude.{◌≡◌, ◌↔◌, IfNone, IfOk, IfSome, IsTrue, length, ℤ};
 ghost use Rattle.std.specs.List.{All, AllZip};
-ghost use Rattle.mcf_c.specs.CostRanges.{end_of, range_of, ranges_of};
-ghost use Rattle.mcf_c.specs.Handing.{HandsFault};
+ghost use Rattle.mcf_c.specs.CostRanges.{RangesCosts, end_of, range_of, ranges_of};
 ghost use Rattle.mcf_c.specs.Problems.{flow_network};
-ghost use Rattle.mcf_c.specs.Verdicts.{number};
 ghost use Rattle.mcf_checker.specs.Correct.{IsRightFlow};
 ghost use Rattle.mcf_engine.specs.SmallPrices.{price_limit};
 ghost use Rattle.mcf_flows.specs.Network.{IsArcNumber, node_count};
@@ -160,12 +158,7 @@ fn range_instance(
     requires flow { length shown.now.flow.now ≡ length instance.now.arcs }
     requires prices { length shown.now.prices.now ≡ node_count instance.now }
     requires ranges { length ranges.old ≡ length arcs.now }
-    ensures statuses { (result ≤ 1) ⊎ (result ≡ 3) ⊎ (result ≡ 5) }
-    ensures right { (result ≡ 0) ⊎ (result ≡ 5) → IsRightFlow instance.now (number told.old) shown.now.prices.now shown.now.flow.now }
-    ensures wrong { result ≡ 1 → ¬ IsRightFlow instance.now (number told.old) shown.now.prices.now shown.now.flow.now }
-    ensures ranges { result ≡ 0 → AllZip (IsCostRange instance.now shown.now.flow.now) arcs.now (ranges_of ranges.new) }
-    ensures arcs { result ≡ 5 → ¬ All (IsArcNumber instance.now) arcs.now }
-    ensures untouched { 1 ≤ result → ranges.new ≡ ranges.old }
+    ensures { RangesCosts instance.now shown.now result told.old told.new arcs.now ranges.old ranges.new }
 {
     let status = judge_instance(alloc, instance, shown.flow, shown.prices, told);
     if status != ACCEPTED {
@@ -201,15 +194,7 @@ pub extern "C" fn mcf_cost_ranges(
     arcs: &[u32],
     ranges: &mut [McfCostRange],
 ) -> u32
-    ensures statuses { result ≤ 5 }
-    ensures right { (result ≡ 0) ⊎ (result ≡ 5) → IsRightFlow (flow_network problem.now) (number told.old) shown.now.prices.now shown.now.flow.now }
-    ensures wrong { result ≡ 1 → ¬ IsRightFlow (flow_network problem.now) (number told.old) shown.now.prices.now shown.now.flow.now }
-    ensures ranges { result ≡ 0 → AllZip (IsCostRange (flow_network problem.now) shown.now.flow.now) arcs.now (ranges_of ranges.new) }
-    ensures fault { result ≡ 2 → HandsFault (flow_network problem.now) told.new }
-    ensures lengths { result ≡ 4 → (length shown.now.flow.now ≢ length (flow_network problem.now).arcs)
-        ⊎ (length shown.now.prices.now ≢ node_count (flow_network problem.now)) ⊎ (length ranges.old ≢ length arcs.now) }
-    ensures arcs { result ≡ 5 → ¬ All (IsArcNumber (flow_network problem.now)) arcs.now }
-    ensures untouched { 1 ≤ result → ranges.new ≡ ranges.old }
+    ensures { RangesCosts (flow_network problem.now) shown.now result told.old told.new arcs.now ranges.old ranges.new }
 {
     if ranges.len() != arcs.len() {
         return BUFFER_TOO_SMALL;
@@ -222,14 +207,12 @@ pub extern "C" fn mcf_cost_ranges(
     ) {
         return BUFFER_TOO_SMALL;
     }
-    let Ok(made) = flow_problem(alloc, problem.supplies, problem.arcs) else {
-        return NO_MEMORY;
-    };
-    match made {
-        Ok(instance) => range_instance(alloc, &instance, shown, told, arcs, ranges),
-        Err(fault) => {
+    match flow_problem(alloc, problem.supplies, problem.arcs) {
+        Ok(Ok(instance)) => range_instance(alloc, &instance, shown, told, arcs, ranges),
+        Ok(Err(fault)) => {
             *told = fault_numbers(&fault);
             INVALID_INPUT
         }
+        Err(_) => NO_MEMORY,
     }
 }

@@ -1,17 +1,20 @@
 //! Least assignments of cost matrices of doubles in arrays, and the judge of such assignments.
-ghost use Rattle.std.specs.Prelude.{◌≡◌, ◌≢◌, ◌≤◌, ◌⊎◌, ◌↔◌, ◌+◌, ℕ, IsTrue, List, length, min, pos, true, false};
+ghost use Rattle.std.specs.Prelude.{◌≡◌, ◌≤◌, ◌+◌, ℕ, IsTrue, List, length, true, false};
 ghost use Rattle.mcf_c.specs.DoubleMatrices.{HandsWideCover, costs_by, double_costs_of, doubles_of, gap_by, tells_rounded, wide_values};
+ghost use Rattle.mcf_c.specs.Matrices.{AnswersMatrix, JudgesMatrix, LacksLines};
 ghost use Rattle.mcf_matrix.specs.Covers.{IsShortCover};
 ghost use Rattle.mcf_matrix.specs.Matchings.{IsLeastMatching, IsMatching};
 ghost use Rattle.mcf_matrix.specs.MatrixPrices.{IsShownMatching};
 ghost use Rattle.mcf_matrix_doubles.specs.DoublePrices.{AreSmallPrices, in_units};
 ghost use Rattle.mcf_matrix_doubles.specs.DoubleTables.{IsDoubleMatrix, double_costs};
-ghost use Rattle.mcf_matrix_doubles.specs.Rounding.{IsNearlyLeastMatching, costs_read, most_lost};
+ghost use Rattle.mcf_matrix_doubles.specs.Rounding.{IsNearlyLeastMatching, costs_read};
 ghost use Rattle.mcf_matrix_doubles.specs.Spans.{IsNarrow, IsWide};
 
+use crate::matrices::are_lines;
 use crate::statuses::{
     ACCEPTED, BLOCKED, BUFFER_TOO_SMALL, FLOW, INVALID_INPUT, NO_MEMORY, NOT_SHOWN, REJECTED,
 };
+use crate::transports::Lines;
 use crate::wide::{McfWide, numbers_of, put_wide, put_wide_marks};
 use mcf_double_solver::{Cover, DoubleAssigned, DoubleAssignment, DoubleMatrix, assign};
 use mcf_matrix_doubles::{DoublePrices, judge_assignment};
@@ -48,14 +51,6 @@ pub(crate) fn scale_of(unit: u32, is_rounded: bool) -> McfScale
     }
 }
 
-// Returns whether the arrays have an entry for each row, and for each column.
-fn are_lines(matrix: &McfDoubles<'_>, columns_of: usize, rows: usize, columns: usize) -> bool
-    ensures yes { result ≡ true → (columns_of ≡ matrix.now.rows) × (rows ≡ matrix.now.rows) × (columns ≡ matrix.now.columns) }
-    ensures no { result ≡ false → (columns_of ≢ matrix.now.rows) ⊎ (rows ≢ matrix.now.rows) ⊎ (columns ≢ matrix.now.columns) }
-{
-    columns_of == matrix.rows && rows == matrix.rows && columns == matrix.columns
-}
-
 /// Finds a least assignment of a cost matrix of doubles, which it reads exactly. Writes the column
 /// of each row, or a number that is no column's for a row without one, and prices of rows and
 /// columns that show the assignment, in units of 2^unit * 2^-1074.
@@ -80,77 +75,35 @@ pub extern "C" fn mcf_assign_doubles(
     column_prices: &mut [McfWide],
     scale: &mut McfScale,
 ) -> u32
-    ensures statuses { (result ≤ 4) ⊎ (result ≡ 7) }
-    ensures shown { result ≡ 0 → IsShownMatching (costs_by scale.new matrix.now) column_of.new (in_units scale.new.unit (wide_values row_prices.new)) (in_units scale.new.unit (wide_values column_prices.new)) }
-    ensures least { result ≡ 0 → IsLeastMatching (costs_by scale.new matrix.now) column_of.new }
-    ensures near { result ≡ 0 → IsNearlyLeastMatching (double_costs_of matrix.now) column_of.new (gap_by scale.new matrix.now) }
-    ensures exact { result ≡ 0 → IsNarrow (double_costs_of matrix.now) → tells_rounded scale.new ≡ false }
-    ensures wide { result ≡ 0 → IsTrue (tells_rounded scale.new) → IsWide scale.new.unit (double_costs_of matrix.now) }
-    ensures cover { result ≡ 1 → HandsWideCover (double_costs_of matrix.now) row_prices.new column_prices.new }
-    ensures none { result ≡ 1 → (x : List ℕ) → ¬ IsMatching (double_costs_of matrix.now) x }
-    ensures within { result ≤ 1 → IsDoubleMatrix (doubles_of matrix.now) }
-    ensures fault { result ≡ 2 → ¬ IsDoubleMatrix (doubles_of matrix.now) }
-    ensures memory { result ≡ 3 → 1 ≤ matrix.now.rows + matrix.now.columns }
-    ensures room { result ≡ 4 → (length column_of.old ≢ matrix.now.rows) ⊎ (length row_prices.old ≢ matrix.now.rows) ⊎ (length column_prices.old ≢ matrix.now.columns) }
-    ensures columns_stay { 1 ≤ result → column_of.new ≡ column_of.old }
-    ensures scale_stays { 1 ≤ result → scale.new ≡ scale.old }
-    ensures row_prices_stay { 2 ≤ result → row_prices.new ≡ row_prices.old }
-    ensures column_prices_stay { 2 ≤ result → column_prices.new ≡ column_prices.old }
+    ensures answers { AnswersMatrix (IsDoubleMatrix (doubles_of matrix.now)) (LacksLines matrix.now.rows matrix.now.columns (length column_of.old) (length row_prices.old) (length column_prices.old)) (matrix.now.rows + matrix.now.columns) result column_of.old column_of.new row_prices.old row_prices.new column_prices.old column_prices.new }
+    ensures shown { result ≡ FLOW → IsShownMatching (costs_by scale.new matrix.now) column_of.new (in_units scale.new.unit (wide_values row_prices.new)) (in_units scale.new.unit (wide_values column_prices.new)) }
+    ensures least { result ≡ FLOW → IsLeastMatching (costs_by scale.new matrix.now) column_of.new }
+    ensures near { result ≡ FLOW → IsNearlyLeastMatching (double_costs_of matrix.now) column_of.new (gap_by scale.new matrix.now) }
+    ensures exact { result ≡ FLOW → IsNarrow (double_costs_of matrix.now) → tells_rounded scale.new ≡ false }
+    ensures wide { result ≡ FLOW → IsTrue (tells_rounded scale.new) → IsWide scale.new.unit (double_costs_of matrix.now) }
+    ensures cover { result ≡ BLOCKED → HandsWideCover (double_costs_of matrix.now) row_prices.new column_prices.new }
+    ensures none { result ≡ BLOCKED → (x : List ℕ) → ¬ IsMatching (double_costs_of matrix.now) x }
+    ensures scale_stays { BLOCKED ≤ result → scale.new ≡ scale.old }
 {
-    if !are_lines(
-        matrix,
-        column_of.len(),
-        row_prices.len(),
-        column_prices.len(),
-    ) {
+    let McfDoubles { rows, columns, .. } = *matrix;
+    let prices = Lines {
+        rows: row_prices.len(),
+        columns: column_prices.len(),
+    };
+    if !are_lines(Lines { rows, columns }, column_of.len(), prices) {
         return BUFFER_TOO_SMALL;
     }
-    let McfDoubles {
-        costs,
-        rows,
-        columns,
-        stride,
-    } = *matrix;
-    let Ok(matrix) = DoubleMatrix::of(costs, rows, columns, stride) else {
+    let Ok(matrix) = DoubleMatrix::of(matrix.costs, rows, columns, matrix.stride) else {
         return INVALID_INPUT;
     };
-    assign_lines(alloc, &matrix, column_of, row_prices, column_prices, scale)
-}
-
-// Finds a least assignment, for buffers of the right lengths.
-fn assign_lines(
-    alloc: Global,
-    matrix: &DoubleMatrix<'_>,
-    column_of: &mut [u32],
-    row_prices: &mut [McfWide],
-    column_prices: &mut [McfWide],
-    scale: &mut McfScale,
-) -> u32
-    requires columns { length column_of.old ≡ matrix.now.rows }
-    requires row_prices { length row_prices.old ≡ matrix.now.rows }
-    requires column_prices { length column_prices.old ≡ matrix.now.columns }
-    ensures statuses { (result ≤ 1) ⊎ (result ≡ 3) ⊎ (result ≡ 7) }
-    ensures shown { result ≡ 0 → IsShownMatching (costs_read scale.new.unit (tells_rounded scale.new) (double_costs matrix.now)) column_of.new (in_units scale.new.unit (wide_values row_prices.new)) (in_units scale.new.unit (wide_values column_prices.new)) }
-    ensures least { result ≡ 0 → IsLeastMatching (costs_read scale.new.unit (tells_rounded scale.new) (double_costs matrix.now)) column_of.new }
-    ensures near { result ≡ 0 → IsNearlyLeastMatching (double_costs matrix.now) column_of.new (most_lost scale.new.unit (tells_rounded scale.new) (pos (min matrix.now.rows matrix.now.columns))) }
-    ensures exact { result ≡ 0 → IsNarrow (double_costs matrix.now) → tells_rounded scale.new ≡ false }
-    ensures wide { result ≡ 0 → IsTrue (tells_rounded scale.new) → IsWide scale.new.unit (double_costs matrix.now) }
-    ensures cover { result ≡ 1 → HandsWideCover (double_costs matrix.now) row_prices.new column_prices.new }
-    ensures none { result ≡ 1 → (x : List ℕ) → ¬ IsMatching (double_costs matrix.now) x }
-    ensures memory { result ≡ 3 → 1 ≤ matrix.now.rows + matrix.now.columns }
-    ensures columns_stay { 1 ≤ result → column_of.new ≡ column_of.old }
-    ensures scale_stays { 1 ≤ result → scale.new ≡ scale.old }
-    ensures row_prices_stay { 2 ≤ result → row_prices.new ≡ row_prices.old }
-    ensures column_prices_stay { 2 ≤ result → column_prices.new ≡ column_prices.old }
-{
-    match assign(alloc, matrix) {
+    match assign(alloc, &matrix) {
         Ok(DoubleAssigned::Least(found)) => {
-            put_found(matrix, &found, column_of, row_prices, column_prices);
+            put_found(&matrix, &found, column_of, row_prices, column_prices);
             *scale = scale_of(found.unit, found.is_rounded);
             FLOW
         }
         Ok(DoubleAssigned::Infeasible(cover)) => {
-            put_cover(matrix, &cover, row_prices, column_prices);
+            put_cover(&matrix, &cover, row_prices, column_prices);
             BLOCKED
         }
         Ok(DoubleAssigned::NotShown) => NOT_SHOWN,
@@ -210,22 +163,15 @@ pub extern "C" fn mcf_check_doubles(
     column_prices: &[McfWide],
     scale: &McfScale,
 ) -> u32
-    ensures statuses { result ≤ 3 }
-    ensures exact { result ≤ 1 → (result ≡ 0) ↔ (AreSmallPrices (wide_values row_prices.now) × AreSmallPrices (wide_values column_prices.now)
-        × IsShownMatching (costs_by scale.now matrix.now) column_of.now (in_units scale.now.unit (wide_values row_prices.now)) (in_units scale.now.unit (wide_values column_prices.now))) }
-    ensures least { result ≡ 0 → IsLeastMatching (costs_by scale.now matrix.now) column_of.now }
-    ensures near { result ≡ 0 → IsNearlyLeastMatching (double_costs_of matrix.now) column_of.now (gap_by scale.now matrix.now) }
-    ensures within { result ≤ 1 → IsDoubleMatrix (doubles_of matrix.now) }
-    ensures fault { result ≡ 2 → ¬ IsDoubleMatrix (doubles_of matrix.now) }
-    ensures memory { result ≡ 3 → 1 ≤ length row_prices.now + length column_prices.now + matrix.now.columns }
+    ensures judges { JudgesMatrix (IsDoubleMatrix (doubles_of matrix.now))
+        (AreSmallPrices (wide_values row_prices.now) × AreSmallPrices (wide_values column_prices.now)
+        × IsShownMatching (costs_by scale.now matrix.now) column_of.now (in_units scale.now.unit (wide_values row_prices.now)) (in_units scale.now.unit (wide_values column_prices.now)))
+        (length row_prices.now + length column_prices.now + matrix.now.columns) result }
+    ensures least { result ≡ ACCEPTED → IsLeastMatching (costs_by scale.now matrix.now) column_of.now }
+    ensures near { result ≡ ACCEPTED → IsNearlyLeastMatching (double_costs_of matrix.now) column_of.now (gap_by scale.now matrix.now) }
 {
-    let McfDoubles {
-        costs,
-        rows,
-        columns,
-        stride,
-    } = *matrix;
-    let Ok(matrix) = DoubleMatrix::of(costs, rows, columns, stride) else {
+    let Ok(matrix) = DoubleMatrix::of(matrix.costs, matrix.rows, matrix.columns, matrix.stride)
+    else {
         return INVALID_INPUT;
     };
     let Ok(rows) = numbers_of(alloc, row_prices) else {

@@ -8,6 +8,7 @@ ghost use Rattle.mcf_c.specs.DoubleMatrices.{costs_by, double_costs_of, doubles_
 ghost use Rattle.mcf_matrix_doubles.specs.Rounding.{IsNearlyLeastPlan};
 ghost use Rattle.mcf_matrix_doubles.specs.Spans.{IsNarrow, IsWide};
 ghost use Rattle.mcf_c.specs.Handing.{mark_of};
+ghost use Rattle.mcf_c.specs.Matrices.{AnswersMatrix, JudgesMatrix};
 ghost use Rattle.mcf_c.specs.Transports.{HandsPlan, HasRooms, MarksCut};
 ghost use Rattle.mcf_c.specs.Verdicts.{side_number};
 
@@ -67,32 +68,21 @@ pub extern "C" fn mcf_transport_doubles(
     column_prices: &mut [McfWide],
     told: &mut McfDoublePlanned,
 ) -> u32
-    ensures statuses { (result ≤ 4) ⊎ (result ≡ 7) }
-    ensures plan { result ≡ 0 → HandsPlan (costs_by told.new.scale problem.now.matrix) problem.now.supplies.now problem.now.demands.now room.old room.new told.new.used (in_units told.new.scale.unit (wide_values row_prices.new)) (in_units told.new.scale.unit (wide_values column_prices.new)) }
-    ensures side { result ≡ 0 → told.new.side ≡ 0 }
-    ensures least { result ≡ 0 → IsLeastPlan (costs_by told.new.scale problem.now.matrix) problem.now.supplies.now problem.now.demands.now (take told.new.used room.new) }
-    ensures near { result ≡ 0 → IsNearlyLeastPlan (double_costs_of problem.now.matrix) problem.now.supplies.now problem.now.demands.now (take told.new.used room.new) (plan_gap_by told.new.scale problem.now.matrix problem.now.supplies.now) }
-    ensures exact { result ≡ 0 → IsNarrow (double_costs_of problem.now.matrix) → tells_rounded told.new.scale ≡ false }
-    ensures wide { result ≡ 0 → IsTrue (tells_rounded told.new.scale) → IsWide told.new.scale.unit (double_costs_of problem.now.matrix) }
-    ensures cut { result ≡ 1 → MarksCut (double_costs_of problem.now.matrix) problem.now.supplies.now problem.now.demands.now (wide_values row_prices.new) (wide_values column_prices.new) told.new.side }
-    ensures unused { result ≡ 1 → (told.new.used ≡ 0) × (told.new.scale.unit ≡ 0) × (told.new.scale.is_rounded ≡ 0) }
-    ensures none { result ≡ 1 → (plan : List Shipment) → ¬ IsPlan (double_costs_of problem.now.matrix) problem.now.supplies.now problem.now.demands.now plan }
-    ensures within { result ≤ 1 → IsDoubleMatrix (doubles_of problem.now.matrix) }
-    ensures fault { result ≡ 2 → ¬ IsDoubleMatrix (doubles_of problem.now.matrix) }
-    ensures memory { result ≡ 3 → 1 ≤ problem.now.matrix.rows + problem.now.matrix.columns }
-    ensures room { result ≡ 4 → ¬ HasRooms problem.now.matrix.rows problem.now.matrix.columns problem.now.supplies.now problem.now.demands.now (length room.old) (length row_prices.old) (length column_prices.old) }
-    ensures rooms { (result ≤ 3) ⊎ (result ≡ 7) → HasRooms problem.now.matrix.rows problem.now.matrix.columns problem.now.supplies.now problem.now.demands.now (length room.old) (length row_prices.old) (length column_prices.old) }
-    ensures plan_stays { 1 ≤ result → room.new ≡ room.old }
-    ensures row_prices_stay { 2 ≤ result → row_prices.new ≡ row_prices.old }
-    ensures column_prices_stay { 2 ≤ result → column_prices.new ≡ column_prices.old }
-    ensures told_stays { 2 ≤ result → told.new ≡ told.old }
+    ensures answers { AnswersMatrix (IsDoubleMatrix (doubles_of problem.now.matrix)) (¬ HasRooms problem.now.matrix.rows problem.now.matrix.columns problem.now.supplies.now problem.now.demands.now (length room.old) (length row_prices.old) (length column_prices.old)) (problem.now.matrix.rows + problem.now.matrix.columns) result room.old room.new row_prices.old row_prices.new column_prices.old column_prices.new }
+    ensures plan { result ≡ FLOW → HandsPlan (costs_by told.new.scale problem.now.matrix) problem.now.supplies.now problem.now.demands.now room.old room.new told.new.used (in_units told.new.scale.unit (wide_values row_prices.new)) (in_units told.new.scale.unit (wide_values column_prices.new)) }
+    ensures side { result ≡ FLOW → told.new.side ≡ 0 }
+    ensures least { result ≡ FLOW → IsLeastPlan (costs_by told.new.scale problem.now.matrix) problem.now.supplies.now problem.now.demands.now (take told.new.used room.new) }
+    ensures near { result ≡ FLOW → IsNearlyLeastPlan (double_costs_of problem.now.matrix) problem.now.supplies.now problem.now.demands.now (take told.new.used room.new) (plan_gap_by told.new.scale problem.now.matrix problem.now.supplies.now) }
+    ensures exact { result ≡ FLOW → IsNarrow (double_costs_of problem.now.matrix) → tells_rounded told.new.scale ≡ false }
+    ensures wide { result ≡ FLOW → IsTrue (tells_rounded told.new.scale) → IsWide told.new.scale.unit (double_costs_of problem.now.matrix) }
+    ensures cut { result ≡ BLOCKED → MarksCut (double_costs_of problem.now.matrix) problem.now.supplies.now problem.now.demands.now (wide_values row_prices.new) (wide_values column_prices.new) told.new.side }
+    ensures unused { result ≡ BLOCKED → (told.new.used ≡ 0) × (told.new.scale.unit ≡ 0) × (told.new.scale.is_rounded ≡ 0) }
+    ensures none { result ≡ BLOCKED → (plan : List Shipment) → ¬ IsPlan (double_costs_of problem.now.matrix) problem.now.supplies.now problem.now.demands.now plan }
+    ensures rooms { (result ≤ NO_MEMORY) ⊎ (result ≡ NOT_SHOWN) → HasRooms problem.now.matrix.rows problem.now.matrix.columns problem.now.supplies.now problem.now.demands.now (length room.old) (length row_prices.old) (length column_prices.old) }
+    ensures told_stays { INVALID_INPUT ≤ result → told.new ≡ told.old }
 {
-    let McfDoubles {
-        costs,
-        rows,
-        columns,
-        stride,
-    } = problem.matrix;
+    let matrix = &problem.matrix;
+    let McfDoubles { rows, columns, .. } = *matrix;
     let masses = Masses {
         supplies: problem.supplies,
         demands: problem.demands,
@@ -104,7 +94,7 @@ pub extern "C" fn mcf_transport_doubles(
     if !has_rooms(Lines { rows, columns }, &masses, room, prices) {
         return BUFFER_TOO_SMALL;
     }
-    let Ok(matrix) = DoubleMatrix::of(costs, rows, columns, stride) else {
+    let Ok(matrix) = DoubleMatrix::of(matrix.costs, rows, columns, matrix.stride) else {
         return INVALID_INPUT;
     };
     match plan(alloc, &matrix, &masses) {
@@ -125,19 +115,19 @@ fn put_plan(
 ) -> u32
     requires row_prices { length row_prices.old ≡ length found.now.row_prices.items }
     requires column_prices { length column_prices.old ≡ length found.now.column_prices.items }
-    ensures statuses { (result ≡ 0) ⊎ (result ≡ 7) }
-    ensures fits { result ≡ 0 → told.new.used ≤ length room.new }
-    ensures plan { result ≡ 0 → take told.new.used room.new ≡ found.now.shipments.items }
-    ensures rest { result ≡ 0 → drop told.new.used room.new ≡ drop told.new.used room.old }
-    ensures row_prices { result ≡ 0 → wide_values row_prices.new ≡ found.now.row_prices.items }
-    ensures column_prices { result ≡ 0 → wide_values column_prices.new ≡ found.now.column_prices.items }
-    ensures side { result ≡ 0 → told.new.side ≡ 0 }
-    ensures unit { result ≡ 0 → told.new.scale.unit ≡ found.now.unit }
-    ensures rounded { result ≡ 0 → tells_rounded told.new.scale ≡ found.now.is_rounded }
-    ensures plan_stays { result ≡ 7 → room.new ≡ room.old }
-    ensures row_prices_stay { result ≡ 7 → row_prices.new ≡ row_prices.old }
-    ensures column_prices_stay { result ≡ 7 → column_prices.new ≡ column_prices.old }
-    ensures told_stays { result ≡ 7 → told.new ≡ told.old }
+    ensures statuses { (result ≡ FLOW) ⊎ (result ≡ NOT_SHOWN) }
+    ensures fits { result ≡ FLOW → told.new.used ≤ length room.new }
+    ensures plan { result ≡ FLOW → take told.new.used room.new ≡ found.now.shipments.items }
+    ensures rest { result ≡ FLOW → drop told.new.used room.new ≡ drop told.new.used room.old }
+    ensures row_prices { result ≡ FLOW → wide_values row_prices.new ≡ found.now.row_prices.items }
+    ensures column_prices { result ≡ FLOW → wide_values column_prices.new ≡ found.now.column_prices.items }
+    ensures side { result ≡ FLOW → told.new.side ≡ 0 }
+    ensures unit { result ≡ FLOW → told.new.scale.unit ≡ found.now.unit }
+    ensures rounded { result ≡ FLOW → tells_rounded told.new.scale ≡ found.now.is_rounded }
+    ensures plan_stays { result ≡ NOT_SHOWN → room.new ≡ room.old }
+    ensures row_prices_stay { result ≡ NOT_SHOWN → row_prices.new ≡ row_prices.old }
+    ensures column_prices_stay { result ≡ NOT_SHOWN → column_prices.new ≡ column_prices.old }
+    ensures told_stays { result ≡ NOT_SHOWN → told.new ≡ told.old }
 {
     let shipments = found.shipments.as_slice();
     if room.len() < shipments.len() {
@@ -163,7 +153,7 @@ fn put_cut(
 ) -> u32
     requires rows { length row_marks.old ≡ length cut.now.rows.items }
     requires columns { length column_marks.old ≡ length cut.now.columns.items }
-    ensures status { result ≡ 1 }
+    ensures status { result ≡ BLOCKED }
     ensures rows { wide_values row_marks.new ≡ map mark_of cut.now.rows.items }
     ensures columns { wide_values column_marks.new ≡ map mark_of cut.now.columns.items }
     ensures side { told.new.side ≡ side_number cut.now.side }
@@ -199,22 +189,16 @@ pub extern "C" fn mcf_check_transport_doubles(
     column_prices: &[McfWide],
     scale: &McfScale,
 ) -> u32
-    ensures statuses { result ≤ 3 }
-    ensures exact { result ≤ 1 → (result ≡ 0) ↔ (AreSmallPrices (wide_values row_prices.now) × AreSmallPrices (wide_values column_prices.now)
-        × IsShownPlan (costs_by scale.now problem.now.matrix) problem.now.supplies.now problem.now.demands.now plan.now (in_units scale.now.unit (wide_values row_prices.now)) (in_units scale.now.unit (wide_values column_prices.now))) }
-    ensures least { result ≡ 0 → IsLeastPlan (costs_by scale.now problem.now.matrix) problem.now.supplies.now problem.now.demands.now plan.now }
-    ensures near { result ≡ 0 → IsNearlyLeastPlan (double_costs_of problem.now.matrix) problem.now.supplies.now problem.now.demands.now plan.now (plan_gap_by scale.now problem.now.matrix problem.now.supplies.now) }
-    ensures within { result ≤ 1 → IsDoubleMatrix (doubles_of problem.now.matrix) }
-    ensures fault { result ≡ 2 → ¬ IsDoubleMatrix (doubles_of problem.now.matrix) }
-    ensures memory { result ≡ 3 → 1 ≤ length row_prices.now + length column_prices.now + problem.now.matrix.rows + problem.now.matrix.columns }
+    ensures judges { JudgesMatrix (IsDoubleMatrix (doubles_of problem.now.matrix))
+        (AreSmallPrices (wide_values row_prices.now) × AreSmallPrices (wide_values column_prices.now)
+        × IsShownPlan (costs_by scale.now problem.now.matrix) problem.now.supplies.now problem.now.demands.now plan.now (in_units scale.now.unit (wide_values row_prices.now)) (in_units scale.now.unit (wide_values column_prices.now)))
+        (length row_prices.now + length column_prices.now + problem.now.matrix.rows + problem.now.matrix.columns) result }
+    ensures least { result ≡ ACCEPTED → IsLeastPlan (costs_by scale.now problem.now.matrix) problem.now.supplies.now problem.now.demands.now plan.now }
+    ensures near { result ≡ ACCEPTED → IsNearlyLeastPlan (double_costs_of problem.now.matrix) problem.now.supplies.now problem.now.demands.now plan.now (plan_gap_by scale.now problem.now.matrix problem.now.supplies.now) }
 {
-    let McfDoubles {
-        costs,
-        rows,
-        columns,
-        stride,
-    } = problem.matrix;
-    let Ok(matrix) = DoubleMatrix::of(costs, rows, columns, stride) else {
+    let matrix = &problem.matrix;
+    let Ok(matrix) = DoubleMatrix::of(matrix.costs, matrix.rows, matrix.columns, matrix.stride)
+    else {
         return INVALID_INPUT;
     };
     let Ok(rows) = numbers_of(alloc, row_prices) else {

@@ -1,8 +1,8 @@
 //! Answers to instances, returned in arrays.
-ghost use Rattle.std.specs.Prelude.{◌≡◌, ◌≢◌, ◌≤◌, ◌<◌, ◌⊎◌, ◌↔◌, FitsSigned, IfOk, List, Ok, OnErr, length, map, set, true, false, ℤ, ℕ, pos};
+ghost use Rattle.std.specs.Prelude.{◌≡◌, ◌≢◌, ◌≤◌, ◌<◌, ◌⊎◌, ◌↔◌, FitsSigned, IfOk, List, Ok, OnErr, Some, length, map, set, true, false, ℤ, ℕ, pos};
 ghost use Rattle.std.specs.Int.{w64};
 ghost use Rattle.std.specs.List.{All};
-ghost use Rattle.mcf_c.specs.Handing.{FitWords, HandsFlow, HandsSet, HasWidePrice, IsMadeFlow, TakesMemory, in_one_form, mark_of};
+ghost use Rattle.mcf_c.specs.Handing.{Answers, FitWords, HandsSet, IsMadeFlow, TakesMemory, mark_of};
 ghost use Rattle.mcf_c.specs.Verdicts.{Tells, TellsSet};
 ghost use Rattle.mcf_checker.specs.Correct.{IsRightSolution, amounts};
 ghost use Rattle.mcf_flows.specs.Blocking.{in_list, in_table};
@@ -90,12 +90,12 @@ fn hand_flow(
     requires flow { length flow.old ≡ length answer.now.sent }
     requires prices { length prices.old ≡ length answer.now.prices }
     requires fits { FitWords (amounts answer.now.sent) }
-    ensures statuses { (result ≡ 0) ⊎ (result ≡ 6) }
-    ensures flow { result ≡ 0 → flow.new ≡ amounts answer.now.sent }
-    ensures prices { result ≡ 0 → prices.new ≡ answer.now.prices }
-    ensures told { result ≡ 0 → Tells (Verdict.Flow answer.now.cost) told.new }
-    ensures told_stays { result ≡ 6 → told.new ≡ told.old }
-    ensures wide { result ≡ 6 → ¬ FitWords answer.now.prices }
+    ensures statuses { (result ≡ FLOW) ⊎ (result ≡ PRICE_OVERFLOW) }
+    ensures flow { result ≡ FLOW → flow.new ≡ amounts answer.now.sent }
+    ensures prices { result ≡ FLOW → prices.new ≡ answer.now.prices }
+    ensures told { result ≡ FLOW → Tells (Verdict.Flow answer.now.cost) told.new }
+    ensures told_stays { result ≡ PRICE_OVERFLOW → told.new ≡ told.old }
+    ensures wide { result ≡ PRICE_OVERFLOW → ¬ FitWords answer.now.prices }
 {
     put_flow(answer.sent.as_slice(), flow);
     if !put_prices(answer.prices.as_slice(), prices) {
@@ -132,11 +132,11 @@ fn hand_set(
 ) -> u32
     requires marks { length marks.old ≡ node_count instance.now }
     requires blocks { IsNoFlowProof instance.now answer.now }
-    ensures statuses { (result ≡ 1) ⊎ (result ≡ 3) }
-    ensures set { result ≡ 1 → HandsSet instance.now marks.new told.new }
-    ensures memory { result ≡ 3 → 1 ≤ node_count instance.now }
-    ensures marks_stay { result ≡ 3 → marks.new ≡ marks.old }
-    ensures told_stays { result ≡ 3 → told.new ≡ told.old }
+    ensures statuses { (result ≡ BLOCKED) ⊎ (result ≡ NO_MEMORY) }
+    ensures set { result ≡ BLOCKED → HandsSet instance.now marks.new told.new }
+    ensures memory { result ≡ NO_MEMORY → 1 ≤ node_count instance.now }
+    ensures marks_stay { result ≡ NO_MEMORY → marks.new ≡ marks.old }
+    ensures told_stays { result ≡ NO_MEMORY → told.new ≡ told.old }
 {
     let nodes = answer.nodes.as_slice();
     let Ok(table) = table_of(alloc, instance.node_count(), nodes) else {
@@ -177,15 +177,8 @@ pub(crate) fn answer_instance(
 ) -> u32
     requires flow { length flow.old ≡ length instance.now.arcs }
     requires prices { length prices.old ≡ node_count instance.now }
-    ensures statuses { (result ≤ 1) ⊎ ((result ≡ 3) ⊎ (result ≡ 6)) }
-    ensures flow { result ≡ 0 → HandsFlow instance.now flow.new prices.new told.new }
-    ensures made { result ≡ 0 → asked.is_again ≡ false → IsMadeFlow asked.choice instance.now flow.new }
-    ensures set { result ≡ 1 → HandsSet instance.now prices.new told.new }
-    ensures memory { result ≡ 3 → TakesMemory asked.choice.engine instance.now }
-    ensures wide { result ≡ 6 → HasWidePrice instance.now }
-    ensures flow_stays { (result ≡ 1) ⊎ (result ≡ 3) → flow.new ≡ flow.old }
-    ensures prices_stay { result ≡ 3 → prices.new ≡ prices.old }
-    ensures told_stays { (result ≡ 3) ⊎ (result ≡ 6) → told.new ≡ told.old }
+    ensures answers { Answers instance.now (Some asked.choice) result flow.old flow.new prices.old prices.new told.old told.new }
+    ensures made { result ≡ FLOW → asked.is_again ≡ false → IsMadeFlow asked.choice instance.now flow.new }
 {
     prove!(instance.node_count() <= NODE_LIMIT);
     let is_judged = asked.is_judged;
@@ -219,18 +212,9 @@ fn answer_asked(
     if asked.is_again {
         return solve_instance_from(alloc, instance, Form::One, flow, prices);
     }
-    let choice = in_one_form(asked.choice);
-    solve_instance(alloc, instance, choice)
-}
-
-// The choice with the full form.
-fn in_one_form(choice: Choice) -> Choice
-    ensures { result ≡ in_one_form choice }
-{
-    Choice {
-        engine: choice.engine,
-        pricing: choice.pricing,
-        block: choice.block,
+    let choice = Choice {
         form: Form::One,
-    }
+        ..asked.choice
+    };
+    solve_instance(alloc, instance, choice)
 }

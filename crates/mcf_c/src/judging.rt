@@ -1,15 +1,9 @@
 //! Flows in arrays judged, without texts.
-ghost use Rattle.std.specs.Prelude.{◌≡◌, ◌≢◌, ◌≤◌, ◌⊎◌, ◌↔◌, if◌then◌else◌, length, nat_le, neg_ℤ, pos};
+ghost use Rattle.std.specs.Prelude.{◌≡◌, if◌then◌else◌, length, nat_le, neg_ℤ, pos};
 ghost use Rattle.mcf_answer.specs.Ranges.{amount_limit};
-ghost use Rattle.mcf_c.specs.Handing.{HandsFault, KeepsSizes};
-ghost use Rattle.mcf_c.specs.Judged.{claimed_cost};
+ghost use Rattle.mcf_c.specs.Judged.{Judges, claimed_cost};
 ghost use Rattle.mcf_c.specs.Problems.{assignment_network, flow_network};
-ghost use Rattle.mcf_c.specs.Verdicts.{Tells, number};
-ghost use Rattle.mcf_checker.specs.Amounts.{answer_along};
-ghost use Rattle.mcf_checker.specs.Correct.{IsRightFlow};
-ghost use Rattle.mcf_checker.specs.Judging.{accepts, solution_verdict};
-ghost use Rattle.mcf_flows.specs.Flow.{IsLeast};
-ghost use Rattle.mcf_flows.specs.Network.{node_count};
+ghost use Rattle.mcf_checker.specs.Judging.{accepts};
 
 use crate::arrays::are_rooms;
 use crate::problems::{McfAssignment, McfFlowProblem, node_count};
@@ -52,12 +46,7 @@ pub(crate) fn judge_instance(
     told: &mut McfVerdict,
 ) -> u32
     requires flow { length flow.now ≡ length instance.now.arcs }
-    ensures statuses { (result ≤ 1) ⊎ (result ≡ 3) }
-    ensures verdict { result ≤ 1 → Tells (solution_verdict instance.now (answer_along instance.now (claimed_cost told.old) flow.now prices.now)) told.new }
-    ensures exact { result ≤ 1 → (result ≡ 0) ↔ IsRightFlow instance.now (number told.old) prices.now flow.now }
-    ensures least { result ≡ 0 → IsLeast instance.now flow.now }
-    ensures memory { result ≡ 3 → 1 ≤ node_count instance.now }
-    ensures untouched { result ≡ 3 → told.new ≡ told.old }
+    ensures { Judges instance.now flow.now prices.now result told.old told.new }
 {
     prove!(instance.node_count() <= NODE_LIMIT);
     let cost = claimed_cost(told);
@@ -95,29 +84,18 @@ pub extern "C" fn mcf_check_arcs(
     prices: &[i64],
     told: &mut McfVerdict,
 ) -> u32
-    ensures statuses { result ≤ 4 }
-    ensures verdict { result ≤ 1 → Tells (solution_verdict (flow_network problem.now)
-        (answer_along (flow_network problem.now) (claimed_cost told.old) flow.now prices.now)) told.new }
-    ensures exact { result ≤ 1 → (result ≡ 0) ↔ IsRightFlow (flow_network problem.now) (number told.old) prices.now flow.now }
-    ensures least { result ≡ 0 → IsLeast (flow_network problem.now) flow.now }
-    ensures fault { result ≡ 2 → HandsFault (flow_network problem.now) told.new }
-    ensures memory { result ≡ 3 → 1 ≤ node_count (flow_network problem.now) }
-    ensures sized { result ≡ 3 → KeepsSizes (flow_network problem.now) }
-    ensures lengths { result ≡ 4 → (length flow.now ≢ length (flow_network problem.now).arcs) ⊎ (length prices.now ≢ node_count (flow_network problem.now)) }
-    ensures untouched { (3 ≤ result) × (result ≤ 4) → told.new ≡ told.old }
+    ensures { Judges (flow_network problem.now) flow.now prices.now result told.old told.new }
 {
     if !are_rooms(flow, problem.arcs.len(), prices, problem.supplies.len()) {
         return BUFFER_TOO_SMALL;
     }
-    let Ok(made) = flow_problem(alloc, problem.supplies, problem.arcs) else {
-        return NO_MEMORY;
-    };
-    match made {
-        Ok(instance) => judge_instance(alloc, &instance, flow, prices, told),
-        Err(fault) => {
+    match flow_problem(alloc, problem.supplies, problem.arcs) {
+        Ok(Ok(instance)) => judge_instance(alloc, &instance, flow, prices, told),
+        Ok(Err(fault)) => {
             *told = fault_numbers(&fault);
             INVALID_INPUT
         }
+        Err(_) => NO_MEMORY,
     }
 }
 
@@ -133,28 +111,17 @@ pub extern "C" fn mcf_check_pairs(
     prices: &[i64],
     told: &mut McfVerdict,
 ) -> u32
-    ensures statuses { result ≤ 4 }
-    ensures verdict { result ≤ 1 → Tells (solution_verdict (assignment_network problem.now)
-        (answer_along (assignment_network problem.now) (claimed_cost told.old) flow.now prices.now)) told.new }
-    ensures exact { result ≤ 1 → (result ≡ 0) ↔ IsRightFlow (assignment_network problem.now) (number told.old) prices.now flow.now }
-    ensures least { result ≡ 0 → IsLeast (assignment_network problem.now) flow.now }
-    ensures fault { result ≡ 2 → HandsFault (assignment_network problem.now) told.new }
-    ensures memory { result ≡ 3 → 1 ≤ node_count (assignment_network problem.now) }
-    ensures sized { result ≡ 3 → KeepsSizes (assignment_network problem.now) }
-    ensures lengths { result ≡ 4 → (length flow.now ≢ length (assignment_network problem.now).arcs) ⊎ (length prices.now ≢ node_count (assignment_network problem.now)) }
-    ensures untouched { (3 ≤ result) × (result ≤ 4) → told.new ≡ told.old }
+    ensures { Judges (assignment_network problem.now) flow.now prices.now result told.old told.new }
 {
     if !are_rooms(flow, problem.pairs.len(), prices, node_count(problem)) {
         return BUFFER_TOO_SMALL;
     }
-    let Ok(made) = assignment_problem(alloc, problem.rows, problem.columns, problem.pairs) else {
-        return NO_MEMORY;
-    };
-    match made {
-        Ok(instance) => judge_instance(alloc, &instance, flow, prices, told),
-        Err(fault) => {
+    match assignment_problem(alloc, problem.rows, problem.columns, problem.pairs) {
+        Ok(Ok(instance)) => judge_instance(alloc, &instance, flow, prices, told),
+        Ok(Err(fault)) => {
             *told = fault_numbers(&fault);
             INVALID_INPUT
         }
+        Err(_) => NO_MEMORY,
     }
 }

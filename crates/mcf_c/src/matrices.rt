@@ -1,15 +1,16 @@
 //! Least assignments of cost matrices in arrays, and the judge of such assignments.
-ghost use Rattle.std.specs.Prelude.{◌≡◌, ◌≢◌, ◌≤◌, ◌⊎◌, ◌↔◌, ◌+◌, ℕ, List, length, true, false};
+ghost use Rattle.std.specs.Prelude.{◌≡◌, ◌+◌, ℕ, List, length, true, false};
 ghost use Rattle.mcf_matrix.specs.Covers.{IsShortCover};
 ghost use Rattle.mcf_matrix.specs.Matchings.{IsLeastMatching, IsMatching};
 ghost use Rattle.mcf_matrix.specs.MatrixPrices.{IsShownMatching};
 ghost use Rattle.mcf_matrix.specs.Tables.{IsMatrix, whole_costs};
-ghost use Rattle.mcf_c.specs.Matrices.{HandsCover, costs_of, table_of};
+ghost use Rattle.mcf_c.specs.Matrices.{AnswersMatrix, HandsCover, JudgesMatrix, LacksLines, costs_of, table_of};
 
 use crate::handing::put_marks;
 use crate::statuses::{
     ACCEPTED, BLOCKED, BUFFER_TOO_SMALL, FLOW, INVALID_INPUT, NO_MEMORY, NOT_SHOWN, REJECTED,
 };
+use crate::transports::Lines;
 use mcf_matrix::{Matrix, judge_assignment};
 use mcf_matrix_solver::{Assigned, Assignment, Cover, assign};
 use std::alloc::Global;
@@ -25,19 +26,13 @@ pub struct McfMatrix<'a> {
     pub stride: usize,
 }
 
-// Returns whether the arrays have an entry for each row, and for each column.
-fn are_lines(
-    matrix: &McfMatrix<'_>,
-    column_of: &[u32],
-    row_prices: &[i64],
-    column_prices: &[i64],
-) -> bool
-    ensures yes { result ≡ true → (length column_of.now ≡ matrix.now.rows) × (length row_prices.now ≡ matrix.now.rows) × (length column_prices.now ≡ matrix.now.columns) }
-    ensures no { result ≡ false → (length column_of.now ≢ matrix.now.rows) ⊎ (length row_prices.now ≢ matrix.now.rows) ⊎ (length column_prices.now ≢ matrix.now.columns) }
+/// Returns whether arrays have these lengths: an entry and a price for each row, and a price for
+/// each column.
+pub(crate) fn are_lines(lines: Lines, entries: usize, prices: Lines) -> bool
+    ensures yes { result ≡ true → (entries ≡ lines.rows) × (prices.rows ≡ lines.rows) × (prices.columns ≡ lines.columns) }
+    ensures no { result ≡ false → LacksLines lines.rows lines.columns entries prices.rows prices.columns }
 {
-    column_of.len() == matrix.rows
-        && row_prices.len() == matrix.rows
-        && column_prices.len() == matrix.columns
+    entries == lines.rows && prices.rows == lines.rows && prices.columns == lines.columns
 }
 
 /// Finds a least assignment of a cost matrix. Writes the column of each row, or a number that is no
@@ -57,62 +52,30 @@ pub extern "C" fn mcf_assign_matrix(
     row_prices: &mut [i64],
     column_prices: &mut [i64],
 ) -> u32
-    ensures statuses { (result ≤ 4) ⊎ (result ≡ 7) }
-    ensures shown { result ≡ 0 → IsShownMatching (costs_of matrix.now) column_of.new row_prices.new column_prices.new }
-    ensures least { result ≡ 0 → IsLeastMatching (costs_of matrix.now) column_of.new }
-    ensures cover { result ≡ 1 → HandsCover (costs_of matrix.now) row_prices.new column_prices.new }
-    ensures none { result ≡ 1 → (x : List ℕ) → ¬ IsMatching (costs_of matrix.now) x }
-    ensures within { result ≤ 1 → IsMatrix (table_of matrix.now) }
-    ensures fault { result ≡ 2 → ¬ IsMatrix (table_of matrix.now) }
-    ensures memory { result ≡ 3 → 1 ≤ matrix.now.rows + matrix.now.columns }
-    ensures room { result ≡ 4 → (length column_of.old ≢ matrix.now.rows) ⊎ (length row_prices.old ≢ matrix.now.rows) ⊎ (length column_prices.old ≢ matrix.now.columns) }
-    ensures columns_stay { 1 ≤ result → column_of.new ≡ column_of.old }
-    ensures row_prices_stay { 2 ≤ result → row_prices.new ≡ row_prices.old }
-    ensures column_prices_stay { 2 ≤ result → column_prices.new ≡ column_prices.old }
+    ensures answers { AnswersMatrix (IsMatrix (table_of matrix.now)) (LacksLines matrix.now.rows matrix.now.columns (length column_of.old) (length row_prices.old) (length column_prices.old)) (matrix.now.rows + matrix.now.columns) result column_of.old column_of.new row_prices.old row_prices.new column_prices.old column_prices.new }
+    ensures shown { result ≡ FLOW → IsShownMatching (costs_of matrix.now) column_of.new row_prices.new column_prices.new }
+    ensures least { result ≡ FLOW → IsLeastMatching (costs_of matrix.now) column_of.new }
+    ensures cover { result ≡ BLOCKED → HandsCover (costs_of matrix.now) row_prices.new column_prices.new }
+    ensures none { result ≡ BLOCKED → (x : List ℕ) → ¬ IsMatching (costs_of matrix.now) x }
 {
-    if !are_lines(matrix, column_of, row_prices, column_prices) {
+    let McfMatrix { rows, columns, .. } = *matrix;
+    let prices = Lines {
+        rows: row_prices.len(),
+        columns: column_prices.len(),
+    };
+    if !are_lines(Lines { rows, columns }, column_of.len(), prices) {
         return BUFFER_TOO_SMALL;
     }
-    let McfMatrix {
-        costs,
-        rows,
-        columns,
-        stride,
-    } = *matrix;
-    let Ok(matrix) = Matrix::of(costs, rows, columns, stride) else {
+    let Ok(matrix) = Matrix::of(matrix.costs, rows, columns, matrix.stride) else {
         return INVALID_INPUT;
     };
-    assign_lines(alloc, &matrix, column_of, row_prices, column_prices)
-}
-
-// Finds a least assignment, for buffers of the right lengths.
-fn assign_lines(
-    alloc: Global,
-    matrix: &Matrix<'_>,
-    column_of: &mut [u32],
-    row_prices: &mut [i64],
-    column_prices: &mut [i64],
-) -> u32
-    requires columns { length column_of.old ≡ matrix.now.rows }
-    requires row_prices { length row_prices.old ≡ matrix.now.rows }
-    requires column_prices { length column_prices.old ≡ matrix.now.columns }
-    ensures statuses { (result ≤ 1) ⊎ (result ≡ 3) ⊎ (result ≡ 7) }
-    ensures shown { result ≡ 0 → IsShownMatching (whole_costs matrix.now) column_of.new row_prices.new column_prices.new }
-    ensures least { result ≡ 0 → IsLeastMatching (whole_costs matrix.now) column_of.new }
-    ensures cover { result ≡ 1 → HandsCover (whole_costs matrix.now) row_prices.new column_prices.new }
-    ensures none { result ≡ 1 → (x : List ℕ) → ¬ IsMatching (whole_costs matrix.now) x }
-    ensures memory { result ≡ 3 → 1 ≤ matrix.now.rows + matrix.now.columns }
-    ensures columns_stay { 1 ≤ result → column_of.new ≡ column_of.old }
-    ensures row_prices_stay { 2 ≤ result → row_prices.new ≡ row_prices.old }
-    ensures column_prices_stay { 2 ≤ result → column_prices.new ≡ column_prices.old }
-{
-    match assign(alloc, matrix) {
+    match assign(alloc, &matrix) {
         Ok(Assigned::Least(found)) => {
-            put_assignment(matrix, &found, column_of, row_prices, column_prices);
+            put_assignment(&matrix, &found, column_of, row_prices, column_prices);
             FLOW
         }
         Ok(Assigned::Infeasible(cover)) => {
-            put_cover(matrix, &cover, row_prices, column_prices);
+            put_cover(&matrix, &cover, row_prices, column_prices);
             BLOCKED
         }
         Ok(Assigned::NotShown) => NOT_SHOWN,
@@ -165,20 +128,10 @@ pub extern "C" fn mcf_check_matrix(
     row_prices: &[i64],
     column_prices: &[i64],
 ) -> u32
-    ensures statuses { result ≤ 3 }
-    ensures exact { result ≤ 1 → (result ≡ 0) ↔ IsShownMatching (costs_of matrix.now) column_of.now row_prices.now column_prices.now }
-    ensures least { result ≡ 0 → IsLeastMatching (costs_of matrix.now) column_of.now }
-    ensures within { result ≤ 1 → IsMatrix (table_of matrix.now) }
-    ensures fault { result ≡ 2 → ¬ IsMatrix (table_of matrix.now) }
-    ensures memory { result ≡ 3 → 1 ≤ matrix.now.columns }
+    ensures judges { JudgesMatrix (IsMatrix (table_of matrix.now)) (IsShownMatching (costs_of matrix.now) column_of.now row_prices.now column_prices.now) matrix.now.columns result }
+    ensures least { result ≡ ACCEPTED → IsLeastMatching (costs_of matrix.now) column_of.now }
 {
-    let McfMatrix {
-        costs,
-        rows,
-        columns,
-        stride,
-    } = *matrix;
-    let Ok(matrix) = Matrix::of(costs, rows, columns, stride) else {
+    let Ok(matrix) = Matrix::of(matrix.costs, matrix.rows, matrix.columns, matrix.stride) else {
         return INVALID_INPUT;
     };
     match judge_assignment(alloc, &matrix, column_of, row_prices, column_prices) {

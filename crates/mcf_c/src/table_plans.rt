@@ -1,6 +1,6 @@
 //! Tables planned.
-ghost use Rattle.std.specs.Prelude.{◌≡◌, ◌↔◌, ◌≤◌, ◌⊎◌, IfOk, IfSome, None};
-ghost use Rattle.mcf_c.specs.Calls.{HandsInto, LacksRoomFor};
+ghost use Rattle.std.specs.Prelude.{◌≡◌, ◌≤◌, IfOk};
+ghost use Rattle.mcf_c.specs.Calls.{AnswersInto};
 ghost use Rattle.mcf_flow_tables.specs.TableAnswers.{bytes_in as flow_bytes_in};
 ghost use Rattle.mcf_pair_tables.specs.GroupAnswers.{bytes_in};
 ghost use Rattle.mcf_c.specs.TablePlans.{HandsPairText, HandsPlanText, IsAskedText, asked_crossing, asked_each, asked_mark, asked_pairs, asked_penalty, asked_tables, asked_yes, flow_bytes, group_bytes, options_under, pair_options, plan_options, plan_status};
@@ -63,7 +63,7 @@ pub struct AskedPairs {
 // The status of an answer of a kind.
 fn plan_status(kind: TextKind) -> u32
     ensures value { result ≡ plan_status kind }
-    ensures few { result ≤ 2 }
+    ensures few { result ≤ INVALID_INPUT }
 {
     match kind {
         TextKind::Plan => FLOW,
@@ -206,7 +206,7 @@ fn answer_to(
     asked: AskedTables,
 ) -> Result<(u32, Vec<u8>), NoMemory>
     ensures text { IfOk result (λ r. HandsPlanText (flow_bytes_in texts.entry) asked r.0 r.1.items) }
-    ensures few { IfOk result (λ r. r.0 ≤ 2) }
+    ensures few { IfOk result (λ r. r.0 ≤ INVALID_INPUT) }
 {
     let mut engine = fast_engine();
     let told = told_text(alloc, &mut engine, texts, asked.options, asked.ranges)?;
@@ -229,12 +229,7 @@ pub extern "C" fn mcf_plan_flow(
     room: &mut [u8],
     used: &mut usize,
 ) -> u32
-    ensures statuses { result ≤ 5 }
-    ensures answer { result ≤ 2 → IfSome (asked_tables options.now) (λ o. HandsInto (HandsPlanText (flow_bytes places.now routes.now options.now) o) result room.old room.new used.new) }
-    ensures room { result ≡ 4 → IfSome (asked_tables options.now) (λ o. LacksRoomFor (HandsPlanText (flow_bytes places.now routes.now options.now) o) room.old used.new) }
-    ensures options { (result ≡ 5) ↔ (asked_tables options.now ≡ None) }
-    ensures untouched { 3 ≤ result → room.new ≡ room.old }
-    ensures unused { (result ≡ 3) ⊎ (result ≡ 5) → used.new ≡ 0 }
+    ensures { AnswersInto (asked_tables options.now) (HandsPlanText (flow_bytes places.now routes.now options.now)) result room.old room.new used.new }
 {
     *used = 0;
     let Some(asked) = asked_tables(options) else {
@@ -279,7 +274,7 @@ fn pairs_answer(
     asked: AskedPairs,
 ) -> Result<(u32, Vec<u8>), NoMemory>
     ensures text { IfOk result (λ r. HandsPairText (bytes_in texts.entry) asked r.0 r.1.items) }
-    ensures few { IfOk result (λ r. r.0 ≤ 2) }
+    ensures few { IfOk result (λ r. r.0 ≤ INVALID_INPUT) }
 {
     let told = asked_text(alloc, texts, asked)?;
     Ok((plan_status(told.kind), told.text))
@@ -301,12 +296,7 @@ pub extern "C" fn mcf_plan_pairs(
     room: &mut [u8],
     used: &mut usize,
 ) -> u32
-    ensures statuses { result ≤ 5 }
-    ensures answer { result ≤ 2 → IfSome (asked_pairs options.now) (λ o. HandsInto (HandsPairText (group_bytes costs.now options.now) o) result room.old room.new used.new) }
-    ensures room { result ≡ 4 → IfSome (asked_pairs options.now) (λ o. LacksRoomFor (HandsPairText (group_bytes costs.now options.now) o) room.old used.new) }
-    ensures options { (result ≡ 5) ↔ (asked_pairs options.now ≡ None) }
-    ensures untouched { 3 ≤ result → room.new ≡ room.old }
-    ensures unused { (result ≡ 3) ⊎ (result ≡ 5) → used.new ≡ 0 }
+    ensures { AnswersInto (asked_pairs options.now) (HandsPairText (group_bytes costs.now options.now)) result room.old room.new used.new }
 {
     *used = 0;
     let Some(asked) = asked_pairs(options) else {

@@ -1,9 +1,9 @@
 //! Texts solved and judged.
-ghost use Rattle.std.specs.Prelude.{◌≡◌, ◌↔◌, ◌≤◌, ◌⊎◌, IfOk, IfSome, IsTrue, None};
+ghost use Rattle.std.specs.Prelude.{◌≡◌, ◌↔◌, ◌≤◌, ◌⊎◌, IfOk, IsTrue};
 ghost use Rattle.mcf_answer.specs.Parsing.{has_item_line};
-ghost use Rattle.mcf_c.specs.Calls.{HandsInto, HandsText, LacksRoomFor, kind_status};
+ghost use Rattle.mcf_c.specs.Calls.{AnswersInto, HandsText, kind_status};
 ghost use Rattle.mcf_c.specs.Choices.{choice_of};
-ghost use Rattle.mcf_c.specs.Verdicts.{Tells, number};
+ghost use Rattle.mcf_c.specs.Verdicts.{Tells, flow_kind, number, refusal_kind, set_kind};
 ghost use Rattle.mcf_checker.specs.Correct.{GivesLeastFlow, HasNoFlow, IsCorrect};
 ghost use Rattle.mcf_checker.specs.Judging.{verdict};
 ghost use Rattle.mcf_flows.specs.Limits.{limits};
@@ -23,9 +23,9 @@ use std::alloc::Global;
 // The status of an answer of a kind.
 fn kind_status(kind: Kind) -> u32
     ensures value { result ≡ kind_status kind }
-    ensures few { result ≤ 2 }
-    ensures blocked { result ≡ 1 → kind ≡ Kind.Blocked }
-    ensures refused { (result ≡ 2) ↔ (kind ≡ Kind.Refused) }
+    ensures few { result ≤ INVALID_INPUT }
+    ensures blocked { result ≡ BLOCKED → kind ≡ Kind.Blocked }
+    ensures refused { (result ≡ INVALID_INPUT) ↔ (kind ≡ Kind.Refused) }
 {
     match kind {
         Kind::Flow => FLOW,
@@ -37,9 +37,9 @@ fn kind_status(kind: Kind) -> u32
 // The answer to a text, with its status.
 fn answer_to(alloc: Global, input: &[u8], choice: Choice) -> Result<(u32, Vec<u8>), NoMemory>
     ensures text { IfOk result (λ r. HandsText choice input.now r.0 r.1.items) }
-    ensures few { IfOk result (λ r. r.0 ≤ 2) }
-    ensures refused { IfOk result (λ r. (r.0 ≡ 2) ↔ HasFault input.now) }
-    ensures none { IfOk result (λ r. r.0 ≡ 1 → HasNoFlow input.now) }
+    ensures few { IfOk result (λ r. r.0 ≤ INVALID_INPUT) }
+    ensures refused { IfOk result (λ r. (r.0 ≡ INVALID_INPUT) ↔ HasFault input.now) }
+    ensures none { IfOk result (λ r. r.0 ≡ BLOCKED → HasNoFlow input.now) }
 {
     let mut text = Vec::new(alloc);
     let kind = solve_text(alloc, input, choice, &mut text)?;
@@ -61,14 +61,9 @@ pub extern "C" fn mcf_solve(
     room: &mut [u8],
     used: &mut usize,
 ) -> u32
-    ensures statuses { result ≤ 5 }
-    ensures answer { result ≤ 2 → IfSome (choice_of choice.now) (λ c. HandsInto (HandsText c input.now) result room.old room.new used.new) }
-    ensures refused { result ≤ 2 → (result ≡ 2) ↔ HasFault input.now }
-    ensures none { result ≡ 1 → HasNoFlow input.now }
-    ensures room { result ≡ 4 → IfSome (choice_of choice.now) (λ c. LacksRoomFor (HandsText c input.now) room.old used.new) }
-    ensures choice { (result ≡ 5) ↔ (choice_of choice.now ≡ None) }
-    ensures untouched { 3 ≤ result → room.new ≡ room.old }
-    ensures unused { (result ≡ 3) ⊎ (result ≡ 5) → used.new ≡ 0 }
+    ensures answers { AnswersInto (choice_of choice.now) (λ c. HandsText c input.now) result room.old room.new used.new }
+    ensures refused { result ≤ INVALID_INPUT → (result ≡ INVALID_INPUT) ↔ HasFault input.now }
+    ensures none { result ≡ BLOCKED → HasNoFlow input.now }
 {
     *used = 0;
     let Some(choice) = choice_of(choice) else {
@@ -96,14 +91,14 @@ pub extern "C" fn mcf_check(
     answer: &[u8],
     told: &mut McfVerdict,
 ) -> u32
-    ensures statuses { (result ≤ 1) ⊎ (result ≡ 3) }
-    ensures verdict { result ≤ 1 → Tells (verdict input.now answer.now) told.new }
-    ensures exact { result ≤ 1 → (result ≡ 0) ↔ IsCorrect input.now answer.now }
-    ensures kinds { result ≤ 1 → (result ≡ 0) ↔ (told.new.kind ≤ 2) }
-    ensures least { result ≡ 0 → told.new.kind ≡ 0 → GivesLeastFlow input.now answer.now (number told.new) }
-    ensures none { result ≡ 0 → told.new.kind ≡ 1 → HasNoFlow input.now }
-    ensures wants { result ≡ 3 → NamesNodes limits input.now ⊎ IsTrue (has_item_line answer.now) }
-    ensures untouched { result ≡ 3 → told.new ≡ told.old }
+    ensures statuses { (result ≤ REJECTED) ⊎ (result ≡ NO_MEMORY) }
+    ensures verdict { result ≤ REJECTED → Tells (verdict input.now answer.now) told.new }
+    ensures exact { result ≤ REJECTED → (result ≡ ACCEPTED) ↔ IsCorrect input.now answer.now }
+    ensures kinds { result ≤ REJECTED → (result ≡ ACCEPTED) ↔ (told.new.kind ≤ refusal_kind) }
+    ensures least { result ≡ ACCEPTED → told.new.kind ≡ flow_kind → GivesLeastFlow input.now answer.now (number told.new) }
+    ensures none { result ≡ ACCEPTED → told.new.kind ≡ set_kind → HasNoFlow input.now }
+    ensures wants { result ≡ NO_MEMORY → NamesNodes limits input.now ⊎ IsTrue (has_item_line answer.now) }
+    ensures untouched { result ≡ NO_MEMORY → told.new ≡ told.old }
 {
     let Ok(verdict) = check(alloc, input, answer) else {
         return NO_MEMORY;

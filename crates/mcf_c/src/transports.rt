@@ -3,7 +3,7 @@ ghost use Rattle.std.specs.Prelude.{◌≡◌, ◌≤◌, ◌+◌, ◌⊎◌, �
 ghost use Rattle.mcf_matrix.specs.declared.shipment.Shipment.{Shipment};
 ghost use Rattle.mcf_matrix.specs.Plans.{IsLeastPlan, IsPlan, IsShownPlan};
 ghost use Rattle.mcf_matrix.specs.Tables.{IsMatrix};
-ghost use Rattle.mcf_c.specs.Matrices.{costs_of, table_of};
+ghost use Rattle.mcf_c.specs.Matrices.{AnswersMatrix, JudgesMatrix, costs_of, table_of};
 ghost use Rattle.mcf_c.specs.Handing.{mark_of};
 ghost use Rattle.mcf_c.specs.Transports.{HandsPlan, HasRooms, MarksCut};
 ghost use Rattle.mcf_c.specs.Verdicts.{side_number};
@@ -82,29 +82,18 @@ pub extern "C" fn mcf_transport_matrix(
     column_prices: &mut [i64],
     told: &mut McfPlanned,
 ) -> u32
-    ensures statuses { (result ≤ 4) ⊎ (result ≡ 7) }
-    ensures plan { result ≡ 0 → HandsPlan (costs_of problem.now.matrix) problem.now.supplies.now problem.now.demands.now room.old room.new told.new.used row_prices.new column_prices.new }
-    ensures side { result ≡ 0 → told.new.side ≡ 0 }
-    ensures least { result ≡ 0 → IsLeastPlan (costs_of problem.now.matrix) problem.now.supplies.now problem.now.demands.now (take told.new.used room.new) }
-    ensures cut { result ≡ 1 → MarksCut (costs_of problem.now.matrix) problem.now.supplies.now problem.now.demands.now row_prices.new column_prices.new told.new.side }
-    ensures unused { result ≡ 1 → told.new.used ≡ 0 }
-    ensures none { result ≡ 1 → (plan : List Shipment) → ¬ IsPlan (costs_of problem.now.matrix) problem.now.supplies.now problem.now.demands.now plan }
-    ensures within { result ≤ 1 → IsMatrix (table_of problem.now.matrix) }
-    ensures fault { result ≡ 2 → ¬ IsMatrix (table_of problem.now.matrix) }
-    ensures memory { result ≡ 3 → 1 ≤ problem.now.matrix.rows + problem.now.matrix.columns }
-    ensures room { result ≡ 4 → ¬ HasRooms problem.now.matrix.rows problem.now.matrix.columns problem.now.supplies.now problem.now.demands.now (length room.old) (length row_prices.old) (length column_prices.old) }
-    ensures rooms { (result ≤ 3) ⊎ (result ≡ 7) → HasRooms problem.now.matrix.rows problem.now.matrix.columns problem.now.supplies.now problem.now.demands.now (length room.old) (length row_prices.old) (length column_prices.old) }
-    ensures plan_stays { 1 ≤ result → room.new ≡ room.old }
-    ensures row_prices_stay { 2 ≤ result → row_prices.new ≡ row_prices.old }
-    ensures column_prices_stay { 2 ≤ result → column_prices.new ≡ column_prices.old }
-    ensures told_stays { 2 ≤ result → told.new ≡ told.old }
+    ensures answers { AnswersMatrix (IsMatrix (table_of problem.now.matrix)) (¬ HasRooms problem.now.matrix.rows problem.now.matrix.columns problem.now.supplies.now problem.now.demands.now (length room.old) (length row_prices.old) (length column_prices.old)) (problem.now.matrix.rows + problem.now.matrix.columns) result room.old room.new row_prices.old row_prices.new column_prices.old column_prices.new }
+    ensures plan { result ≡ FLOW → HandsPlan (costs_of problem.now.matrix) problem.now.supplies.now problem.now.demands.now room.old room.new told.new.used row_prices.new column_prices.new }
+    ensures side { result ≡ FLOW → told.new.side ≡ 0 }
+    ensures least { result ≡ FLOW → IsLeastPlan (costs_of problem.now.matrix) problem.now.supplies.now problem.now.demands.now (take told.new.used room.new) }
+    ensures cut { result ≡ BLOCKED → MarksCut (costs_of problem.now.matrix) problem.now.supplies.now problem.now.demands.now row_prices.new column_prices.new told.new.side }
+    ensures unused { result ≡ BLOCKED → told.new.used ≡ 0 }
+    ensures none { result ≡ BLOCKED → (plan : List Shipment) → ¬ IsPlan (costs_of problem.now.matrix) problem.now.supplies.now problem.now.demands.now plan }
+    ensures rooms { (result ≤ NO_MEMORY) ⊎ (result ≡ NOT_SHOWN) → HasRooms problem.now.matrix.rows problem.now.matrix.columns problem.now.supplies.now problem.now.demands.now (length room.old) (length row_prices.old) (length column_prices.old) }
+    ensures told_stays { INVALID_INPUT ≤ result → told.new ≡ told.old }
 {
-    let McfMatrix {
-        costs,
-        rows,
-        columns,
-        stride,
-    } = problem.matrix;
+    let matrix = &problem.matrix;
+    let McfMatrix { rows, columns, .. } = *matrix;
     let masses = Masses {
         supplies: problem.supplies,
         demands: problem.demands,
@@ -116,7 +105,7 @@ pub extern "C" fn mcf_transport_matrix(
     if !has_rooms(Lines { rows, columns }, &masses, room, prices) {
         return BUFFER_TOO_SMALL;
     }
-    let Ok(matrix) = Matrix::of(costs, rows, columns, stride) else {
+    let Ok(matrix) = Matrix::of(matrix.costs, rows, columns, matrix.stride) else {
         return INVALID_INPUT;
     };
     match plan(alloc, &matrix, &masses) {
@@ -137,17 +126,17 @@ fn put_plan(
 ) -> u32
     requires row_prices { length row_prices.old ≡ length found.now.row_prices.items }
     requires column_prices { length column_prices.old ≡ length found.now.column_prices.items }
-    ensures statuses { (result ≡ 0) ⊎ (result ≡ 7) }
-    ensures fits { result ≡ 0 → told.new.used ≤ length room.new }
-    ensures plan { result ≡ 0 → take told.new.used room.new ≡ found.now.shipments.items }
-    ensures rest { result ≡ 0 → drop told.new.used room.new ≡ drop told.new.used room.old }
-    ensures row_prices { result ≡ 0 → row_prices.new ≡ found.now.row_prices.items }
-    ensures column_prices { result ≡ 0 → column_prices.new ≡ found.now.column_prices.items }
-    ensures side { result ≡ 0 → told.new.side ≡ 0 }
-    ensures plan_stays { result ≡ 7 → room.new ≡ room.old }
-    ensures row_prices_stay { result ≡ 7 → row_prices.new ≡ row_prices.old }
-    ensures column_prices_stay { result ≡ 7 → column_prices.new ≡ column_prices.old }
-    ensures told_stays { result ≡ 7 → told.new ≡ told.old }
+    ensures statuses { (result ≡ FLOW) ⊎ (result ≡ NOT_SHOWN) }
+    ensures fits { result ≡ FLOW → told.new.used ≤ length room.new }
+    ensures plan { result ≡ FLOW → take told.new.used room.new ≡ found.now.shipments.items }
+    ensures rest { result ≡ FLOW → drop told.new.used room.new ≡ drop told.new.used room.old }
+    ensures row_prices { result ≡ FLOW → row_prices.new ≡ found.now.row_prices.items }
+    ensures column_prices { result ≡ FLOW → column_prices.new ≡ found.now.column_prices.items }
+    ensures side { result ≡ FLOW → told.new.side ≡ 0 }
+    ensures plan_stays { result ≡ NOT_SHOWN → room.new ≡ room.old }
+    ensures row_prices_stay { result ≡ NOT_SHOWN → row_prices.new ≡ row_prices.old }
+    ensures column_prices_stay { result ≡ NOT_SHOWN → column_prices.new ≡ column_prices.old }
+    ensures told_stays { result ≡ NOT_SHOWN → told.new ≡ told.old }
 {
     let shipments = found.shipments.as_slice();
     if room.len() < shipments.len() {
@@ -167,7 +156,7 @@ fn put_plan(
 fn put_cut(cut: &Cut, row_marks: &mut [i64], column_marks: &mut [i64], told: &mut McfPlanned) -> u32
     requires rows { length row_marks.old ≡ length cut.now.rows.items }
     requires columns { length column_marks.old ≡ length cut.now.columns.items }
-    ensures status { result ≡ 1 }
+    ensures status { result ≡ BLOCKED }
     ensures rows { row_marks.new ≡ map mark_of cut.now.rows.items }
     ensures columns { column_marks.new ≡ map mark_of cut.now.columns.items }
     ensures side { told.new.side ≡ side_number cut.now.side }
@@ -194,20 +183,11 @@ pub extern "C" fn mcf_check_transport(
     row_prices: &[i64],
     column_prices: &[i64],
 ) -> u32
-    ensures statuses { result ≤ 3 }
-    ensures exact { result ≤ 1 → (result ≡ 0) ↔ IsShownPlan (costs_of problem.now.matrix) problem.now.supplies.now problem.now.demands.now plan.now row_prices.now column_prices.now }
-    ensures least { result ≡ 0 → IsLeastPlan (costs_of problem.now.matrix) problem.now.supplies.now problem.now.demands.now plan.now }
-    ensures within { result ≤ 1 → IsMatrix (table_of problem.now.matrix) }
-    ensures fault { result ≡ 2 → ¬ IsMatrix (table_of problem.now.matrix) }
-    ensures memory { result ≡ 3 → 1 ≤ problem.now.matrix.rows + problem.now.matrix.columns }
+    ensures judges { JudgesMatrix (IsMatrix (table_of problem.now.matrix)) (IsShownPlan (costs_of problem.now.matrix) problem.now.supplies.now problem.now.demands.now plan.now row_prices.now column_prices.now) (problem.now.matrix.rows + problem.now.matrix.columns) result }
+    ensures least { result ≡ ACCEPTED → IsLeastPlan (costs_of problem.now.matrix) problem.now.supplies.now problem.now.demands.now plan.now }
 {
-    let McfMatrix {
-        costs,
-        rows,
-        columns,
-        stride,
-    } = problem.matrix;
-    let Ok(matrix) = Matrix::of(costs, rows, columns, stride) else {
+    let matrix = &problem.matrix;
+    let Ok(matrix) = Matrix::of(matrix.costs, matrix.rows, matrix.columns, matrix.stride) else {
         return INVALID_INPUT;
     };
     let masses = Masses {
