@@ -6,15 +6,17 @@
     scripts/gate_table.py --table     the table alone, of the steps that bin/gate.log holds
 
 The script prints the output of the steps, each line after the minutes passed, and keeps it in
-bin/gate.log. Cached proofs and tries take no time, so a complete table needs a run after
-`make clean`, with an empty cache of the kit.
+bin/gate.log, with what each crate's checks took of a processor. Cached proofs and tries take no
+time, so a complete table needs a run after `make clean`, with an empty cache of the kit.
 """
+import collections
 import datetime
 import os
 import pathlib
 import re
 import subprocess
 import sys
+import threading
 import time
 
 TOP = pathlib.Path(__file__).resolve().parent.parent
@@ -23,13 +25,53 @@ BEGIN, END = "<!-- table -->\n", "<!-- end of table -->\n"
 STEPS = ("make test", "make edits")
 
 
+class Watch(threading.Thread):
+    """Reads every second how long the prover's processes of each crate run, on Linux."""
+
+    def __init__(self):
+        super().__init__(daemon=True)
+        self.ended = threading.Event()
+        # by process the name of its crate, whether it is about tests, and its seconds
+        self.seen = {}
+
+    def run(self):
+        while not self.ended.wait(1):
+            for stat in pathlib.Path("/proc").glob("[0-9]*/stat"):
+                try:
+                    self.look(stat)
+                except OSError:
+                    pass
+
+    def look(self, stat):
+        """Notes a process, if it is one of the prover's."""
+        words = (stat.parent / "cmdline").read_text().split("\0")
+        if "rattle" in words[0] and "--crate-name" in words:
+            numbers = stat.read_text().rpartition(")")[2].split()
+            ticks = int(numbers[11]) + int(numbers[12])
+            key = stat.parent.name, numbers[19]
+            crate = words[words.index("--crate-name") + 1]
+            self.seen[key] = crate, "--test" in words, ticks / os.sysconf("SC_CLK_TCK")
+
+    def minutes(self):
+        """The minutes of a processor by crate: of its proof, and of its tests'."""
+        found = collections.defaultdict(lambda: [0.0, 0.0])
+        for crate, is_test, seconds in self.seen.values():
+            found[crate][is_test] += seconds / 60
+        return found
+
+
 def run(step):
     """Runs a step, prints and keeps what it prints; returns its status."""
-    start, used = time.monotonic(), os.times()
+    start, used, watch = time.monotonic(), os.times(), Watch()
     pipe, both = subprocess.PIPE, subprocess.STDOUT
+    watch.start()
     with subprocess.Popen(step.split(), cwd=TOP, stdout=pipe, stderr=both, text=True) as ran:
         for line in ran.stdout:
             keep(f"{(time.monotonic() - start) / 60:6.1f}  {line}")
+    watch.ended.set()
+    if step == STEPS[0]:
+        for crate, (proof, tests) in watch.minutes().items():
+            keep(f"{crate}: proved in {proof:.1f} minutes, its tests in {tests:.1f}\n")
     now = os.times()
     took = now.children_user - used.children_user + now.children_system - used.children_system
     clock = (time.monotonic() - start) / 60
@@ -46,8 +88,9 @@ def keep(line):
 
 
 def rows(log):
-    """The rows of the table: a crate's proof by the clock, and its edits."""
-    proved = dict(map(reversed, re.findall(r"(?m)^ *(\d+)\.\d  .*?(\w+) is proved\b", log)))
+    """The rows of the table: what a crate's proofs take of a processor, and its edits."""
+    took = re.findall(r"(?m)^(\w+): proved in ([\d.]+) minutes, its tests in ([\d.]+)$", log)
+    proofs = {crate: minutes for crate, *minutes in took}
     tried = re.findall(r"(\w+): \d+ edits by (\d+) checks, ([\d.]+) minutes", log)
     tries = {crate: (checks, minutes) for crate, checks, minutes in tried}
     for line in (TOP / "crates.txt").read_text().splitlines():
@@ -55,8 +98,8 @@ def rows(log):
         if crate:
             count = len(list((TOP / "crates" / crate / "edits").glob("*.edit")))
             checks, minutes = tries.get(crate, ("", "") if not count else ("kept", ""))
-            clock = proved.get(crate, "kept")
-            yield f"| {crate} | {clock} | {count or ''} | {checks} | {minutes} |"
+            proof, tests = ("" if it == "0.0" else it for it in proofs.get(crate, ("kept", "")))
+            yield f"| {crate} | {proof} | {tests} | {count or ''} | {checks} | {minutes} |"
 
 
 def write_table():
@@ -69,8 +112,8 @@ def write_table():
         f" {len(os.sched_getaffinity(0))} processors, {version.strip()}:",
         ";\n".join(took) + ".",
         "",
-        "| Crate | proved at minute of `make test` | edits | checks | minutes of a processor |",
-        "|---|---|---|---|---|",
+        "| Crate | minutes of a processor: proof | its tests | edits | checks | minutes |",
+        "|---|---|---|---|---|---|",
         *rows(log),
         "",
     ]
