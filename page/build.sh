@@ -4,13 +4,14 @@
 #
 # scripts/module.sh gives the LLVM module of the crate and of all crates below it. This script
 # compiles it for wasm64 with the kit's clang. Binaryen then lowers addresses to 32 bits, so that
-# browsers without memory64 run it. heap.c replaces the heap of the C library. LLVM's own library has
-# the functions that compiled code calls by name (the product of 128 bits and the like).
+# browsers without memory64 run it, and shortens the code. heap.c replaces the heap of the C
+# library. LLVM's own library has the functions that compiled code calls by name (the product of 128
+# bits and the like).
 #
 # It needs rt on the path, wasm-opt (Debian: binaryen) and libclang_rt.builtins-wasm64.a (Debian:
-# libclang-rt-dev-wasm64; BUILTINS names another file); page/pack.py needs esbuild (Debian: esbuild).
-# With --needs it only says which of these is missing. It first proves and builds what isn't yet
-# proved and built.
+# libclang-rt-dev-wasm64; BUILTINS names another file); page/pack.py needs esbuild (Debian:
+# esbuild). With --needs it only says which of these is missing. It first proves and builds what
+# isn't yet proved and built.
 set -euo pipefail
 cd "$(dirname "$0")/.."
 stop() { echo "page: $1" >&2; exit 3; }
@@ -41,5 +42,5 @@ wasm=(--target=wasm64-unknown-unknown -mcpu=lime1 -mllvm -expand-div-rem-bits=64
     --export=mcf_solve --export=mcf_check --export=mcf_plan_flow --export=mcf_plan_pairs --export=page_alloc --export=page_peak -o "$scratch/mcf64.wasm" \
     "$scratch/module.o" "$scratch/heap.o" "$builtins") || stop "the module can't be linked"
 wasm-opt "$scratch/mcf64.wasm" --enable-memory64 --enable-bulk-memory --enable-sign-ext --enable-nontrapping-float-to-int \
-    --enable-mutable-globals --enable-multivalue --memory64-lowering -o bin/mcf.wasm
+    --enable-mutable-globals --enable-multivalue --memory64-lowering -O2 -o bin/mcf.wasm
 rt version > bin/page.kit
