@@ -54,7 +54,8 @@ class Tried(unittest.TestCase):
                 top / "crates" / CRATE,
                 ignore=shutil.ignore_patterns("out", "edits"),
             )
-            (top / "crates.txt").write_text(f"{CRATE}:\n")
+            below = " ".join(build.declared()[CRATE][1])
+            (top / "crates.txt").write_text(f"{CRATE}: {below}\n")
             (top / "crates" / CRATE / "edits").mkdir()
             for name, words in EDITS[which].items():
                 (top / "crates" / CRATE / "edits" / f"{name}.edit").write_text(words)
