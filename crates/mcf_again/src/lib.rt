@@ -14,5 +14,6 @@ mod judging;
 mod mending;
 mod search;
 mod star;
+mod tuning;
 
 pub use again::{Again, Hint};

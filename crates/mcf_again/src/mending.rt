@@ -9,16 +9,12 @@ ghost use Rattle.mcf_engine.specs.Outcomes.{AreStatePrices, IsLeastState};
 use crate::again::Hint;
 use crate::judging::are_greatest;
 use crate::search::{Search, surplus_of};
+use crate::tuning::{MORE_READINGS, READINGS};
 use mcf_columns::{at, narrow};
 use mcf_fast_scaling::is_shown;
 use mcf_network::{Net, State};
 use mcf_text::{NoMemory, copies};
 use std::alloc::Global;
-
-// The search may read this many times as many residual arcs as the net has arcs, and a few more.
-const READINGS: u64 = 16;
-
-const LEAST_READINGS: u64 = 1024;
 
 /// A least state of a net with its prices, mended from the answer to a similar net; or `None` if
 /// that has other sizes, or the mending gives up.
@@ -54,7 +50,7 @@ fn suits(hint: &Hint, net: &Net) -> bool {
 fn readings(net: &Net) -> u64 {
     u64::from(net.arc_count())
         .wrapping_mul(READINGS)
-        .wrapping_add(LEAST_READINGS)
+        .wrapping_add(MORE_READINGS)
 }
 
 // Mends, and returns whether the result is a least state with the greatest prices.

@@ -3,16 +3,11 @@ ghost use Rattle.std.specs.Prelude.{◌≡◌};
 
 use crate::heap::{Entry, Heap, NOTHING};
 use crate::star::{LIMIT, Star, rid_of, send};
+use crate::tuning::{MORE_PLACES, PLACES};
 use mcf_columns::{NOWHERE, Pile, at, narrow, put};
 use mcf_network::{Net, Rid, State};
 use mcf_text::{NoMemory, NodeId, copies};
 use std::alloc::Global;
-
-// The number of places of the heap per node.
-const PLACES: usize = 4;
-
-// The least number of places of the heap.
-const LEAST_PLACES: usize = 64;
 
 /// The tables of a search: for each node, counted from 0, its label, which is the length of the
 /// shortest path from it that was found, or `NOTHING`; the code of the first residual arc of that
@@ -50,7 +45,7 @@ impl Search {
             exits: copies(alloc, nodes, NOWHERE)?,
             ranks: copies(alloc, nodes, 0)?,
             labelled: Pile::start(alloc, nodes)?,
-            heap: Heap::start(alloc, nodes * PLACES + LEAST_PLACES)?,
+            heap: Heap::start(alloc, nodes * PLACES + MORE_PLACES)?,
             source: NOWHERE,
             bound: NOTHING,
             settled: 0,

@@ -2,15 +2,11 @@
 ghost use Rattle.std.specs.Prelude.{◌≡◌, length};
 ghost use Rattle.mcf_flows.specs.Network.{IsArcNumber, IsNode, node_count};
 
+use crate::tuning::SHALLOW;
 use crate::waiting::{next_waiting, wait};
 use mcf_network::{Rid, State};
 use mcf_text::{ArcId, NodeId};
 use std::collections::VecDeque;
-
-// Up to this level the search may stop when three quarters of the nodes with a surplus have a
-// level. If the distances are greater, as on a road map, relabelling one arc at a time would cost
-// more than the search.
-const SHALLOW: u32 = 16;
 
 /// Sets the level of each node to the least number of residual arcs with room on a path to a node
 /// that takes, by a breadth-first search backward from those nodes. The search ends when all of the

@@ -12,6 +12,7 @@ mod laws;
 mod levels;
 mod path_search;
 mod preflow;
+mod tuning;
 mod waiting;
 
 pub use feas::{Feas, feasible};

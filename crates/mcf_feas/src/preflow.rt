@@ -6,17 +6,11 @@ ghost use Rattle.mcf_network.specs.States.{IsPseudoflow, room_of, surplus_at};
 ghost use Rattle.mcf_feas.specs.Private.Pushing.{IsPushedOn};
 
 use crate::levels::set_levels;
+use crate::tuning::{PASSES, RELABEL_COST};
 use crate::waiting::{next_waiting, wait};
 use mcf_network::{Rid, State};
 use mcf_text::{ArcId, NodeId};
 use std::collections::VecDeque;
-
-// A visit that relabels its node counts as this many visits: it scans the residual arcs of the node
-// in vain, and many of them mean that the levels are stale.
-const RELABEL_COST: u32 = 4;
-
-/// How often the surplus is pushed down before a search decides what is left.
-const PASSES: u32 = 4;
 
 /// Pushes surplus down the levels, again and again as long as at most half of the nodes with a
 /// surplus are left each time.
