@@ -16,6 +16,7 @@ use Rattle.mcf_network.specs.Stars.{ListsLeaving}
 use Rattle.mcf_network.specs.States.{Pseudoflow}
 use Rattle.mcf_network.proofs.Lists.{All-behind, Contains-cons}
 use Rattle.mcf_offers.specs.Offers.{Offer}
+use Rattle.mcf_network.specs.Nets.{greatest_cost}
 use Rattle.mcf_matching.specs.Private.Labels.{Row, Target}
 use Rattle.mcf_matching.specs.declared.rows.RowArc.{RowArc}
 use Rattle.mcf_matching.specs.declared.rows.Rows.{Rows}
@@ -28,7 +29,7 @@ use Rattle.mcf_matching.specs.Private.RowLists.{CostNoLess, IsBounded, IsRowArc,
 use Rattle.mcf_matching.specs.Private.Scenes.{IsScannedRow, IsScene}
 use Rattle.mcf_matching.specs.Private.Searches.{AreRelaxed, HasForward, IsBestUpTo, IsPredecessor, IsOffered, IsSearch, KeepsLabels, Search, Settled, Waits, dist_at, forward, predecessor_at, offer}
 use Rattle.mcf_matching.specs.Private.Searches.{offer_of, queued, search_of}
-use Rattle.mcf_matching.specs.Private.Reaches.{base_reach, greatest_cost}
+use Rattle.mcf_matching.specs.Private.Reaches.{base_reach}
 use Rattle.mcf_matching.proofs.Near.{cost_short, row_near}
 use Rattle.mcf_matching.specs.Private.Forests.{mate_at}
 use Rattle.mcf_matching.proofs.Mating.{mate_none}
@@ -295,7 +296,7 @@ module _ {s : Pseudoflow} {room : ℕ} {arcs : Rows} {y : List ℤ} {table : Lis
 
 -- there is room for what arcs offer that cost a bound
 pub bound_fits : {s : Pseudoflow} {room : ℕ} {arcs : Rows} {y : List ℤ} {table : List Mate} {q : Search} {row : Row} (cost : Option ℤ)
-    → IsScannedRow room s arcs y table q row → IfSome cost (λ (bound : ℤ). IsUpTo (greatest_cost s.net) bound)
+    → IsScannedRow room s arcs y table q row → IfSome cost (λ (bound : ℤ). IsUpTo (greatest_cost s.net.arcs) bound)
     → IfSome cost (λ (bound : ℤ). IsUpTo room (row.base +ℤ bound))
 bound_fits None now small = tt
 bound_fits {s} (Some bound) now small =

@@ -12,12 +12,12 @@ use Rattle.mcf_network.specs.States.{Pseudoflow}
 use Rattle.mcf_network.proofs.Lists.{Contains-cons}
 use Rattle.mcf_network.proofs.Marks.{counted_new, marked_only, read_node}
 use Rattle.mcf_offers.specs.Offers.{Offer}
+use Rattle.mcf_network.specs.Nets.{greatest_cost}
 use Rattle.mcf_matching.specs.Private.Labels.{Target}
 use Rattle.mcf_matching.specs.Matchings.{AreMatchingPrices, IsColumn, IsMatchedColumn, IsPair, IsPartialMatching, IsRow, column_of, reduced, row_of}
 use Rattle.mcf_matching.specs.Private.Searches.{HasEntries, HasForward, IsBestUpTo, IsDue, IsLast, IsPredecessor, IsNear, IsOffered, IsSearch, Search, Settled, Waits, dist_at}
 use Rattle.mcf_matching.specs.Private.Searches.{forward, predecessor_at, offer, offer_of, paired, reach_of}
 use Rattle.std.proofs.Math.Nat.{mul-add}
-use Rattle.mcf_matching.specs.Private.Reaches.{greatest_cost}
 use Rattle.mcf_matching.proofs.Near.{cost_near, offer_near}
 use Rattle.mcf_matching.proofs.PairLaws.{column_is, row_column, row_is}
 
@@ -131,20 +131,20 @@ two_more s y q source o r k0 rest ok count search pair at_column at_row c_new =
 -- a pair settled: its row is as far from its column as the cost of their arc
 pub near_settled : (s : Pseudoflow) (y : List ℤ) (q new : Search) (source b : ℕ) (o : Offer) (r k0 : ℕ) → IsPartialMatching s → AreMatchingPrices s y
     → IsNear s y q source b → IsSettling s q new o r → IsPair s k0 → column_of s k0 ≡ o.column → row_of s k0 ≡ r → IsDue s y q o
-    → ((v : ℕ) → IsNode (node_count s.net) v → Settled q v → v ≢ r) → IsNear s y new source (b + greatest_cost s.net + greatest_cost s.net)
+    → ((v : ℕ) → IsNode (node_count s.net) v → Settled q v → v ≢ r) → IsNear s y new source (b + greatest_cost s.net.arcs + greatest_cost s.net.arcs)
 near_settled s y q new source b o r k0 ok shown near step pair at_column at_row due fresh v n h =
     let l = due.predecessor in
     let gives = l.gives in
     let to = ap (at_node y) l.to in
     let first = offer_near s y q source b o.arc ok near l.arc l.from in
-    let here : IsUpTo (b + greatest_cost s.net) (o.dist +ℤ at_node y source -ℤ at_node y o.column) =
+    let here : IsUpTo (b + greatest_cost s.net.arcs) (o.dist +ℤ at_node y source -ℤ at_node y o.column) =
     (omega (arith, ints, first, gives, to), omega (arith, ints, first, gives, to)) in
     let tight = shown.tight k0 pair in
     let pc = ap (at_node y) at_column in
     let pr = ap (at_node y) at_row in
     let cost = cost_near s.net k0 pair.arc in
     let at = step.at_row in
-    let row : IsUpTo (b + greatest_cost s.net + greatest_cost s.net) (dist_at new r +ℤ at_node y source -ℤ at_node y r) =
+    let row : IsUpTo (b + greatest_cost s.net.arcs + greatest_cost s.net.arcs) (dist_at new r +ℤ at_node y source -ℤ at_node y r) =
     (omega (arith, ints, here, tight, pc, pr, cost, at), omega (arith, ints, here, tight, pc, pr, cost, at)) in
     elim (step.settled v n h) [
       | inl was ↦ (
@@ -156,7 +156,7 @@ near_settled s y q new source b o r k0 ok shown near step pair at_column at_row 
           let d = ap (dist_at new) e in
           let p = ap (at_node y) e in
           (omega (arith, ints, here, same, d, p), omega (arith, ints, here, same, d, p)))
-      | inr (inr e) ↦ subst (λ x. IsUpTo (b + greatest_cost s.net + greatest_cost s.net) (dist_at new x +ℤ at_node y source -ℤ at_node y x)) (sym e) row
+      | inr (inr e) ↦ subst (λ x. IsUpTo (b + greatest_cost s.net.arcs + greatest_cost s.net.arcs) (dist_at new x +ℤ at_node y source -ℤ at_node y x)) (sym e) row
     ]
 
 module _ (s : Pseudoflow) (y : List ℤ) (old new : Search) (source : ℕ) (o : Offer) (r k0 : ℕ) (ok : IsPartialMatching s)
@@ -315,7 +315,7 @@ module _ (s : Pseudoflow) (y : List ℤ) (old new : Search) (source : ℕ) (o : 
       let b = reach_of s.net old in
       let near = near_settled s y old new source b o r k0 ok shown search.near step pair at_column at_row due
       (λ u m w e. r_fresh (subst (λ x. Settled old x) e w)) v n h in
-      let grown = ap (λ k. 2 * greatest_cost s.net * k) more ∙ mul-add (2 * greatest_cost s.net) (member_count old.settled) 2 in
+      let grown = ap (λ k. 2 * greatest_cost s.net.arcs * k) more ∙ mul-add (2 * greatest_cost s.net.arcs) (member_count old.settled) 2 in
       (omega (arith, ints, near, grown), omega (arith, ints, near, grown))
 
   pub settled_last : IsLast s new r

@@ -54,7 +54,6 @@ impl<'n> Matching<'n> {
     /// # Errors
     ///
     /// `NoMemory` if an allocation is refused; a net without nodes needs none.
-    #[tactic(auto, unfolding(crate::specs::Private::Reaches::greatest_cost))]
     pub fn start(alloc: Global, net: &'n Net) -> Result<Matching<'n>, NoMemory>
         requires { net.now.problem ≡ Asn }
         ensures value { IfOk result (λ m. m.flow ≡ record { net = net.now; amounts = replicate (length net.now.arcs) (pos 0) }) }

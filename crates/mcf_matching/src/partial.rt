@@ -5,9 +5,10 @@ ghost use Rattle.mcf_flows.specs.declared.problem.Problem.TheVariants.{Asn};
 ghost use Rattle.mcf_flows.specs.Network.{IsNode, node_count};
 ghost use Rattle.mcf_flows.specs.WellFormed.{IsUpTo};
 ghost use Rattle.mcf_network.specs.NodeSets.{no_nodes};
+ghost use Rattle.mcf_network.specs.Nets.{greatest_cost};
 ghost use Rattle.mcf_matching.specs.Extending.{IsExtension, IsMatched, IsShownMatching};
 ghost use Rattle.mcf_matching.specs.Matchings.{IsMatchedRow, IsRow, price_limit};
-ghost use Rattle.mcf_matching.specs.Private.Reaches.{HasWidth, greatest_cost};
+ghost use Rattle.mcf_matching.specs.Private.Reaches.{HasWidth};
 ghost use Rattle.mcf_matching.specs.Private.Updating.{IsRepriced};
 
 use crate::augmenting::fill;
@@ -65,7 +66,7 @@ impl<'n, W: Width> Partial<'n, W> {
         greatest: u128,
     ) -> Result<Partial<'n, W>, NoMemory>
         requires assignment { net.now.problem ≡ Asn }
-        requires greatest { greatest ≡ greatest_cost net.now }
+        requires greatest { greatest ≡ greatest_cost net.now.arcs }
         requires width { HasWidth W.room net.now }
         ensures value { IfOk result (λ m. m.flow ≡ record { net = net.now; amounts = replicate (length net.now.arcs) (pos 0) }) }
         ensures shown { IfOk result IsShownMatching }

@@ -1,9 +1,9 @@
 //! The prices of the nodes, and bounds on their absolute values.
 ghost use Rattle.std.specs.Prelude.{◌≡◌, ◌-◌, ◌^◌, ◌≤◌, IfOk, OnErr, length, pos, true};
 ghost use Rattle.mcf_flows.specs.Network.{node_count};
-ghost use Rattle.mcf_network.specs.Nets.{IsNet};
+ghost use Rattle.mcf_network.specs.Nets.{IsNet, greatest_cost};
 ghost use Rattle.mcf_matching.specs.Private.Keeping.{AreFirstPrices};
-ghost use Rattle.mcf_matching.specs.Private.Reaches.{HasWidth, first_price, greatest_cost, path_cost, price_reach};
+ghost use Rattle.mcf_matching.specs.Private.Reaches.{HasWidth, first_price, path_cost, price_reach};
 
 use mcf_network::Net;
 use mcf_numbers::{Number, Width};
@@ -12,7 +12,7 @@ use std::alloc::Global;
 
 /// Whether 64 bits hold every sum of a search.
 pub(crate) fn is_narrow(net: &Net, greatest: u128) -> bool
-    requires { greatest ≡ greatest_cost net.now }
+    requires { greatest ≡ greatest_cost net.now.arcs }
     ensures { result ≡ true → HasWidth (2 ^ 63 - 1) net.now }
 {
     64 * path_cost(net, greatest) <= i64::MAX as u128
@@ -20,7 +20,7 @@ pub(crate) fn is_narrow(net: &Net, greatest: u128) -> bool
 
 // The greatest cost of a path, by the greatest cost of an arc.
 fn path_cost(net: &Net, greatest: u128) -> u128
-    requires { greatest ≡ greatest_cost net.now }
+    requires { greatest ≡ greatest_cost net.now.arcs }
     ensures value { result ≡ path_cost net.now }
     ensures small { result ≤ 10 ^ 21 }
 {
@@ -44,7 +44,7 @@ pub(crate) fn first_prices<W: Width>(
     net: &Net,
     greatest: u128,
 ) -> Result<Vec<Number<W>>, NoMemory>
-    requires { greatest ≡ greatest_cost net.now }
+    requires { greatest ≡ greatest_cost net.now.arcs }
     ensures prices { IfOk result (λ prices. AreFirstPrices net.now prices.items (node_count net.now)) }
     ensures wants { OnErr result (1 ≤ node_count net.now) }
 {

@@ -3,15 +3,11 @@
 use Rattle.std.specs.Prelude.{ℕ, ◌*◌, ◌≤◌, ℤ, pos, neg_ℤ, ◌+ℤ◌}
 use Rattle.mcf_flows.specs.Network.{Network, node_count}
 use Rattle.mcf_flows.specs.WellFormed.{IsUpTo}
-use Rattle.mcf_network.specs.Nets.{greatest_cost as greatest_of}
-
--- the greatest size of a cost
-unfoldable pub greatest_cost : Network → ℕ
-greatest_cost g = greatest_of g.arcs
+use Rattle.mcf_network.specs.Nets.{greatest_cost}
 
 -- what a path costs at most
 unfoldable pub path_cost : Network → ℕ
-path_cost g = node_count g * greatest_cost g
+path_cost g = node_count g * greatest_cost g.arcs
 
 -- the price of a node of a matching
 abbrev pub price_reach : Network → ℕ
@@ -35,7 +31,7 @@ HasWidth room g = 64 * path_cost g ≤ room
 
 -- the price with which each row begins: so far below 0 that no arc has a negative reduced cost
 abbrev pub first_price : Network → ℤ
-first_price g = neg_ℤ (pos (greatest_cost g))
+first_price g = neg_ℤ (pos (greatest_cost g.arcs))
 
 -- a price and its rise, and both together, have room
 abbrev pub CanRise : ℕ → ℤ → ℤ → Type 0

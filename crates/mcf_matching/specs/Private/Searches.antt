@@ -11,10 +11,10 @@ use Rattle.mcf_network.specs.NodeSets.{member_count}
 use Rattle.mcf_network.specs.Residual.{arc_at}
 use Rattle.mcf_network.specs.States.{Pseudoflow, amount_at}
 use Rattle.mcf_offers.specs.Offers.{Offer}
+use Rattle.mcf_network.specs.Nets.{greatest_cost}
 use Rattle.mcf_matching.specs.Private.Labels.{Target}
 use Rattle.mcf_matching.specs.declared.search.Tables.{Tables}
 use Rattle.mcf_matching.specs.Matchings.{IsColumn, IsMatchedColumn, IsMatchedRow, IsPair, IsRow, column_of, reduced, row_of}
-use Rattle.mcf_matching.specs.Private.Reaches.{greatest_cost}
 
 -- for each node its distance, the offers that wait, which nodes are settled, for each column the
 -- arc that gave it its distance, the best column found that is not matched, and which of the
@@ -126,7 +126,7 @@ IsNear s y q source b = (v : ℕ) → IsNode (node_count s.net) v → Settled q 
 
 -- how far the distances may lie when this many nodes are settled
 abbrev pub reach_of : Network → Search → ℕ
-reach_of g q = 2 * greatest_cost g * member_count q.settled
+reach_of g q = 2 * greatest_cost g.arcs * member_count q.settled
 
 -- a search from a row: all arcs from settled rows were offered, but those of a list. An offer that
 -- waits for a column that was settled since is of no account

@@ -1,6 +1,7 @@
 use Rattle.std.proofs.Common.{◌≡◌, ◌*◌, arith, refl}
 use Rattle.mcf_flows.specs.Network.{node_count}
-use Rattle.mcf_matching.specs.Private.Reaches.{greatest_cost, path_cost}
+use Rattle.mcf_network.specs.Nets.{greatest_cost}
+use Rattle.mcf_matching.specs.Private.Reaches.{path_cost}
 use Rattle.mcf_matching.proofs.Near.{path_small}
 use Rattle.mcf_matching.proofs.prices.path_cost.Goals as goal
 
@@ -8,7 +9,7 @@ pub overflow_mul-result : goal.overflow_mul-result
 unfolding path_cost
 overflow_mul-result c =
     let g = c.args.net.now in
-    let path : c.from.result * c.args.greatest ≡ node_count g * greatest_cost g = rw (c.from.ensures, c.node_count.ensures.value, c.requires) refl in
+    let path : c.from.result * c.args.greatest ≡ node_count g * greatest_cost g.arcs = rw (c.from.ensures, c.node_count.ensures.value, c.requires) refl in
     let small = path_small g c.node_count.ensures.of_net in
     omega (arith, path, small)
 
