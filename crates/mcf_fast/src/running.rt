@@ -5,7 +5,7 @@ ghost use Rattle.mcf_fast.specs.Made.{IsMadeOrFound};
 ghost use Rattle.mcf_fast.specs.Private.Watching.{IsWatched};
 ghost use Rattle.mcf_network.specs.Chosen.{supply_total};
 
-use crate::watch::{Decision, LEAST_ARCS, Watch, rule_for};
+use crate::watch::{Decision, Watch, rule_for};
 use mcf_network::Net;
 use mcf_numbers::Count;
 use mcf_simplex::{Ended, Run};
@@ -34,19 +34,19 @@ pub(crate) fn run_watched<'n>(alloc: Global, net: &'n Net) -> Result<Watched<'n>
         if decision == Decision::Leave {
             return Ok(Watched::Left(run.leave()));
         }
-        obey(&mut run, decision);
+        obey(&mut run, decision, watch.least_arcs());
     }
     Ok(Watched::Over(run.finish()))
 }
 
-// Sets the blocks of a run as the watch requests. The run's model leaves out the size of blocks, so
-// for clauses nothing changes.
-fn obey(run: &mut Run<'_>, decision: Decision)
+// Sets the blocks of a run as the watch requests, with at least so many arcs if it continues. The
+// run's model leaves out the size of blocks, so for clauses nothing changes.
+fn obey(run: &mut Run<'_>, decision: Decision, least: u32)
     ensures { run.new ≡ run.old }
 {
     match decision {
         Decision::Wait | Decision::Leave => {}
-        Decision::Stay => run.set_least_arcs(LEAST_ARCS),
+        Decision::Stay => run.set_least_arcs(least),
         Decision::Split(stretches) => run.set_stretches(stretches.max(1)),
     }
 }

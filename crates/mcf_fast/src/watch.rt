@@ -51,7 +51,9 @@ const SCATTERED_PERCENT: u64 = 78;
 const SCATTERED_CYCLE: u64 = 4;
 
 // Up to this many nodes, the simplex ends soon if nearly each node has found its place after as
-// many pivots as there are nodes.
+// many pivots as there are nodes. From it on, a run in which most pivots push flow is left after
+// two quarters: to leave after four takes 1.26 to 1.3 of the time on sparse assignments of 2^16
+// nodes, and 1.02 to 1.08 in the family `many`; below, 0.88 to 0.98.
 const WIDE_NODES: u32 = 50_000;
 
 // Up to this many nodes, the simplex is faster if the tree is deep, so that cycles are long, as in
@@ -62,10 +64,20 @@ const DEEP_NODES: u32 = 100_000;
 const LONG_CYCLE: u64 = 75;
 
 // The least number of arcs in a block: before it is known whether the run of a large net continues,
-// and afterwards.
+// and otherwise.
 const EARLY_ARCS: u32 = 128;
 
-pub(crate) const LEAST_ARCS: u32 = 256;
+const LEAST_ARCS: u32 = 256;
+
+// The same for nets of more nodes and of so many arcs per node. With 512 in place of 256, runs of
+// nets of netgen's kind with 2^14 nodes and 16, 24 and 32 arcs per node cost 0.87, 0.8 and 0.7 to
+// 0.8 as much by their counts, with 2^13 nodes 1.0, 1.0 and 0.76 to 0.97; with 8 arcs per node they
+// cost 0.94 to 1.3 as much.
+const FULL_NODES: u32 = 8_000;
+
+const MANY_ARCS_PER_NODE: u64 = 16;
+
+const FULL_ARCS: u32 = 512;
 
 // The number of stretches of the arcs from which a block takes its pieces. On small nets whose
 // nodes continue to send to the root, a run with 8 takes 0.74 to 0.80 of the time of one with 1
@@ -98,8 +110,8 @@ const MOST_READINGS: u64 = 9_000;
 pub(crate) enum Decision {
     /// The run continues as it is.
     Wait,
-    /// The run continues with blocks of at least `LEAST_ARCS` arcs, and only the limit of work can
-    /// still end it early.
+    /// The run continues with blocks of at least `Watch::least_arcs` arcs, and only the limit of
+    /// work can still end it early.
     Stay,
     /// The run continues with blocks that take a piece of each of this many stretches.
     Split(u32),
@@ -208,6 +220,16 @@ impl Watch {
         if LARGE_NODES <= self.nodes && !self.is_dense {
             EARLY_ARCS
         } else {
+            self.least_arcs()
+        }
+    }
+
+    /// The least number of arcs in a block once it is known that the run continues.
+    pub(crate) fn least_arcs(&self) -> u32 {
+        let is_full = MANY_ARCS_PER_NODE.wrapping_mul(u64::from(self.nodes)) <= self.arcs;
+        if is_full && FULL_NODES <= self.nodes && !self.is_dense {
+            FULL_ARCS
+        } else {
             LEAST_ARCS
         }
     }
@@ -243,7 +265,7 @@ impl Watch {
         if self.is_dense {
             return Decision::Wait;
         }
-        if self.quarters == 2 && self.is_soon_left(quarter) {
+        if self.quarters == 2 && self.is_soon_left(quarter, counts) {
             return Decision::Leave;
         }
         if self.quarters == 2 && is_busy(counts) {
@@ -267,12 +289,14 @@ impl Watch {
     // Whether a large net is left after two quarters: it is so scattered that most senders still
     // send to the root, though cycles aren't the shortest; or nearly all pivots push flow, and many
     // nodes still send to the root. To leave the latter after four quarters takes 1.04 to 1.4 of
-    // the time at 2^15 nodes (family `star`), and 0.96 to 1.12 in networks of several periods.
-    fn is_soon_left(&self, quarter: &Quarter) -> bool {
+    // the time at 2^15 nodes (family `star`), and 0.96 to 1.12 in networks of several periods. On
+    // wide nets it suffices that most pivots push.
+    fn is_soon_left(&self, quarter: &Quarter, counts: &RunCounts) -> bool {
         let is_scattered = quarter.is_still_loaded(SCATTERED_PERCENT)
             && quarter.climbs(SCATTERED_CYCLE);
         let is_pushing = quarter.pushes() && quarter.is_still_loaded(11);
-        LARGE_NODES <= self.nodes && (is_scattered || is_pushing)
+        let is_wide = WIDE_NODES <= self.nodes && is_moving(quarter, counts);
+        LARGE_NODES <= self.nodes && (is_scattered || is_pushing || is_wide)
     }
 
     // The number of stretches if many pivots push flow: only in networks of several periods nearly
