@@ -2,8 +2,8 @@
 
 use crate::fixtures::{Costed, SAMPLE, cost_of, finds_all};
 use mcf_fast::Fast;
-use mcf_fast_scaling::find_least;
-use mcf_test_nets::net_of;
+use mcf_fast_scaling::{find_least, is_dense};
+use mcf_test_nets::{net_of, put_line};
 use mcf_text::NoMemory;
 use std::alloc::Global;
 use std::test::Fail;
@@ -54,5 +54,25 @@ fn search_finds(alloc: Global, text: &[u8], cost: i128) -> Result<bool, NoMemory
 #[test]
 fn a_search_alone(rt: HostRuntime) -> Result<(), Fail> {
     assert!(rt; search_finds(rt.alloc(), SAMPLE, 14)?);
+    Ok(())
+}
+
+// Whether a net of two nodes and this many arcs between them is dense.
+fn is_dense_with(alloc: Global, arcs: u32) -> Result<bool, NoMemory> {
+    let mut text = Vec::new(alloc);
+    put_line(&mut text, b"p min", &[2, i128::from(arcs)])?;
+    for _ in 0..arcs {
+        put_line(&mut text, b"a", &[1, 2, 0, 1, 1])?;
+    }
+    match net_of(alloc, &text)? {
+        Some(net) => Ok(is_dense(&net)),
+        None => Ok(false),
+    }
+}
+
+#[test]
+fn dense_nets(rt: HostRuntime) -> Result<(), Fail> {
+    assert!(rt; !is_dense_with(rt.alloc(), 128)?);
+    assert!(rt; is_dense_with(rt.alloc(), 129)?);
     Ok(())
 }

@@ -53,7 +53,9 @@ fn counts_in_128_bits(rt: HostRuntime) -> Result<(), Fail> {
     let one = Number::<i128>::of(1);
     let sum = far.plus(far).wide();
     let difference = one.minus(far).wide();
+    let farthest = Number::of_wide(i128::MAX);
     assert!(rt; sum == 18_446_744_073_709_551_614 && difference == -9_223_372_036_854_775_806);
+    assert!(rt; farthest.wide() == i128::MAX && is_less(far, farthest));
     assert!(rt; is_less(one, far));
     Ok(())
 }
