@@ -13,9 +13,10 @@ error, and of those that completed. The status is 1 if a run is wrong, or if any
 tests aren't built, no test's name contains WORD, or so many minutes have passed since the first
 run.
 
-NAME may also be mcf or mcfcheck: then the program of bin/ runs on each example, mcf with each
-engine, and on words without an instance. A run is right if it does the same as with ample memory,
-or prints only `NAME: out of memory`, with status 3. A line is printed for each engine.
+NAME may also be mcf, mcfcheck or mcfplan: then the program of bin/ runs on each example, mcf with
+each engine, mcfplan with ranges and with demands that may be missing, and on words without an
+instance. A run is right if it does the same as with ample memory, or prints only `NAME: out of
+memory`, with status 3. A line is printed for each engine.
 
 Needs `rt`, `cc`, Python 3 and a C library whose `malloc` can be replaced.
 """
@@ -31,6 +32,9 @@ import time
 HERE = pathlib.Path(__file__).resolve().parent
 CRATES, BIN, EXAMPLES = (HERE.parent / name for name in ("crates", "bin", "examples"))
 ENGINES = ("auto", "cancel", "simplex", "scaling", "fast", "sap")
+PLANS = EXAMPLES / "plans"
+PROGRAMS = ("mcf", "mcfcheck", "mcfplan")
+WITHOUT_TABLES = ([], ["flow"], ["flow", "--none"], ["pairs", "none.csv"])
 WITHOUT_INSTANCE = (
     ["--version"],
     ["solve", "--help"],
@@ -103,6 +107,15 @@ def judge(program, test, most, until, shim):
 def calls(name):
     """The calls of a program, in groups: the name of each group, and the words of its calls."""
     instances = sorted(path for path in EXAMPLES.iterdir() if path.suffix in (".min", ".asn"))
+    if name == "mcfplan":
+        places, costs = sorted(PLANS.glob("*/places.csv")), sorted(PLANS.glob("*/costs.csv"))
+        flows = [["flow", path, path.with_name("routes.csv")] for path in places]
+        return {
+            f"{name} flow --ranges": [[*words, "--ranges"] for words in flows],
+            f"{name} flow --short allow": [[*words, "--short", "allow"] for words in flows],
+            f"{name} pairs": [["pairs", path] for path in costs],
+            f"{name} without tables": WITHOUT_TABLES,
+        }
     if name == "mcfcheck":
         return {name: [[path, path.with_suffix(".ans")] for path in instances]}
     by = {
@@ -204,7 +217,7 @@ def main():
             check=True,
         )
         for name in words.names or with_tests():
-            is_program = name in ("mcf", "mcfcheck")
+            is_program = name in PROGRAMS
             if not words.built and not is_program:
                 folder = CRATES / name
                 subprocess.run(["rt", "test"], cwd=folder, check=True, stdout=subprocess.DEVNULL)
