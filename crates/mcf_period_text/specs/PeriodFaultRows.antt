@@ -1,7 +1,7 @@
 -- Faults of tables over periods as rows of a table. Those of the problem without periods are told
 -- of the rows that its places and its routes come from, and have one cell more: the period.
 -- Source: own
-use Rattle.std.specs.Prelude.{ℕ, suc, ◌-◌, nat_lt, Bool, if◌then◌else◌, List, [], ◌∷◌, ◌++◌, codes, decimal, length, Option, Some, None}
+use Rattle.std.specs.Prelude.{ℕ, suc, ◌-◌, ◌==◌, nat_lt, Bool, if◌then◌else◌, List, [], ◌∷◌, ◌++◌, codes, decimal, length, Option, Some, None}
 use Rattle.mcf_answer_rows.specs.AnswerRows.{cell_under, line_at}
 use Rattle.mcf_answer_rows.specs.FaultWords.{fault_row, name_word, number_word, too_great}
 use Rattle.mcf_flows.specs.declared.code.Code.TheVariants as code
@@ -78,21 +78,17 @@ period_fault_row two fault =
 unfoldable pub many_places : List ℕ
 many_places = codes "too many places in all periods"
 
--- that a supply is too great with the stock beside it
-unfoldable pub great_sum : List ℕ
-great_sum = codes "too great with the supply"
-
--- a cell about periods in the table of places, and what is wrong there
-abbrev pub period_cell_row : TwoTables → PeriodCell → List ℕ → List (List ℕ)
-period_cell_row two at what =
-    fault_row (table_word Places) (decimal (line_at two.places at.row)) (head_text at.head) what (cell_under (head_text at.head) two.places at.row)
+-- a number that is too great in a cell about periods in the table of places
+abbrev pub period_cell_row : TwoTables → PeriodCell → List (List ℕ)
+period_cell_row two at =
+    fault_row (table_word Places) (decimal (line_at two.places at.row)) (head_text at.head) too_great
+    (cell_under (head_text at.head) two.places at.row)
 
 -- a number that is too great, or that there are too many; or a row of routes that is too late
 abbrev pub period_great_row : TwoTables → PeriodGreat → List (List ℕ)
 period_great_row two great.Places = fault_row (table_word Places) [] [] many_places []
 period_great_row two (great.Number fault) = great_row two fault
-period_great_row two (great.Cell at) = period_cell_row two at too_great
-period_great_row two (great.Sum at) = period_cell_row two at great_sum
+period_great_row two (great.Cell at) = period_cell_row two at
 period_great_row two (great.Late row) =
     fault_row (table_word Routes) (decimal (line_at two.routes row)) (head_text Lead) (codes "arrives after the last period")
     (cell_under (head_text Lead) two.routes row)
@@ -106,6 +102,12 @@ pub record FaultPlace : Type 0 where
   pub line : List ℕ
   pub column : List ℕ
   pub period : List ℕ
+
+-- the column of an amount between two periods: that of the first stock, if it is there before the
+-- named ones, that of the last stock, if it is left after them, or else this one
+abbrev pub stock_column : List (List ℕ) → ℕ → ℕ → List ℕ → List ℕ
+stock_column periods begins ends column =
+    if begins == 0 then head_text FirstStock else if nat_lt (length periods) ends then head_text LastStock else column
 
 -- a place in a period, by its number
 abbrev pub of_place : TimedTables → ℕ → List ℕ → FaultPlace
@@ -121,7 +123,12 @@ is_store t number = nat_lt (number - 1) (length t.origins.stores.items)
 abbrev pub of_store : TimedTables → ℕ → List ℕ → FaultPlace
 of_store t number column =
     let s = store_origin t (number - 1) in
-    record { table = table_word Places; line = decimal (line_at t.two.places s.row); column = column; period = period_name t.periods s.period }
+    record {
+      table = table_word Places;
+      line = decimal (line_at t.two.places s.row);
+      column = stock_column t.periods s.period (suc s.period) column;
+      period = period_name t.periods s.period;
+    }
 
 -- a departure, by the number of its route
 abbrev pub of_departure : TimedTables → ℕ → List ℕ → FaultPlace
@@ -176,9 +183,15 @@ store_number (number.Arc arc code.Bound) = head_text KeepMost
 store_number (number.Arc arc code.Order) = head_text KeepMost
 store_number (number.Arc arc other) = head_text KeepCost
 
+-- the column of the amount of a place in a period: that of its supply, or of its stock
+abbrev pub amount_column : TimedTables → ℕ → List ℕ → List ℕ
+amount_column t number column =
+    let period = (place_origin t (number - 1)).period in
+    stock_column t.periods period period column
+
 -- where a number beyond the limits comes from
 abbrev pub beyond_place : TimedTables → Option Origin → ArrayFault → FaultPlace
-beyond_place t (Some (OfPlace place)) fault = of_place t place (beyond_column (Some (OfPlace place)) fault)
+beyond_place t (Some (OfPlace place)) fault = of_place t place (amount_column t place (beyond_column (Some (OfPlace place)) fault))
 beyond_place t (Some (OfPenalty place)) fault = of_place t place (beyond_column (Some (OfPenalty place)) fault)
 beyond_place t (Some (OfRoute route)) fault = of_route t route (store_number fault) (beyond_column (Some (OfRoute route)) fault)
 beyond_place t (Some OfAll) fault = of_none [] (beyond_column (Some OfAll) fault)

@@ -22,9 +22,11 @@ timed_in t = record { two = tables_in t.two; periods = t.periods.now; origins = 
 
 -- ---- periods
 
--- the name of a period, from 1; empty, if there is none
+-- the name of a period, from 1; 0 is the period before them, of first stock, and a number beyond
+-- the last is the one after them, of last stock
 abbrev pub period_name : List (List ℕ) → ℕ → List ℕ
-period_name periods number = slice_index_or periods (number - 1) []
+period_name periods number =
+    if number == 0 then codes "first stock" else slice_index_or periods (number - 1) (codes "last stock")
 
 -- the names of two periods
 abbrev pub from_to : TimedTables → ℕ → ℕ → List (List ℕ)

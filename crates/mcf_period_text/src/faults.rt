@@ -5,12 +5,12 @@ ghost use Rattle.mcf_answer_rows.specs.Lines.{row_line, rows_text};
 ghost use Rattle.mcf_period_units.specs.declared.faults.PeriodGreat.TheVariants as great;
 ghost use Rattle.mcf_plan_rows.specs.FaultRows.{table_word, tables_in};
 ghost use Rattle.mcf_reading.specs.declared.locations.Table.TheVariants.{Places};
-ghost use Rattle.mcf_period_text.specs.PeriodFaultRows.{beyond_place, is_store, many_places, of_departure, of_none, of_place, of_route, of_store, period_beyond_row, period_cell_row, period_column, period_fault_row, period_great_row, period_place, period_planner_row, placed_row, planner_place};
+ghost use Rattle.mcf_period_text.specs.PeriodFaultRows.{amount_column, beyond_place, is_store, many_places, of_departure, of_none, of_place, of_route, of_store, period_beyond_row, period_cell_row, period_column, period_fault_row, period_great_row, period_place, period_planner_row, placed_row, planner_place, stock_column};
 ghost use Rattle.mcf_period_text.specs.Private.PlacedFaults.{placed_in};
 ghost use Rattle.mcf_period_text.specs.TimedTables.{timed_in};
 
 use crate::timed::{Timed, departure_origin, period_name, place_origin, store_origin, told_row};
-use crate::words::{great_sum, head_text, many_places, period_word, store_column, store_number};
+use crate::words::{head_text, many_places, period_word, store_column, store_number};
 use mcf_answer_rows::{
     Wrong, cell_at, cell_under, line_cell, next_cell, place_of, put_fault, put_line, too_great,
 };
@@ -91,20 +91,17 @@ pub fn put_period_faults(
     Ok(())
 }
 
-// Appends what is wrong with a cell about periods in the table of places.
-fn put_cell(
-    alloc: Global,
-    out: &mut Vec<u8>,
-    two: Two<'_>,
-    at: PeriodCell,
-    what: &[u8],
-) -> Result<(), NoMemory>
-    ensures { OnOk result (out.new.items ≡ out.old.items ++ row_line (period_cell_row (tables_in two.entry) at what.now)) }
+// Appends a number that is too great in a cell about periods in the table of places.
+fn put_cell(alloc: Global, out: &mut Vec<u8>, two: Two<'_>, at: PeriodCell) -> Result<(), NoMemory>
+    ensures { OnOk result (out.new.items ≡ out.old.items ++ row_line (period_cell_row (tables_in two.entry) at)) }
 {
     let line = line_cell(alloc, two.places, at.row)?;
     let column = head_text(at.head);
     let cell = cell_under(two.places, column, at.row);
-    let wrong = Wrong { column, what };
+    let wrong = Wrong {
+        column,
+        what: too_great(),
+    };
     put_fault(out, table_word(Table::Places), &line, wrong, cell)
 }
 
@@ -146,8 +143,7 @@ fn put_period_great(
     match fault {
         PeriodGreat::Places => put_too_many(out),
         PeriodGreat::Number(fault) => put_great(alloc, out, two, fault),
-        PeriodGreat::Cell(at) => put_cell(alloc, out, two, at, too_great()),
-        PeriodGreat::Sum(at) => put_cell(alloc, out, two, at, great_sum()),
+        PeriodGreat::Cell(at) => put_cell(alloc, out, two, at),
         PeriodGreat::Late(row) => put_late(alloc, out, two, row),
     }
 }
@@ -179,6 +175,20 @@ struct Placed<'t> {
     line: Vec<u8>,
     column: &'t [u8],
     period: &'t [u8],
+}
+
+// The column of an amount between two periods: that of the first stock, if it is there before the
+// named ones, that of the last stock, if it is left after them, or else this one.
+fn stock_column<'t>(timed: Timed<'_, 't>, begins: usize, ends: usize, column: &'t [u8]) -> &'t [u8]
+    ensures { result.now ≡ stock_column (timed_in timed.entry).periods begins ends column.now }
+{
+    if begins == 0 {
+        head_text(PeriodHead::FirstStock)
+    } else if timed.periods.len() < ends {
+        head_text(PeriodHead::LastStock)
+    } else {
+        column
+    }
 }
 
 // A place in a period, by its number.
@@ -218,11 +228,12 @@ fn of_store<'t>(
 {
     let origin = store_origin(timed, number.saturating_sub(1));
     let line = line_cell(alloc, timed.two.places, origin.row as usize)?;
+    let period = origin.period as usize;
     Ok(Placed {
         table: table_word(Table::Places),
         line,
-        column,
-        period: period_name(timed, origin.period as usize),
+        column: stock_column(timed, period, period + 1, column),
+        period: period_name(timed, period),
     })
 }
 
@@ -344,6 +355,14 @@ pub fn put_period_planner_faults(
     Ok(())
 }
 
+// The column of the amount of a place in a period: that of its supply, or of its stock.
+fn amount_column<'t>(timed: Timed<'_, 't>, number: usize, column: &'t [u8]) -> &'t [u8]
+    ensures { result.now ≡ amount_column (timed_in timed.entry) number column.now }
+{
+    let period = place_origin(timed, number.saturating_sub(1)).period as usize;
+    stock_column(timed, period, period, column)
+}
+
 // Where a number beyond the limits comes from.
 fn beyond_place<'t>(
     alloc: Global,
@@ -355,7 +374,10 @@ fn beyond_place<'t>(
 {
     let column = beyond_column(origin, fault);
     match origin {
-        Some(Origin::OfPlace(place)) => of_place(alloc, timed, place, column),
+        Some(Origin::OfPlace(place)) => {
+            let amount = amount_column(timed, place, column);
+            of_place(alloc, timed, place, amount)
+        }
         Some(Origin::OfPenalty(place)) => of_place(alloc, timed, place, column),
         Some(Origin::OfRoute(route)) => {
             of_route(alloc, timed, route, store_number(fault), column)

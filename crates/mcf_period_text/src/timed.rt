@@ -20,15 +20,17 @@ pub struct Timed<'p, 't> {
     pub origins: &'t PeriodOrigins,
 }
 
-/// Returns the name of a period, by its number from 1; it is empty if there is no such period.
+/// Returns the name of a period, by its number from 1; of period 0, before them, it is
+/// `first stock`, and of one after them `last stock`.
 pub fn period_name<'t>(timed: Timed<'_, 't>, number: usize) -> &'t [u8]
     ensures { result.now ≡ period_name (timed_in timed.entry).periods number }
 {
-    let place = number.saturating_sub(1);
-    if place < timed.periods.len() {
-        timed.periods.name(place + 1)
+    if number == 0 {
+        b"first stock"
+    } else if number <= timed.periods.len() {
+        timed.periods.name(number)
     } else {
-        &[]
+        b"last stock"
     }
 }
 

@@ -1,7 +1,7 @@
 //! The words by which faults about periods are told.
 ghost use Rattle.std.specs.Prelude.{◌≡◌};
 ghost use Rattle.mcf_period_reading.specs.PeriodHeads.{head_text};
-ghost use Rattle.mcf_period_text.specs.PeriodFaultRows.{great_sum, many_places, near_word, period_word, store_column, store_number};
+ghost use Rattle.mcf_period_text.specs.PeriodFaultRows.{many_places, near_word, period_word, store_column, store_number};
 
 use mcf_answer_rows::{name_word, number_word};
 use mcf_flows::Code;
@@ -63,14 +63,6 @@ pub(crate) fn many_places() -> &'static [u8]
     ensures { result.now ≡ many_places }
 {
     b"too many places in all periods"
-}
-
-// That a supply is too great with the stock beside it.
-#[tactic(auto, unfolding(crate::specs::PeriodFaultRows::great_sum))]
-pub(crate) fn great_sum() -> &'static [u8]
-    ensures { result.now ≡ great_sum }
-{
-    b"too great with the supply"
 }
 
 // The column of a store that a fault of a route is about.

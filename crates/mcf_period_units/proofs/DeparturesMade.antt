@@ -1,7 +1,7 @@
 -- The departures of rows of numbers are those of the routes.
-use Rattle.std.proofs.Common.{◌≡◌, ◌∙◌, ℕ, suc, ◌+◌, ◌-◌, ◌<◌, ◌≤◌, Bool, true, false, List, [], ◌∷◌, length, map, get_or, refl, ap, sym, arith}
+use Rattle.std.proofs.Common.{◌≡◌, ◌∙◌, ℕ, suc, ◌+◌, ◌-◌, ◌<◌, Bool, true, false, List, [], ◌∷◌, length, map, get_or, refl, ap, sym, arith}
 use Rattle.std.specs.List.{flat_map, range_with_len}
-use Rattle.std.proofs.lemmas.List.{get_or-map, length-map}
+use Rattle.std.proofs.lemmas.List.{get_or-map}
 use Rattle.mcf_model.specs.Model.{Route as ModelRoute}
 use Rattle.mcf_model.specs.Tables.{no_route as no_model_route, route_of}
 use Rattle.mcf_model.specs.declared.rows.RouteRow.{RouteRow}
@@ -18,21 +18,24 @@ use Rattle.mcf_period_units.specs.DeparturesOver.{departing, departure_count, de
 use Rattle.mcf_period_units.specs.Numbering.{place_numbers}
 use Rattle.mcf_period_units.specs.PeriodEntries.{PeriodEntries, route_time_at}
 use Rattle.mcf_period_units.specs.PeriodGreats.{first_departure, lead_of}
+use Rattle.mcf_period_units.specs.Spans.{shifted, span_of}
+use Rattle.mcf_period_units.specs.declared.spans.Span.{Span}
 use Rattle.mcf_period_units.proofs.Pieces.{map_pieces, same_pieces}
 
-module _ (steps : List Step) (numbers : List ℕ) where
+module _ (steps : List Step) (numbers : List ℕ) (span : Span) where
   in_period : (r : RouteRow) (lead period : ℕ) (both : Bool)
-      → map (departure_of steps) (map (way_row numbers r lead period) (ways both))
-      ≡ map (λ back. record { route = one_way numbers back (route_of steps r); period = place_number period; lead = lead }) (ways both)
+      → map (departure_of steps) (map (way_row numbers span r lead period) (ways both))
+      ≡ map (λ back. record { route = one_way numbers back (route_of steps r); period = place_number (shifted span period); lead = lead }) (ways both)
   in_period r lead period true = refl
   in_period r lead period false = refl
 
-  row_made : (last : ℕ) (r : RouteRow) (time : RouteTime)
-      → map (departure_of steps) (row_departures numbers last r time) ≡ route_departures numbers last (route_of steps r) time
-  row_made last r time =
-      map_pieces (departure_of steps) (rows_in_period numbers r (lead_of time.lead)) (departing last time)
-      ∙ same_pieces (λ t. map (departure_of steps) (rows_in_period numbers r (lead_of time.lead) t)) (departures_in numbers (route_of steps r) (lead_of time.lead))
-      (first_departure time) (departure_count last time) (λ t low high. in_period r (lead_of time.lead) t r.both)
+  row_made : (r : RouteRow) (time : RouteTime)
+      → map (departure_of steps) (row_departures numbers span r time) ≡ route_departures numbers span (route_of steps r) time
+  row_made r time =
+      map_pieces (departure_of steps) (rows_in_period numbers span r (lead_of time.lead)) (departing span.last time)
+      ∙ same_pieces (λ t. map (departure_of steps) (rows_in_period numbers span r (lead_of time.lead) t))
+      (departures_in numbers span (route_of steps r) (lead_of time.lead)) (first_departure time) (departure_count span.last time)
+      (λ t low high. in_period r (lead_of time.lead) t r.both)
 
 length_rows : (s : Scales) (first : ℕ) (routes : List Route) → length (rows_in s first routes) ≡ length routes
 length_rows s first [] = refl
@@ -53,13 +56,14 @@ departures_made s E =
     let steps = steps_in s E.said.routes in
     let rows = rows_in s 0 E.said.routes in
     let numbers = place_numbers E.places in
+    let span = span_of E in
     let f : ℕ → List Departure =
-    λ k. map (departure_of steps) (row_departures numbers E.last (route_row_at rows k) (route_time_at E.routes k)) in
+    λ k. map (departure_of steps) (row_departures numbers span (route_row_at rows k) (route_time_at E.routes k)) in
     let g : ℕ → List Departure =
-    λ k. route_departures numbers E.last (route_in s (route_at E.said (k - 1))) (route_time_at E.routes k) in
-    map_pieces (departure_of steps) (λ k. row_departures numbers E.last (route_row_at rows k) (route_time_at E.routes k)) (range_with_len 1 (length rows))
+    λ k. route_departures numbers span (route_in s (route_at E.said (k - 1))) (route_time_at E.routes k) in
+    map_pieces (departure_of steps) (λ k. row_departures numbers span (route_row_at rows k) (route_time_at E.routes k)) (range_with_len 1 (length rows))
     ∙ ap (λ n. flat_map f (range_with_len 1 n)) (length_rows s 0 E.said.routes)
     ∙ same_pieces f g 1 (length E.said.routes)
     (λ k low high.
-    row_made steps numbers E.last (route_row_at rows k) (route_time_at E.routes k)
-    ∙ ap (λ (r : ModelRoute). route_departures numbers E.last r (route_time_at E.routes k)) (row_is s E.said.routes (k - 1) (omega (arith, low, high))))
+    row_made steps numbers span (route_row_at rows k) (route_time_at E.routes k)
+    ∙ ap (λ (r : ModelRoute). route_departures numbers span r (route_time_at E.routes k)) (row_is s E.said.routes (k - 1) (omega (arith, low, high))))

@@ -1,12 +1,12 @@
 -- What is made of the parts of a problem over periods is that problem.
-use Rattle.std.proofs.Common.{◌≡◌, ◌∙◌, ℕ, List, [], ◌++◌, length, map, Ok, Err, refl, ap, sym, subst}
+use Rattle.std.proofs.Common.{◌≡◌, ◌∙◌, List, [], ◌++◌, length, map, Ok, Err, refl, ap, sym, subst}
 use Rattle.std.specs.Global.{Vec}
 use Rattle.std.proofs.lemmas.List.{nil_from_length}
 use Rattle.mcf_model.specs.declared.rows.RouteRow.{RouteRow}
 use Rattle.mcf_model.specs.declared.rows.Step.{Step}
 use Rattle.mcf_periods.specs.Flat.{IsFlat, departure_of, flat, flat_row, flat_rows, periods_of, stock_row}
-use Rattle.mcf_periods.specs.PeriodLaws.{IsTimely, ProperPeriodsAreTimely}
-use Rattle.mcf_periods.specs.Periods.{Departure, Periods}
+use Rattle.mcf_periods.specs.PeriodLaws.{ProperPeriodsAreTimely}
+use Rattle.mcf_periods.specs.Periods.{Departure}
 use Rattle.mcf_periods.specs.declared.rows.DepartureRow.{DepartureRow}
 use Rattle.mcf_periods.specs.declared.rows.Store.{Store}
 use Rattle.mcf_places.specs.declared.faults.PlannerFault.{PlannerFault}
@@ -17,13 +17,14 @@ use Rattle.mcf_places.specs.Planners.{Planner}
 use Rattle.mcf_units.specs.Wholes.{place_number, policy_in, steps_in}
 use Rattle.mcf_units.specs.declared.scales.Scales.{Scales}
 use Rattle.mcf_units.specs.declared.terms.Terms.{Terms}
-use Rattle.mcf_period_units.specs.DeparturesOver.{departure_rows, departures_over}
-use Rattle.mcf_period_units.specs.Made.{ComeFrom, IsMadeOver, IsPartsOf, periods_in, route_rows}
+use Rattle.mcf_period_units.specs.DeparturesOver.{departures_over}
+use Rattle.mcf_period_units.specs.Made.{IsMadeOver, IsPartsOf, periods_in, route_rows}
 use Rattle.mcf_period_units.specs.Numbering.{place_count}
 use Rattle.mcf_period_units.specs.PeriodEntries.{PeriodEntries}
 use Rattle.mcf_period_units.specs.PeriodGreats.{greats}
 use Rattle.mcf_period_units.specs.PeriodScales.{scales_over}
 use Rattle.mcf_period_units.specs.PlacesOver.{places_over, stores_over}
+use Rattle.mcf_period_units.specs.Spans.{period_count, span_of}
 use Rattle.mcf_period_units.specs.declared.faults.PeriodGreat.{PeriodGreat}
 use Rattle.mcf_period_units.specs.declared.making.MadeOver.TheVariants.{Improper, Problem}
 use Rattle.mcf_period_units.specs.declared.making.Parts.{Parts}
@@ -44,10 +45,10 @@ module _ (E : PeriodEntries) (terms : Terms) (parts : Parts) (policy : Policy) (
   same =
       ap (λ n. record { count = n; last = parts.rows.last; places = parts.rows.places.items; stores = parts.rows.stores.items; departures = map (departure_of parts.rows.steps.items) parts.rows.departures.items; policy = policy }) are.count
       ∙ ap (λ n. record { count = place_number (place_count E.places); last = n; places = parts.rows.places.items; stores = parts.rows.stores.items; departures = map (departure_of parts.rows.steps.items) parts.rows.departures.items; policy = policy }) are.last
-      ∙ ap (λ (ps : List Place). record { count = place_number (place_count E.places); last = place_number E.last; places = ps; stores = parts.rows.stores.items; departures = map (departure_of parts.rows.steps.items) parts.rows.departures.items; policy = policy }) are.places
-      ∙ ap (λ (ss : List Store). record { count = place_number (place_count E.places); last = place_number E.last; places = places_over s E; stores = ss; departures = map (departure_of parts.rows.steps.items) parts.rows.departures.items; policy = policy }) are.stores
-      ∙ ap (λ (ds : List Departure). record { count = place_number (place_count E.places); last = place_number E.last; places = places_over s E; stores = stores_over s E; departures = ds; policy = policy }) departures
-      ∙ ap (λ (p : Policy). record { count = place_number (place_count E.places); last = place_number E.last; places = places_over s E; stores = stores_over s E; departures = departures_over s E; policy = p }) of_policy
+      ∙ ap (λ (ps : List Place). record { count = place_number (place_count E.places); last = place_number (period_count (span_of E)); places = ps; stores = parts.rows.stores.items; departures = map (departure_of parts.rows.steps.items) parts.rows.departures.items; policy = policy }) are.places
+      ∙ ap (λ (ss : List Store). record { count = place_number (place_count E.places); last = place_number (period_count (span_of E)); places = places_over s E; stores = ss; departures = map (departure_of parts.rows.steps.items) parts.rows.departures.items; policy = policy }) are.stores
+      ∙ ap (λ (ds : List Departure). record { count = place_number (place_count E.places); last = place_number (period_count (span_of E)); places = places_over s E; stores = stores_over s E; departures = ds; policy = policy }) departures
+      ∙ ap (λ (p : Policy). record { count = place_number (place_count E.places); last = place_number (period_count (span_of E)); places = places_over s E; stores = stores_over s E; departures = departures_over s E; policy = p }) of_policy
 
   pub made_problem : ProperPeriodsAreTimely → (P : Planner) → IsFlat parts.rows policy (Ok P) → IsProperPlanner P
       → IsMadeOver E terms (Problem (record { scales = s; origins = parts.origins; planner = P }))

@@ -1,6 +1,6 @@
 -- The departures of rows of routes.
 -- Source: own
-use Rattle.std.specs.Prelude.{ℕ, ◌+◌, ◌-◌, ◌==◌, Bool, true, false, if◌then◌else◌, List, [], ◌∷◌, ◌++◌, length, map, pos, Some, slice_index_or}
+use Rattle.std.specs.Prelude.{ℕ, ◌+◌, ◌-◌, ◌==◌, Bool, true, false, if◌then◌else◌, List, [], ◌∷◌, length, map, pos, Some, slice_index_or}
 use Rattle.std.specs.List.{flat_map, range_with_len}
 use Rattle.mcf_model.specs.Model.{Route}
 use Rattle.mcf_model.specs.declared.rows.RouteRow.{RouteRow}
@@ -13,7 +13,9 @@ use Rattle.mcf_units.specs.declared.scales.Scales.{Scales}
 use Rattle.mcf_period_units.specs.Numbering.{number_at, place_numbers}
 use Rattle.mcf_period_units.specs.PeriodEntries.{PeriodEntries, route_time_at}
 use Rattle.mcf_period_units.specs.PeriodGreats.{first_departure, lead_of}
+use Rattle.mcf_period_units.specs.Spans.{shifted, span_of}
 use Rattle.mcf_period_units.specs.declared.origins.DepartureOrigin.{DepartureOrigin}
+use Rattle.mcf_period_units.specs.declared.spans.Span.{Span}
 
 -- the number of the place that a row names first, in 32 bits
 abbrev pub end_number : List ℕ → ℕ → ℕ
@@ -43,20 +45,20 @@ one_way numbers back r = record {
 abbrev pub ways : Bool → List Bool
 ways both = if both then false ∷ true ∷ [] else false ∷ []
 
--- the departures of a route in a period
-abbrev pub departures_in : List ℕ → Route → ℕ → ℕ → List Departure
-departures_in numbers r lead period =
-    map (λ back. record { route = one_way numbers back r; period = place_number period; lead = lead }) (ways r.both)
+-- the departures of a route in a named period
+abbrev pub departures_in : List ℕ → Span → Route → ℕ → ℕ → List Departure
+departures_in numbers span r lead period =
+    map (λ back. record { route = one_way numbers back r; period = place_number (shifted span period); lead = lead }) (ways r.both)
 
--- the departures of a route in all periods
-abbrev pub route_departures : List ℕ → ℕ → Route → RouteTime → List Departure
-route_departures numbers last r time = flat_map (departures_in numbers r (lead_of time.lead)) (departing last time)
+-- the departures of a route in all named periods
+abbrev pub route_departures : List ℕ → Span → Route → RouteTime → List Departure
+route_departures numbers span r time = flat_map (departures_in numbers span r (lead_of time.lead)) (departing span.last time)
 
 -- the departures of all rows of routes
 abbrev pub departures_over : Scales → PeriodEntries → List Departure
 departures_over s E =
     flat_map
-    (λ row. route_departures (place_numbers E.places) E.last (route_in s (route_at E.said (row - 1))) (route_time_at E.routes row))
+    (λ row. route_departures (place_numbers E.places) (span_of E) (route_in s (route_at E.said (row - 1))) (route_time_at E.routes row))
     (range_with_len 1 (length E.said.routes))
 
 -- ---- where they come from
@@ -110,26 +112,27 @@ one_way_row numbers back r = record {
   both = false;
 }
 
--- the departure of a row in a period, or that of its way back
-abbrev pub way_row : List ℕ → RouteRow → ℕ → ℕ → Bool → DepartureRow
-way_row numbers r lead period back = record { row = one_way_row numbers back r; period = place_number period; lead = lead }
+-- the departure of a row in a named period, or that of its way back
+abbrev pub way_row : List ℕ → Span → RouteRow → ℕ → ℕ → Bool → DepartureRow
+way_row numbers span r lead period back =
+    record { row = one_way_row numbers back r; period = place_number (shifted span period); lead = lead }
 
--- the departures of a row in a period
-abbrev pub rows_in_period : List ℕ → RouteRow → ℕ → ℕ → List DepartureRow
-rows_in_period numbers r lead period = map (way_row numbers r lead period) (ways r.both)
+-- the departures of a row in a named period
+abbrev pub rows_in_period : List ℕ → Span → RouteRow → ℕ → ℕ → List DepartureRow
+rows_in_period numbers span r lead period = map (way_row numbers span r lead period) (ways r.both)
 
--- the departures of a row in all periods
-abbrev pub row_departures : List ℕ → ℕ → RouteRow → RouteTime → List DepartureRow
-row_departures numbers last r time = flat_map (rows_in_period numbers r (lead_of time.lead)) (departing last time)
+-- the departures of a row in all named periods
+abbrev pub row_departures : List ℕ → Span → RouteRow → RouteTime → List DepartureRow
+row_departures numbers span r time = flat_map (rows_in_period numbers span r (lead_of time.lead)) (departing span.last time)
 
 -- the departures of these rows
-abbrev pub rows_departures : List ℕ → ℕ → List RouteRow → List RouteTime → List DepartureRow
-rows_departures numbers last rows times =
-    flat_map (λ row. row_departures numbers last (route_row_at rows row) (route_time_at times row)) (range_with_len 1 (length rows))
+abbrev pub rows_departures : List ℕ → Span → List RouteRow → List RouteTime → List DepartureRow
+rows_departures numbers span rows times =
+    flat_map (λ row. row_departures numbers span (route_row_at rows row) (route_time_at times row)) (range_with_len 1 (length rows))
 
 -- the departures of all rows
 abbrev pub departure_rows : Scales → PeriodEntries → List DepartureRow
-departure_rows s E = rows_departures (place_numbers E.places) E.last (rows_in s 0 E.said.routes) E.routes
+departure_rows s E = rows_departures (place_numbers E.places) (span_of E) (rows_in s 0 E.said.routes) E.routes
 
 -- where the departures of these rows come from
 abbrev pub rows_origins : ℕ → List RouteRow → List RouteTime → List DepartureOrigin

@@ -10,6 +10,7 @@ pub use Rattle.mcf_periods.specs.PeriodAnswers
 pub use Rattle.mcf_periods.specs.PeriodLaws
 pub use Rattle.mcf_periods.specs.Periods
 pub mod PeriodEntries
+pub mod Spans
 pub mod PeriodScales
 pub mod UnitRows
 pub mod PeriodGreats

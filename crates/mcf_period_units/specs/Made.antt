@@ -1,6 +1,6 @@
 -- The problem over periods of two tables, in whole units.
 -- Source: own
-use Rattle.std.specs.Prelude.{◌≡◌, ℕ, List, [], ◌++◌, map}
+use Rattle.std.specs.Prelude.{◌≡◌, List, [], ◌++◌, map}
 use Rattle.mcf_model.specs.declared.rows.RouteRow.{RouteRow}
 use Rattle.mcf_periods.specs.Flat.{flat, flat_row, stock_row}
 use Rattle.mcf_periods.specs.PeriodLaws.{IsTimely}
@@ -15,6 +15,7 @@ use Rattle.mcf_period_units.specs.PeriodEntries.{PeriodEntries}
 use Rattle.mcf_period_units.specs.PeriodGreats.{greats}
 use Rattle.mcf_period_units.specs.PeriodScales.{scales_over}
 use Rattle.mcf_period_units.specs.PlacesOver.{origins_over, places_over, store_origins_over, stores_over}
+use Rattle.mcf_period_units.specs.Spans.{period_count, span_of}
 use Rattle.mcf_period_units.specs.declared.making.MadeOver.{MadeOver}
 use Rattle.mcf_period_units.specs.declared.making.Parts.{Parts}
 use Rattle.mcf_period_units.specs.declared.making.MadeOver.TheVariants.{Improper, Problem, TooGreat}
@@ -24,7 +25,7 @@ use Rattle.mcf_period_units.specs.declared.origins.PeriodOrigins.{PeriodOrigins}
 abbrev pub periods_in : Scales → PeriodEntries → Terms → Periods
 periods_in s E terms = record {
   count = place_number (place_count E.places);
-  last = place_number E.last;
+  last = place_number (period_count (span_of E));
   places = places_over s E;
   stores = stores_over s E;
   departures = departures_over s E;
@@ -40,7 +41,7 @@ pub record ComeFrom (s : Scales) (E : PeriodEntries) (origins : PeriodOrigins) :
 -- its parts as rows, and where they come from
 pub record IsPartsOf (s : Scales) (E : PeriodEntries) (parts : Parts) : Type 0 where
   pub count : parts.rows.count ≡ place_number (place_count E.places)
-  pub last : parts.rows.last ≡ place_number E.last
+  pub last : parts.rows.last ≡ place_number (period_count (span_of E))
   pub places : parts.rows.places.items ≡ places_over s E
   pub steps : parts.rows.steps.items ≡ steps_in s E.said.routes
   pub stores : parts.rows.stores.items ≡ stores_over s E

@@ -1,6 +1,6 @@
 -- What is too great, or too late, over periods.
 -- Source: own
-use Rattle.std.specs.Prelude.{ℕ, ◌+◌, ◌*◌, ◌==◌, nat_lt, Bool, ◌||◌, if◌then◌else◌, List, [], ◌∷◌, ◌++◌, length, map, Option, Some, None, pos, unsigned_abs}
+use Rattle.std.specs.Prelude.{ℕ, ◌+◌, ◌*◌, ◌==◌, nat_lt, Bool, ◌||◌, if◌then◌else◌, List, [], ◌∷◌, ◌++◌, length, map, Option, Some, None, unsigned_abs}
 use Rattle.std.specs.Prelude.{◌^◌}
 use Rattle.std.specs.List.{flat_map, range_with_len}
 use Rattle.mcf_decimal.specs.declared.decimal.Decimal.{Decimal}
@@ -10,15 +10,14 @@ use Rattle.mcf_period_reading.specs.declared.place_times.PlaceTime.{PlaceTime}
 use Rattle.mcf_period_reading.specs.declared.route_times.RouteTime.{RouteTime}
 use Rattle.mcf_places.specs.declared.faults.TheConstants.{PLACE_LIMIT}
 use Rattle.mcf_units.specs.GreatNumbers.{great_faults}
-use Rattle.mcf_units.specs.Wholes.{fits, is_whole}
+use Rattle.mcf_units.specs.Wholes.{is_whole}
 use Rattle.mcf_units.specs.declared.scales.Scales.{Scales}
 use Rattle.mcf_units.specs.declared.terms.Terms.{Terms}
 use Rattle.mcf_period_units.specs.Numbering.{place_count}
-use Rattle.mcf_period_units.specs.PeriodEntries.{PeriodEntries, entry_at, route_time_at, time_at}
-use Rattle.mcf_period_units.specs.UnitRows.{supply_in, unit_row}
+use Rattle.mcf_period_units.specs.PeriodEntries.{PeriodEntries, route_time_at, time_at}
+use Rattle.mcf_period_units.specs.Spans.{period_count, span_of}
 use Rattle.mcf_period_units.specs.declared.faults.PeriodGreat.{PeriodGreat}
-use Rattle.mcf_period_units.specs.declared.faults.PeriodGreat.TheVariants.{Cell, Late, Number, Places, Sum}
-use Rattle.mcf_period_units.specs.declared.unit_rows.UnitRow.{UnitRow}
+use Rattle.mcf_period_units.specs.declared.faults.PeriodGreat.TheVariants.{Cell, Late, Number, Places}
 
 -- this fault, unless the test holds
 abbrev pub unless_so : Bool → PeriodGreat → List PeriodGreat
@@ -43,17 +42,9 @@ great_time s row time =
     ++ (unless_so (is_whole s.amounts time.first) (Cell (record { row = row; head = FirstStock }))
     ++ unless_so (is_whole s.amounts time.last) (Cell (record { row = row; head = LastStock })))
 
--- the supplies of a row that are too great with the stock of the first period, or of the last one
-abbrev pub great_sums : ℕ → ℕ → UnitRow → List PeriodGreat
-great_sums last row unit =
-    unless_so (fits (supply_in last unit 1)) (Sum (record { row = row; head = FirstStock }))
-    ++ unless_so (fits (supply_in last unit last)) (Sum (record { row = row; head = LastStock }))
-
 -- what is too great in a row of places
-abbrev pub great_row : Scales → PeriodEntries → ℕ → List PeriodGreat
-great_row s E row =
-    great_time s row (time_at E.places row)
-    ++ great_sums E.last row (unit_row s (entry_at E.said.places row) (time_at E.places row))
+abbrev pub great_row : Scales → List PlaceTime → ℕ → List PeriodGreat
+great_row s times row = great_time s row (time_at times row)
 
 -- a lead, which is a whole number of 32 bits
 abbrev pub lead_of : Decimal → ℕ
@@ -74,14 +65,15 @@ late_fault last times row = if is_late last (route_time_at times row) then Late 
 -- there are too many places, periods, or places in all periods
 abbrev pub is_large : PeriodEntries → Bool
 is_large E =
-    nat_lt PLACE_LIMIT (place_count E.places) || (nat_lt PLACE_LIMIT E.last || nat_lt PLACE_LIMIT (place_count E.places * E.last))
+    nat_lt PLACE_LIMIT (place_count E.places)
+    || (nat_lt PLACE_LIMIT E.last || nat_lt PLACE_LIMIT (place_count E.places * period_count (span_of E)))
 
 -- what is too great of rows: numbers without periods, those about periods, and rows that are too
 -- late
 abbrev pub great_rows : Scales → PeriodEntries → Terms → List PeriodGreat
 great_rows s E terms =
     map Number (great_faults s E.said terms)
-    ++ (flat_map (great_row s E) (range_with_len 1 (length E.places)) ++ flat_map (late_fault E.last E.routes) (range_with_len 1 (length E.said.routes)))
+    ++ (flat_map (great_row s E.places) (range_with_len 1 (length E.places)) ++ flat_map (late_fault E.last E.routes) (range_with_len 1 (length E.said.routes)))
 
 -- that there are too many places, or else what is too great of rows
 abbrev pub greats : Scales → PeriodEntries → Terms → List PeriodGreat

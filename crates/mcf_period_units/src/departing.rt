@@ -6,6 +6,7 @@ ghost use Rattle.mcf_period_units.specs.DeparturesOver.{departure_count, end_num
 use crate::greats::{first_departure, lead_of};
 use crate::numbering::number_at;
 use crate::origins::DepartureOrigin;
+use crate::spans::{Span, one_if};
 use crate::unit_rows::route_time_at;
 use mcf_model::RouteRow;
 use mcf_period_reading::RouteTime;
@@ -53,12 +54,14 @@ fn departure_count(last: usize, time: RouteTime) -> usize
     }
 }
 
-// A row of routes with its number, and after how many periods what is sent arrives.
+// A row of routes with its number, after how many periods what is sent arrives, and the periods of
+// the problem.
 #[derive(Clone, Copy)]
 struct Line {
     row: RouteRow,
     number: usize,
     lead: u32,
+    span: Span,
 }
 
 // Appends the departure of a row in a period, or that of its way back, and where it comes from.
@@ -69,13 +72,14 @@ fn push_way(
     period: usize,
     back: bool,
 ) -> Result<(), NoMemory>
-    ensures rows { OnOk result (made.new.rows.items ≡ made.old.rows.items ++ way_row numbers.now line.row line.lead period back ∷ []) }
+    ensures rows { OnOk result (made.new.rows.items ≡ made.old.rows.items ++ way_row numbers.now line.span line.row line.lead period back ∷ []) }
     ensures origins { OnOk result (made.new.origins.items ≡ made.old.origins.items ++ way_origin line.number line.lead period back ∷ []) }
 {
     let arrival = period.saturating_add(line.lead as usize);
+    let shifted = one_if(line.span.before).saturating_add(period);
     made.rows.push(DepartureRow {
         row: one_way_row(numbers, back, line.row),
-        period: place_number(period),
+        period: place_number(shifted),
         lead: line.lead,
     })?;
     made.origins.push(DepartureOrigin {
@@ -94,7 +98,7 @@ fn push_period(
     line: Line,
     period: usize,
 ) -> Result<(), NoMemory>
-    ensures rows { OnOk result (made.new.rows.items ≡ made.old.rows.items ++ rows_in_period numbers.now line.row line.lead period) }
+    ensures rows { OnOk result (made.new.rows.items ≡ made.old.rows.items ++ rows_in_period numbers.now line.span line.row line.lead period) }
     ensures origins { OnOk result (made.new.origins.items ≡ made.old.origins.items ++ origins_in line.number line.row.both line.lead period) }
 {
     push_way(made, numbers, line, period, false)?;
@@ -113,7 +117,7 @@ fn push_periods(
     count: usize,
 ) -> Result<(), NoMemory>
     requires { (first + count) ≤ 2 ^ 64 }
-    ensures rows { OnOk result (made.new.rows.items ≡ made.old.rows.items ++ flat_map (rows_in_period numbers.now line.row line.lead) (range_with_len first count)) }
+    ensures rows { OnOk result (made.new.rows.items ≡ made.old.rows.items ++ flat_map (rows_in_period numbers.now line.span line.row line.lead) (range_with_len first count)) }
     ensures origins { OnOk result (made.new.origins.items ≡ made.old.origins.items ++ flat_map (origins_in line.number line.row.both line.lead) (range_with_len first count)) }
 {
     for place in 0..count {
@@ -122,35 +126,40 @@ fn push_periods(
     Ok(())
 }
 
-// Appends the departures of a row in all periods, of so many, and where they come from.
+// Appends the departures of a row in all named periods, and where they come from.
 fn push_row(
     made: &mut Departures,
     numbers: &[usize],
     row: RouteRow,
     number: usize,
-    last: usize,
+    span: Span,
     time: RouteTime,
 ) -> Result<(), NoMemory>
-    ensures rows { OnOk result (made.new.rows.items ≡ made.old.rows.items ++ row_departures numbers.now last row time) }
-    ensures origins { OnOk result (made.new.origins.items ≡ made.old.origins.items ++ route_origins number row.both last time) }
+    ensures rows { OnOk result (made.new.rows.items ≡ made.old.rows.items ++ row_departures numbers.now span row time) }
+    ensures origins { OnOk result (made.new.origins.items ≡ made.old.origins.items ++ route_origins number row.both span.last time) }
 {
     let lead = lead_of(time.lead);
-    let line = Line { row, number, lead };
+    let line = Line {
+        row,
+        number,
+        lead,
+        span,
+    };
     let first = first_departure(time);
-    let count = departure_count(last, time);
+    let count = departure_count(span.last, time);
     push_periods(made, numbers, line, first, count)
 }
 
-// The departures of these rows in all periods, of so many, and where they come from.
+// The departures of these rows in all named periods, and where they come from.
 pub(crate) fn all_departures(
     alloc: Global,
     numbers: &[usize],
     rows: &[RouteRow],
     times: &[RouteTime],
-    last: usize,
+    span: Span,
 ) -> Result<Departures, NoMemory>
-    ensures rows { IfOk result (λ made. made.rows.items ≡ rows_departures numbers.now last rows.now times.now) }
-    ensures origins { IfOk result (λ made. made.origins.items ≡ rows_origins last rows.now times.now) }
+    ensures rows { IfOk result (λ made. made.rows.items ≡ rows_departures numbers.now span rows.now times.now) }
+    ensures origins { IfOk result (λ made. made.origins.items ≡ rows_origins span.last rows.now times.now) }
 {
     let mut made = Departures {
         rows: Vec::new(alloc),
@@ -159,7 +168,7 @@ pub(crate) fn all_departures(
     for place in 0..rows.len() {
         let row = route_row_at(rows, place + 1);
         let time = route_time_at(times, place + 1);
-        push_row(&mut made, numbers, row, place + 1, last, time)?;
+        push_row(&mut made, numbers, row, place + 1, span, time)?;
     }
     Ok(made)
 }

@@ -20,9 +20,6 @@ pub enum PeriodGreat {
     Number(GreatFault),
     /// The number in this cell doesn't fit 64 bits, in the unit of all amounts or of all costs.
     Cell(PeriodCell),
-    /// The supply of this row doesn't fit 64 bits, in the unit of all amounts, once the stock in
-    /// this cell is added or taken away.
-    Sum(PeriodCell),
     /// What leaves by this row of routes arrives after the last period.
     Late(usize),
 }

@@ -1,15 +1,15 @@
 //! What is too great, or too late, over periods.
 ghost use Rattle.std.specs.Prelude.{◌≡◌, ◌++◌, IfOk, OnOk, length, map};
 ghost use Rattle.std.specs.List.{flat_map, range_with_len};
-ghost use Rattle.mcf_units.specs.Wholes.{fits};
 ghost use Rattle.mcf_period_units.specs.declared.faults.PeriodGreat.TheVariants.{Number};
 ghost use Rattle.mcf_period_units.specs.Numbering.{place_count};
-ghost use Rattle.mcf_period_units.specs.UnitRows.{supply_in};
+ghost use Rattle.mcf_period_units.specs.Spans.{span_of};
 ghost use Rattle.mcf_period_units.specs.PeriodEntries.{PeriodEntries as AllEntries, entries_over};
-ghost use Rattle.mcf_period_units.specs.PeriodGreats.{first_departure, great_keep, great_row, great_rows, great_sums, great_time, greats, is_large, is_late, late_fault, lead_of, unless_limit, unless_so};
+ghost use Rattle.mcf_period_units.specs.PeriodGreats.{first_departure, great_keep, great_row, great_rows, great_time, greats, is_large, is_late, late_fault, lead_of, unless_limit, unless_so};
 
 use crate::faults::{PeriodCell, PeriodGreat};
-use crate::unit_rows::{UnitRow, entry_at, route_time_at, supply_in, time_at, unit_row};
+use crate::spans::{Span, period_count, span_in};
+use crate::unit_rows::{route_time_at, time_at};
 use mcf_decimal::Decimal;
 use mcf_period_reading::{KeepEntry, PeriodHead, PeriodTables, PlaceTime, RouteTime};
 use mcf_places::PLACE_LIMIT;
@@ -85,65 +85,16 @@ fn push_time(
     push_unless(found, is_whole(scales.amounts, time.last), last)
 }
 
-// Whether a number fits 64 bits.
-fn fits(number: i128) -> bool
-    ensures { result ≡ fits number }
-{
-    !(number < -9_223_372_036_854_775_808) && number < 9_223_372_036_854_775_808
-}
-
-// Whether what a row gives in a period, of so many, fits 64 bits.
-fn supply_fits(last: usize, unit: UnitRow, period: usize) -> bool
-    ensures { result ≡ fits (supply_in last unit period) }
-{
-    fits(supply_in(last, unit, period))
-}
-
-// Appends the supplies of a row that are too great with the stock of the first period, or of the
-// last one.
-fn push_sums(
-    found: &mut Vec<PeriodGreat>,
-    last: usize,
-    row: usize,
-    unit: UnitRow,
-) -> Result<(), NoMemory>
-    ensures { OnOk result (found.new.items ≡ found.old.items ++ great_sums last row unit) }
-{
-    let before = PeriodGreat::Sum(cell(row, PeriodHead::FirstStock));
-    let after = PeriodGreat::Sum(cell(row, PeriodHead::LastStock));
-    let begins = supply_fits(last, unit, 1);
-    let ends = supply_fits(last, unit, last);
-    push_unless(found, begins, before)?;
-    push_unless(found, ends, after)
-}
-
-// Appends what is too great in a row of places.
-fn push_row(
-    found: &mut Vec<PeriodGreat>,
-    scales: Scales,
-    tables: &Tables,
-    times: &PeriodTables<'_>,
-    row: usize,
-) -> Result<(), NoMemory>
-    ensures { OnOk result (found.new.items ≡ found.old.items ++ great_row scales (entries_over tables.now times.now) row) }
-{
-    let time = time_at(&times.places, row);
-    let unit = unit_row(scales, entry_at(tables.places(), row), time);
-    push_time(found, scales, row, time)?;
-    push_sums(found, times.periods.len(), row, unit)
-}
-
 // Appends what is too great in all rows of places.
 fn push_rows(
     found: &mut Vec<PeriodGreat>,
     scales: Scales,
-    tables: &Tables,
-    times: &PeriodTables<'_>,
+    times: &[PlaceTime],
 ) -> Result<(), NoMemory>
-    ensures { OnOk result (found.new.items ≡ found.old.items ++ flat_map (great_row scales (entries_over tables.now times.now)) (range_with_len 1 (length times.now.places.items))) }
+    ensures { OnOk result (found.new.items ≡ found.old.items ++ flat_map (great_row scales times.now) (range_with_len 1 (length times.now))) }
 {
-    for place in 0..times.places.len() {
-        push_row(found, scales, tables, times, place + 1)?;
+    for place in 0..times.len() {
+        push_time(found, scales, place + 1, time_at(times, place + 1))?;
     }
     Ok(())
 }
@@ -210,10 +161,11 @@ fn push_numbers(found: &mut Vec<PeriodGreat>, numbers: &[GreatFault]) -> Result<
 }
 
 // Whether there are too many places, periods, or places in all periods.
-fn is_large(count: usize, last: usize) -> bool
-    ensures { (E : AllEntries) → place_count E.places ≡ count → E.last ≡ last → result ≡ is_large E }
+fn is_large(count: usize, span: Span) -> bool
+    ensures { (E : AllEntries) → place_count E.places ≡ count → span_of E ≡ span → result ≡ is_large E }
 {
-    count > PLACE_LIMIT || (last > PLACE_LIMIT || count.saturating_mul(last) > PLACE_LIMIT)
+    count > PLACE_LIMIT
+        || (span.last > PLACE_LIMIT || count.saturating_mul(period_count(span)) > PLACE_LIMIT)
 }
 
 // What is too great of rows.
@@ -229,7 +181,7 @@ fn great_rows(
     let numbers = great_faults(alloc, scales, tables, terms)?;
     let mut found = Vec::new(alloc);
     push_numbers(&mut found, &numbers)?;
-    push_rows(&mut found, scales, tables, times)?;
+    push_rows(&mut found, scales, &times.places)?;
     push_late(&mut found, tables, times)?;
     Ok(found)
 }
@@ -246,7 +198,8 @@ pub(crate) fn greats(
     requires { count ≡ place_count times.now.places.items }
     ensures { IfOk result (λ found. found.items ≡ greats scales (entries_over tables.now times.now) terms) }
 {
-    if is_large(count, times.periods.len()) {
+    let span = span_in(&times.places, times.periods.len());
+    if is_large(count, span) {
         return Ok(vec![in alloc; PeriodGreat::Places]?);
     }
     great_rows(alloc, scales, tables, times, terms)

@@ -6,8 +6,9 @@
 //!
 //! It builds on `mcf_units`, `mcf_period_reading` and `mcf_periods`. The definitions are in
 //! `specs/`: `PeriodScales` says which units are taken, `UnitRows` what a row of places is in them,
-//! `Numbering` which number a place has, `PlacesOver` and `DeparturesOver` what the problem is made
-//! of, `PeriodGreats` what is too great, and `Made` what is made.
+//! `Spans` which periods there are, `Numbering` which number a place has, `PlacesOver` and
+//! `DeparturesOver` what the problem is made of, `PeriodGreats` what is too great, and `Made` what
+//! is made.
 
 mod departing;
 mod faults;
@@ -17,6 +18,7 @@ mod numbering;
 mod origins;
 mod places_over;
 mod scales;
+mod spans;
 mod stores_over;
 mod unit_rows;
 

@@ -1,5 +1,6 @@
 //! The problem over periods of two tables.
-ghost use Rattle.std.specs.Prelude.{◌≡◌, ◌≤◌, IfOk};
+ghost use Rattle.std.specs.Prelude.{◌≡◌, ◌≤◌, IfOk, length};
+ghost use Rattle.mcf_places.specs.declared.faults.TheConstants.{PLACE_LIMIT};
 ghost use Rattle.mcf_units.specs.GreatNumbers.{step_total};
 ghost use Rattle.mcf_units.specs.declared.great.TheConstants.{STEP_LIMIT};
 ghost use Rattle.mcf_period_units.specs.Made.{IsMadeOver, IsPartsOf};
@@ -13,8 +14,9 @@ use crate::numbering::{Numbered, number_places, spots_of};
 use crate::origins::PeriodOrigins;
 use crate::places_over::{Rows, all_places};
 use crate::scales::scales_over;
+use crate::spans::{period_count, span_in};
 use crate::stores_over::all_stores;
-use crate::unit_rows::unit_rows;
+use crate::unit_rows::{earning, unit_rows};
 use mcf_period_reading::{PeriodTables, first_rows};
 use mcf_periods::{PeriodRows, flat, proper_periods_are_timely};
 use mcf_places::{Planner, PlannerFault};
@@ -72,29 +74,34 @@ fn all_parts(
     numbered: &Numbered,
 ) -> Result<Parts, NoMemory>
     requires few { step_total tables.now.routes ≤ STEP_LIMIT }
+    requires few_periods { length times.now.periods ≤ PLACE_LIMIT }
     requires firsts { numbered.now.firsts.items ≡ place_rows times.now.places.items }
     requires numbers { numbered.now.numbers.items ≡ place_numbers times.now.places.items }
     ensures { IfOk result (IsPartsOf scales (entries_over tables.now times.now)) }
 {
     let count = numbered.firsts.as_slice().len();
     let last = times.periods.len();
+    let span = span_in(&times.places, last);
     let units = unit_rows(alloc, scales, tables, times)?;
     let spots = spots_of(alloc, &times.places)?;
     let found = first_rows(alloc, &spots)?;
+    let routes = routes_in(alloc, scales, tables)?;
+    let limited = earning(&units, &routes.steps, &routes.rows);
     let rows = Rows {
         units: &units,
         spots: &spots,
         found: &found,
         firsts: &numbered.firsts,
+        span,
+        limited,
     };
-    let listed = all_places(alloc, rows, last)?;
-    let stored = all_stores(alloc, rows, last)?;
-    let routes = routes_in(alloc, scales, tables)?;
-    let leaving = all_departures(alloc, &numbered.numbers, &routes.rows, &times.routes, last)?;
+    let listed = all_places(alloc, rows)?;
+    let stored = all_stores(alloc, rows)?;
+    let leaving = all_departures(alloc, &numbered.numbers, &routes.rows, &times.routes, span)?;
     Ok(Parts {
         rows: PeriodRows {
             count: place_number(count),
-            last: place_number(last),
+            last: place_number(period_count(span)),
             places: listed.places,
             steps: routes.steps,
             stores: stored.stores,

@@ -1,17 +1,23 @@
 //! The rows of places in whole units.
-ghost use Rattle.std.specs.Prelude.{◌≡◌, ◌+ℤ◌, ◌-ℤ◌, IfOk, option_map};
-ghost use Rattle.mcf_flows.specs.Network.{when};
+ghost use Rattle.std.specs.Prelude.{◌≡◌, IfOk, option_map};
+ghost use Rattle.std.specs.List.{list_any};
+ghost use Rattle.mcf_places.specs.PlannerFaults.{place_earns};
 ghost use Rattle.mcf_reading.specs.Cells.{zero_decimal};
 ghost use Rattle.mcf_period_units.specs.PeriodEntries.{entries_over, entry_at, route_time_at, time_at};
-ghost use Rattle.mcf_period_units.specs.UnitRows.{keep_in, place_over, row_at, supply_in, unit_row, unit_rows};
+ghost use Rattle.mcf_period_units.specs.UnitRows.{earning, far_more, first_place, is_of_stock, keep_earns, keep_in, keep_over, last_place, leaves, named_place, penalty_unless, place_over, row_at, row_earns, stock_keep, stock_place, unit_row, unit_rows};
 
 use mcf_decimal::Decimal;
+use mcf_model::{RouteRow, Step, some_earn};
 use mcf_period_reading::{KeepEntry, PeriodTables, PlaceTime, RouteTime};
-use mcf_places::Place;
+use mcf_places::{Bounds, Place};
 use mcf_reading::{PlaceEntry, Tables};
 use mcf_text::NoMemory;
 use mcf_units::{Scales, place_in, whole, whole_limit};
 use std::alloc::Global;
+
+// By how many units the limit of a stock exceeds it: more than all demands that people plan for,
+// and so few that such limits of all places together are within the limits of an instance.
+const MARGIN: i128 = 1_000_000_000_000;
 
 // What a place may keep from a period to the next, in units.
 #[derive(Clone, Copy)]
@@ -62,7 +68,7 @@ pub(crate) fn time_at(times: &[PlaceTime], row: usize) -> PlaceTime
 }
 
 // What a row of places says without periods.
-pub(crate) fn entry_at(entries: &[PlaceEntry], row: usize) -> PlaceEntry
+fn entry_at(entries: &[PlaceEntry], row: usize) -> PlaceEntry
     ensures { result ≡ entry_at entries.now row }
 {
     match entries.get(row.saturating_sub(1)) {
@@ -109,7 +115,7 @@ fn keep_of(scales: Scales, keep: Option<KeepEntry>) -> Option<UnitKeep>
 }
 
 // A row in units.
-pub(crate) fn unit_row(scales: Scales, entry: PlaceEntry, time: PlaceTime) -> UnitRow
+fn unit_row(scales: Scales, entry: PlaceEntry, time: PlaceTime) -> UnitRow
     ensures { result ≡ unit_row scales entry time }
 {
     UnitRow {
@@ -162,36 +168,146 @@ pub(crate) fn row_at(rows: &[UnitRow], row: usize) -> UnitRow
     }
 }
 
-// The number if the test holds, or 0.
-fn when(test: bool, number: i64) -> i64
-    ensures { result ≡ when test number }
-{
-    if test { number } else { 0 }
-}
-
-// A supply with what is there before, less what must be left.
-fn summed(supply: i64, first: i64, left: i64) -> i128
-    ensures { result ≡ (supply +ℤ first) -ℤ left }
-{
-    i128::from(supply) + i128::from(first) - i128::from(left)
-}
-
-// What a row gives in a period, of so many.
-pub(crate) fn supply_in(last: usize, row: UnitRow, period: usize) -> i128
-    ensures { result ≡ supply_in last row period }
-{
-    let first = when(period == 1, row.first);
-    let left = when(period == last, row.last);
-    summed(row.place.supply, first, left)
-}
-
-// The place of a row in a period, of so many.
-pub(crate) fn place_over(last: usize, row: UnitRow, period: usize) -> Place
-    ensures { result ≡ place_over last row period }
+// A place that gives or wants so much, whatever passes through it.
+fn stock_place(supply: i64, penalty: Option<i64>) -> Place
+    ensures { result ≡ stock_place supply penalty }
 {
     Place {
-        supply: i64::try_from(supply_in(last, row, period)).unwrap_or(0),
+        supply,
+        through: None,
+        penalty,
+    }
+}
+
+// Whether a row names a last stock.
+fn leaves(row: UnitRow) -> bool
+    ensures { result ≡ leaves row }
+{
+    row.last > 0
+}
+
+// A penalty, unless the test holds.
+fn penalty_unless(test: bool, penalty: Option<i64>) -> Option<i64>
+    ensures { result ≡ penalty_unless test penalty }
+{
+    if test { None } else { penalty }
+}
+
+// The place of a row before the first named period.
+fn first_place(row: UnitRow) -> Place
+    ensures { result ≡ first_place row }
+{
+    stock_place(row.first, None)
+}
+
+// Its place after the last named period.
+fn last_place(row: UnitRow) -> Place
+    ensures { result ≡ last_place row }
+{
+    let supply = i64::try_from(-i128::from(row.last)).unwrap_or(0);
+    stock_place(supply, penalty_unless(!leaves(row), row.place.penalty))
+}
+
+// Whether its penalty in a named period, which may be the last one, is that of the last stock
+// alone.
+fn is_of_stock(ends: bool, row: UnitRow) -> bool
+    ensures { result ≡ is_of_stock ends row }
+{
+    ends && (leaves(row) && row.place.supply > 0)
+}
+
+// Its place in a named period, which may be the last one.
+fn named_place(ends: bool, row: UnitRow) -> Place
+    ensures { result ≡ named_place ends row }
+{
+    Place {
+        supply: row.place.supply,
         through: row.place.through,
-        penalty: row.place.penalty,
+        penalty: penalty_unless(is_of_stock(ends, row), row.place.penalty),
+    }
+}
+
+// The place of a row in a period, by its number among the named ones, of which there are so many.
+pub(crate) fn place_over(last: usize, row: UnitRow, number: usize) -> Place
+    ensures { result ≡ place_over last row number }
+{
+    if number == 0 {
+        first_place(row)
+    } else if last < number {
+        last_place(row)
+    } else {
+        named_place(number == last, row)
+    }
+}
+
+// Whether a unit that a place keeps costs less than 0.
+fn keep_earns(keep: Option<UnitKeep>) -> bool
+    ensures { result ≡ keep_earns keep }
+{
+    match keep {
+        Some(keep) => keep.cost < 0,
+        None => false,
+    }
+}
+
+// Whether one that passes through a place does.
+fn place_earns(through: Option<Bounds>) -> bool
+    ensures { result ≡ place_earns through }
+{
+    match through {
+        Some(bounds) => bounds.cost < 0,
+        None => false,
+    }
+}
+
+// Whether one that passes through the place of a row, or that it keeps, does.
+fn row_earns(row: UnitRow) -> bool
+    ensures { result ≡ row_earns row }
+{
+    place_earns(row.place.through) || keep_earns(row.keep)
+}
+
+// Whether some cost of these rows of places is below 0.
+fn units_earn(units: &[UnitRow]) -> bool
+    ensures { result ≡ list_any row_earns units.now }
+{
+    units.iter().any(|row| row_earns(*row))
+}
+
+// Whether some cost of these rows of places, or of these rows of routes, is below 0.
+pub(crate) fn earning(units: &[UnitRow], steps: &[Step], rows: &[RouteRow]) -> bool
+    ensures { result ≡ earning units.now steps.now rows.now }
+{
+    units_earn(units) || some_earn(steps, rows)
+}
+
+// Far more, if that fits 64 bits.
+fn far_more(number: i64) -> i64
+    ensures { result ≡ far_more number }
+{
+    i64::try_from(i128::from(number) + MARGIN).unwrap_or(number)
+}
+
+// What may be kept of a stock.
+fn stock_keep(limited: bool, stock: i64) -> UnitKeep
+    ensures { result ≡ stock_keep limited stock }
+{
+    UnitKeep {
+        most: if limited { Some(far_more(stock)) } else { None },
+        cost: 0,
+    }
+}
+
+// What the place of a row may keep after a period, by its number among the named ones, of which
+// there are so many.
+pub(crate) fn keep_over(limited: bool, last: usize, row: UnitRow, number: usize) -> Option<UnitKeep>
+    ensures { result ≡ keep_over limited last row number }
+{
+    if number == 0 {
+        Some(stock_keep(limited, row.first))
+    } else if number < last {
+        row.keep
+    } else {
+        Some(stock_keep(limited, row.last))
     }
 }

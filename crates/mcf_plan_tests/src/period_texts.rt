@@ -109,18 +109,104 @@ static FAULTY: [Faulty; 6] = [
     },
 ];
 
-// The text of the answer to two texts.
-fn text_for(alloc: Global, places: &[u8], routes: &[u8]) -> Result<PlanText, NoMemory> {
+// All that is given is sent, and all that is wanted arrives.
+const STRICT: Terms = Terms {
+    unused: false,
+    short: false,
+    penalty: None,
+};
+
+// Supplies may stay, and demands may be missing.
+const LOOSE: Terms = Terms {
+    unused: true,
+    short: true,
+    penalty: None,
+};
+
+// Places that have stocks, and the answer if supplies may stay and demands may be missing; they
+// have no route.
+#[derive(Clone, Copy)]
+struct Stocked {
+    places: &'static [u8],
+    told: &'static [u8],
+}
+
+static STOCKED: [Stocked; 7] = [
+    // the first stock is kept for the demand that costs more
+    Stocked {
+        places: b"name,supply,period,first stock,keep cost,penalty\nW,-3,Jan,3,0,1\nW,-3,Feb,,,100\n",
+        told: b"\"answer\",\"plan\"\n\
+\"cost\",\"3\"\n\
+\"missing\",\"3\"\n\
+\"supply\",\"3\"\n\
+\"demand\",\"6\"\n\
+\"keep\",\"2\",\"W\",\"3\",\"0\",\"\",\"0\",\"yes\",\"0\",\"first stock\",\"Jan\"\n\
+\"keep\",\"2\",\"W\",\"3\",\"0\",\"\",\"0\",\"yes\",\"0\",\"Jan\",\"Feb\"\n",
+    },
+    // the first stock passes the bounds of its place
+    Stocked {
+        places: b"name,supply,most,period,first stock\nA,-3,2,Jan,3\n",
+        told: b"\"answer\",\"plan\"\n\
+\"cost\",\"0\"\n\
+\"missing\",\"1\"\n\
+\"supply\",\"3\"\n\
+\"demand\",\"3\"\n\
+\"keep\",\"2\",\"A\",\"2\",",
+    },
+    // a last stock may be missing at the penalty of its row, which may have a supply above 0
+    Stocked {
+        places: b"name,supply,period,last stock,penalty\nA,3,Jan,5,7\n",
+        told: b"\"answer\",\"plan\"\n\
+\"cost\",\"14\"\n\
+\"missing\",\"2\"\n\
+\"supply\",\"3\"\n\
+\"demand\",\"5\"\n\
+\"keep\",\"2\",\"A\",\"3\",\"0\",\"\",\"0\",\"yes\",\"0\",\"Jan\",\"last stock\"\n\
+\"place\",\"2\",\"A\",\"0\",\"0\",\"7\",\"1\",\"\",\"\",\"\",\"\",\"\",\"\",\"Jan\"\n\
+\"place\",\"2\",\"A\",\"0\",\"2\",\"7\",\"1\",\"\",\"\",\"\",\"\",\"\",\"\",\"last stock\"\n",
+    },
+    // a last stock is a demand like others
+    Stocked {
+        places: b"name,supply,period,last stock,penalty\nA,0,Jan,5,\nB,-1,Jan,,7\n",
+        told: b"\"answer\",\"faults\"\n\
+\"fault\",\"places\",\"2\",\"penalty\",\"no penalty, but other places have one\",\"\",\"last stock\"\n",
+    },
+    // costs below 0 ask for limits, and what is kept of a stock has one
+    Stocked {
+        places: b"name,supply,period,first stock,keep most,keep cost\nW,0,Jan,5,9,-1\nW,-2,Feb,,,\n",
+        told: b"\"answer\",\"plan\"\n\
+\"cost\",\"-2\"\n\
+\"missing\",\"0\"\n\
+\"supply\",\"5\"\n\
+\"demand\",\"2\"\n\
+\"keep\",\"2\",\"W\",\"2\",",
+    },
+    // stocks beyond the limits
+    Stocked {
+        places: b"name,supply,period,first stock\nA,0,Jan,900000000000000000\n",
+        told: b"\"answer\",\"faults\"\n\
+\"fault\",\"places\",\"2\",\"first stock\",\"beyond the limits\",\"\",\"first stock\"\n",
+    },
+    Stocked {
+        places: b"name,supply,period,last stock\nA,0,Jan,900000000000000000\n",
+        told: b"\"answer\",\"faults\"\n\
+\"fault\",\"places\",\"2\",\"last stock\",\"beyond the limits\",\"\",\"Jan\"\n",
+    },
+];
+
+// The text of the answer to two texts on these terms.
+fn text_for(
+    alloc: Global,
+    places: &[u8],
+    routes: &[u8],
+    terms: Terms,
+) -> Result<PlanText, NoMemory> {
     let mut engine = Engine {
         choice: Choice::default(),
     };
     let options = Options {
         mark: Some(Mark::Point),
-        terms: Terms {
-            unused: false,
-            short: false,
-            penalty: None,
-        },
+        terms,
     };
     let texts = Texts {
         places,
@@ -132,7 +218,7 @@ fn text_for(alloc: Global, places: &[u8], routes: &[u8]) -> Result<PlanText, NoM
 
 #[test]
 fn a_plan_over_periods_is_told(rt: HostRuntime) -> Result<(), Fail> {
-    let told = text_for(rt.alloc(), PLACES, ROUTES)?;
+    let told = text_for(rt.alloc(), PLACES, ROUTES, STRICT)?;
     assert!(rt; told.kind == TextKind::Plan);
     assert!(rt; told.text.starts_with(PLAN));
     Ok(())
@@ -140,7 +226,7 @@ fn a_plan_over_periods_is_told(rt: HostRuntime) -> Result<(), Fail> {
 
 #[test]
 fn a_bottleneck_over_periods_is_told(rt: HostRuntime) -> Result<(), Fail> {
-    let told = text_for(rt.alloc(), SHORT_PLACES, ROUTES)?;
+    let told = text_for(rt.alloc(), SHORT_PLACES, ROUTES, STRICT)?;
     assert!(rt; told.kind == TextKind::NoPlan);
     assert!(rt; told.text.starts_with(BLOCKED));
     Ok(())
@@ -149,8 +235,17 @@ fn a_bottleneck_over_periods_is_told(rt: HostRuntime) -> Result<(), Fail> {
 #[test]
 fn faults_over_periods_are_told(rt: HostRuntime) -> Result<(), Fail> {
     for row in FAULTY.iter() {
-        let told = text_for(rt.alloc(), row.places, row.routes)?;
+        let told = text_for(rt.alloc(), row.places, row.routes, STRICT)?;
         assert!(rt; told.kind == TextKind::Faults);
+        assert!(rt; told.text.starts_with(row.told));
+    }
+    Ok(())
+}
+
+#[test]
+fn stocks_have_periods_of_their_own(rt: HostRuntime) -> Result<(), Fail> {
+    for row in STOCKED.iter() {
+        let told = text_for(rt.alloc(), row.places, b"from,to,most,cost\n", LOOSE)?;
         assert!(rt; told.text.starts_with(row.told));
     }
     Ok(())

@@ -1,6 +1,8 @@
 //! The problem over periods of two tables, in whole units.
 use mcf_period_reading::read_periods;
-use mcf_period_units::{MadeOver, PeriodGreat, PeriodProblem, PlaceOrigin, problem_over};
+use mcf_period_units::{
+    MadeOver, PeriodGreat, PeriodOrigins, PeriodProblem, PlaceOrigin, problem_over,
+};
 use mcf_reading::read;
 use mcf_table::{Records, records_of};
 use mcf_text::NoMemory;
@@ -61,31 +63,50 @@ fn has_supplies(made: &PeriodProblem, wanted: &[i64]) -> bool {
     true
 }
 
+// Where the depot comes from in a period.
+fn depot(period: u32) -> PlaceOrigin {
+    PlaceOrigin {
+        first: 2,
+        row: 2,
+        period,
+    }
+}
+
 // Whether the problem is that of the tables.
 fn is_said(made: &PeriodProblem) -> bool {
     let scales = Scales {
         amounts: 0,
         costs: 1,
     };
-    let depot = PlaceOrigin {
-        first: 2,
-        row: 2,
-        period: 2,
-    };
+    let wanted = [0, 3, 0, 9, 0, 0, 0, 0, -4, 0, -1, 0];
     let origins = &made.origins;
-    if origins.places.len() != 6 || !has_supplies(made, &[9, 3, 0, 0, -1, -4]) {
+    if origins.places.len() != 12 || !has_supplies(made, &wanted) {
         return false;
     }
-    let has_rows = origins.places[4] == depot && origins.places[3].row == 0;
-    let has_counts = origins.stores.len() == 1 && origins.departures.len() == 3;
-    made.scales == scales && has_rows && has_counts && made.planner.route_count() == 4
+    let has_rows = origins.places[7] == depot(2) && origins.places[6].row == 0;
+    let has_stocks = origins.places[1] == depot(0) && origins.places[10] == depot(3);
+    let has_counts = origins.stores.len() == 7 && origins.departures.len() == 3;
+    made.scales == scales && has_rows && has_stocks && has_counts
+}
+
+// Whether places keep anything from the first stock to the first period, and until the last stock,
+// and departures are in their periods.
+fn has_periods(origins: &PeriodOrigins) -> bool {
+    if origins.stores.len() != 7 || origins.departures.len() != 3 {
+        return false;
+    }
+    let firsts = origins.stores[0].period == 0 && origins.stores[1].row == 2;
+    let between = origins.stores[3].period == 1 && origins.stores[3].row == 2;
+    let lasts = origins.stores[4].period == 2 && origins.stores[4].row == 1;
+    let departs = origins.departures[0].period == 1 && origins.departures[2].period == 2;
+    firsts && between && lasts && departs
 }
 
 #[test]
 fn places_stand_in_each_period(rt: HostRuntime) -> Result<(), Fail> {
     let told = made(rt.alloc(), PLACES, ROUTES)?;
     let is = match &told {
-        Some(MadeOver::Problem(problem)) => is_said(problem),
+        Some(MadeOver::Problem(problem)) => is_said(problem) && has_periods(&problem.origins),
         _ => false,
     };
     assert!(rt; is);

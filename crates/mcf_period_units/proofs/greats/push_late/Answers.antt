@@ -1,9 +1,7 @@
-use Rattle.std.proofs.Common.{◌∙◌, ◌+◌, ◌++◌, ℕ, List, length, ap, arith}
-use Rattle.std.specs.List.{flat_map, range_with_len}
+use Rattle.std.proofs.Common.{◌∙◌, ◌+◌, ◌++◌, List, ap, arith}
 use Rattle.mcf_reading.proofs.Ranges.{pushed}
 use Rattle.mcf_period_reading.specs.declared.route_times.RouteTime.{RouteTime}
 use Rattle.mcf_period_units.specs.PeriodGreats.{late_fault}
-use Rattle.mcf_period_units.specs.declared.faults.PeriodGreat.{PeriodGreat}
 use Rattle.mcf_period_units.proofs.greats.push_late.Goals as goal
 
 pub loop-place-preserved : goal.loop-place-preserved

@@ -1,4 +1,4 @@
-use Rattle.std.proofs.Common.{◌≡◌, ◌++◌, length}
+use Rattle.std.proofs.Common.{◌≡◌, ◌++◌}
 use Rattle.std.specs.List.{flat_map, range_with_len}
 use Rattle.mcf_period_units.specs.PeriodGreats.{late_fault}
 use Rattle.mcf_period_units.proofs.greats.push_late.Given as goal

@@ -9,8 +9,8 @@ loop-place-preserved c =
     let rows = c.args.rows in
     let before = c.loop-place.made in
     record {
-      places = pushed (period_places c.args.last rows.units.now rows.spots.now rows.firsts.now) 1 place (place + 1) [] before.places.items
+      places = pushed (period_places rows.span rows.units.now rows.spots.now rows.firsts.now) 1 place (place + 1) [] before.places.items
           c.push_period.new.made.places.items (omega arith) c.loop-place.invariant.places c.in_ok-push_period.ensures.places;
-      origins = pushed (period_origins rows.spots.now rows.firsts.now) 1 place (place + 1) [] before.origins.items c.push_period.new.made.origins.items
+      origins = pushed (period_origins rows.span rows.spots.now rows.firsts.now) 1 place (place + 1) [] before.origins.items c.push_period.new.made.origins.items
           (omega arith) c.loop-place.invariant.origins c.in_ok-push_period.ensures.origins;
     }

@@ -5,6 +5,6 @@ use Rattle.mcf_period_units.proofs.places_over.all_places.Given as goal
 
 abbrev pub invariant-loop-place : goal.invariant-loop-place
 invariant-loop-place l = record {
-  places : l.made.places.items ≡ flat_map (period_places l.last l.fn.rows.units.now l.fn.rows.spots.now l.fn.rows.firsts.now) (range_with_len 1 l.place);
-  origins : l.made.origins.items ≡ flat_map (period_origins l.fn.rows.spots.now l.fn.rows.firsts.now) (range_with_len 1 l.place);
+  places : l.made.places.items ≡ flat_map (period_places l.fn.rows.span l.fn.rows.units.now l.fn.rows.spots.now l.fn.rows.firsts.now) (range_with_len 1 l.place);
+  origins : l.made.origins.items ≡ flat_map (period_origins l.fn.rows.span l.fn.rows.spots.now l.fn.rows.firsts.now) (range_with_len 1 l.place);
 }

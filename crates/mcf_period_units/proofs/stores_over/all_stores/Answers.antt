@@ -9,8 +9,8 @@ loop-place-preserved c =
     let rows = c.args.rows in
     let before = c.loop-place.made in
     record {
-      stores = pushed (period_stores rows.units.now rows.spots.now rows.firsts.now) 1 place (place + 1) [] before.stores.items
+      stores = pushed (period_stores rows.limited rows.span rows.units.now rows.spots.now rows.firsts.now) 1 place (place + 1) [] before.stores.items
           c.push_period.new.made.stores.items (omega arith) c.loop-place.invariant.stores c.in_ok-push_period.ensures.stores;
-      origins = pushed (period_store_origins rows.units.now rows.spots.now rows.firsts.now) 1 place (place + 1) [] before.origins.items
+      origins = pushed (period_store_origins rows.limited rows.span rows.units.now rows.spots.now rows.firsts.now) 1 place (place + 1) [] before.origins.items
           c.push_period.new.made.origins.items (omega arith) c.loop-place.invariant.origins c.in_ok-push_period.ensures.origins;
     }

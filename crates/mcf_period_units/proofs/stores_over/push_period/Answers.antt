@@ -9,8 +9,8 @@ loop-place-preserved c =
     let rows = c.args.rows in
     let before = c.loop-place.made in
     record {
-      stores = pushed (place_store rows.units.now rows.spots.now rows.firsts.now c.args.period) 1 place (place + 1) c.args.made.now.stores.items before.stores.items
+      stores = pushed (place_store rows.limited rows.span rows.units.now rows.spots.now rows.firsts.now c.args.period) 1 place (place + 1) c.args.made.now.stores.items before.stores.items
           c.push_store.new.made.stores.items (omega arith) c.loop-place.invariant.stores c.in_ok-push_store.ensures.stores;
-      origins = pushed (place_store_origin rows.units.now rows.spots.now rows.firsts.now c.args.period) 1 place (place + 1) c.args.made.now.origins.items before.origins.items
+      origins = pushed (place_store_origin rows.limited rows.span rows.units.now rows.spots.now rows.firsts.now c.args.period) 1 place (place + 1) c.args.made.now.origins.items before.origins.items
           c.push_store.new.made.origins.items (omega arith) c.loop-place.invariant.origins c.in_ok-push_store.ensures.origins;
     }
