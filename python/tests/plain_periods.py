@@ -28,7 +28,7 @@ PERIODS = ("Jan", "Feb", "KW 48", "2", "März, 2. Hälfte")
 
 # A row of places: the number of its place; the number of the period in which it holds, or None for
 # each; what it says of the place; the most and the unit cost of what the place may keep, or None;
-# the stock before the first period, and that after the last.
+# the stock that is there before the first period, and that which is left after the last.
 PlaceRow = collections.namedtuple("PlaceRow", "place period says keep first last")
 # A row of routes: the number of its period, or None; what it says; after how many periods it
 # arrives.
@@ -53,8 +53,22 @@ class PeriodProblem:
         self.names, self.periods, self.policy = names, periods, policy
         self.places, self.routes = places, routes
 
+    def times(self):
+        """All periods, by their numbers: with -1 before those that are named if there is first
+        stock, and with one after them if there is last stock."""
+        begin = -1 if any(row.first for row in self.places) else 0
+        return range(begin, len(self.periods) + any(row.last for row in self.places))
+
+    def label(self, period):
+        """The name of a period."""
+        if period < 0:
+            return "first stock"
+        return self.periods[period] if period < len(self.periods) else "last stock"
+
     def row_in(self, place, period):
-        """The number of the row that holds for a place in a period, or None."""
+        """The number of the row that holds for a place in a period, or None. That of the first
+        period holds for first stock, and that of the last one for last stock."""
+        period = min(max(period, 0), len(self.periods) - 1)
         found = (
             number
             for number, row in enumerate(self.places)
@@ -63,30 +77,41 @@ class PeriodProblem:
         return next(found, None)
 
     def place_in(self, place, period):
-        """A place in a period; it gives and wants nothing if no row holds."""
+        """A place in a period; it gives and wants nothing if no row holds. A penalty is that of the
+        last stock alone if there is some and the place gives something."""
         number = self.row_in(place, period)
         if number is None:
             return Place(self.names[place], Fraction(0), None)
         row = self.places[number]
-        supply = row.says.supply
-        supply += row.first if period == 0 else 0
-        supply -= row.last if period == len(self.periods) - 1 else 0
-        return row.says._replace(supply=supply)
+        if period < 0:
+            return Place(row.says.name, row.first, None)
+        if period == len(self.periods):
+            return Place(row.says.name, -row.last, None, row.says.penalty if row.last else None)
+        if period == len(self.periods) - 1 and row.last and row.says.supply > 0:
+            return row.says._replace(penalty=None)
+        return row.says
 
     def number(self, place, period):
         """The number of a place in a period, from 0."""
-        return period * len(self.names) + place
+        return (period - self.times()[0]) * len(self.names) + place
+
+    def keeps(self, place, period):
+        """What a place may keep after a period: anything, for nothing, of its first stock and for
+        its last stock, and otherwise what its row says. None is nothing."""
+        if period < 0 or period == len(self.periods) - 1:
+            return None, Fraction(0)
+        row = self.row_in(place, period)
+        return None if row is None else self.places[row].keep
 
     def stores(self):
         """What each place may keep from each period to the next."""
-        for period in range(len(self.periods) - 1):
+        for period in self.times()[:-1]:
             for place in range(len(self.names)):
-                row = self.row_in(place, period)
-                if row is None or self.places[row].keep is None:
-                    continue
-                ends = self.number(place, period), self.number(place, period + 1)
-                route = Route(*ends, Fraction(0), (self.places[row].keep,), False)
-                yield Move("keep", row, period, period + 1, route)
+                keep = self.keeps(place, period)
+                if keep is not None:
+                    ends = self.number(place, period), self.number(place, period + 1)
+                    route = Route(*ends, Fraction(0), (keep,), False)
+                    yield Move("keep", self.row_told(place, period), period, period + 1, route)
 
     def departures(self):
         """Each route in each period in which what is sent arrives in time, in each direction."""
@@ -116,7 +141,7 @@ class PeriodProblem:
         """The problem without periods."""
         places = [
             self.place_in(place, period)
-            for period in range(len(self.periods))
+            for period in self.times()
             for place in range(len(self.names))
         ]
         return Problem(places, [move.route for move in self.moves()], self.policy)
@@ -134,7 +159,7 @@ class PeriodProblem:
         ends = [self.names[end % len(self.names)] for end in move.route[:2]]
         line = lines[move.word != "keep"][move.row]
         names = ends[:1] if move.word == "keep" else ends
-        return (move.word, str(line), *names, self.periods[move.begin], self.periods[move.end])
+        return (move.word, str(line), *names, self.label(move.begin), self.label(move.end))
 
     def flat_ways(self, rows, lines, words):
         """The rows of stores, departures and what goes back, which begin with these words, as rows
@@ -168,8 +193,8 @@ class PeriodProblem:
     def has_all_places(self, rows, lines):
         """Whether the rows of places are those of all places in all periods, in order."""
         wanted = [
-            [str(lines[0][self.row_told(place, period)]), name, self.periods[period]]
-            for period in range(len(self.periods))
+            [str(lines[0][self.row_told(place, period)]), name, self.label(period)]
+            for period in self.times()
             for place, name in enumerate(self.names)
         ]
         return [[*cells[:2], cells[-1]] for cells in rows.by_word["place"]] == wanted

@@ -110,7 +110,7 @@ class PeriodCase:
         return (*ends, least, draw.choice([None, 4, 9]), draw.randint(0, 9), both, period, lead)
 
     def net(self, place, period):
-        """What a place gives in a period, beside its stock before the first and after the last."""
+        """What a place gives in a period, with its first stock and less its last stock."""
         says = self.places[place, period]
         return says["supply"] + (says["first stock"] or 0) - (says["last stock"] or 0)
 
@@ -160,21 +160,36 @@ class PeriodCase:
                 leaves[place, period].append((1, name))
                 comes[place, period + 1].append((1, name))
         for key, says in self.places.items():
+            self.add_stock(linear, key, says, (leaves[key], comes[key]))
             self.add_place(linear, key, says, (leaves[key], comes[key]))
         return linear
+
+    def add_stock(self, linear, key, says, moves):
+        """Adds the stock of a place in a period: what comes in at the beginning of the first
+        period, and what goes out at the end of the last, or is missing then."""
+        (place, period), (leaves, comes) = key, moves
+        first, last = (says[head] or 0 for head in ("first stock", "last stock"))
+        begins = linear.variable(f"begins_{place}_{period}")
+        linear.keep(0 if self.unused else first, first, (1, begins))
+        comes.append((1, begins))
+        ends = linear.variable(f"ends_{place}_{period}")
+        lacks = linear.variable(f"unfilled_{place}_{period}", self.penalty)
+        linear.keep(last, last, (1, ends), (1, lacks))
+        linear.keep(0, last if self.short else 0, (1, lacks))
+        leaves.append((1, ends))
 
     def add_place(self, linear, key, says, moves):
         """Adds a place in a period: all that comes in and is given passes through it, and goes out
         or is taken."""
-        (place, period), (leaves, comes), net = key, moves, self.net(*key)
+        (place, period), (leaves, comes), supply = key, moves, says["supply"]
         through = linear.variable(f"through_{place}_{period}", says["cost"] or 0)
         given = linear.variable(f"given_{place}_{period}")
         lacks = linear.variable(f"lacks_{place}_{period}", self.penalty)
-        linear.keep(0 if self.unused or net < 0 else net, max(net, 0), (1, given))
-        linear.keep(0, max(-net, 0) if self.short else 0, (1, lacks))
+        linear.keep(0 if self.unused or supply < 0 else supply, max(supply, 0), (1, given))
+        linear.keep(0, max(-supply, 0) if self.short else 0, (1, lacks))
         linear.keep(0, 0, (-1, through), (1, given), *comes)
         # what is missing never passes through
-        linear.keep(max(-net, 0), max(-net, 0), (1, through), (1, lacks), *negated(leaves))
+        linear.keep(max(-supply, 0), max(-supply, 0), (1, through), (1, lacks), *negated(leaves))
         linear.keep(says["least"] or 0, says["most"], (1, through))
 
 
