@@ -104,10 +104,12 @@ class Nodes:
         return Crossing(kind, int(line), *ends, names, number_in(least), number_in(most))
 
     def bottleneck(self, side, part, crossings, hub=False):
-        """A part of a bottleneck as one, with what may stay, or be missing, if there is a hub."""
+        """A part of a bottleneck as one, with what may stay, or be missing, if there is a hub. A
+        place without first or last stock isn't among those of the stock."""
         mine = collections.Counter()
         for node in part:
-            mine[self.place(node)] += self.sends(node) * (1 if side == "send" else -1)
+            if not self.problem.places[self.place(node) - 1].is_quiet:
+                mine[self.place(node)] += self.sends(node) * (1 if side == "send" else -1)
         outer, inner = ("head", "tail") if side == "send" else ("tail", "head")
         forcing = [one for one in crossings if one.least and getattr(one, outer) in part]
         limiting = [

@@ -83,6 +83,7 @@ class Folder:
         self.parts += [
             (problem.places[store.tail - 1].label, KEPT, result.carries)
             for store, result in zip(problem.stores, plan.stores)
+            if not problem.is_quiet(store)
         ]
         self.keeping = sum(result.cost or 0 for result in plan.stores)
         self.stays, self.missing = (

@@ -49,6 +49,8 @@ THROUGH_COLUMNS = [
     ("one more saves", "what one more unit of room saves"),
     ("one more passing costs", "at least, if one more has to pass; empty: full"),
 ]
+# What the column of first stock says.
+FIRST_KEPT = "there before the first period, and kept for it"
 # The heads of columns that the page always shows.
 USED = ("from", "to", "least", "most", "cost", "name", "supply", "penalty", "x", "y", "period")
 
@@ -158,6 +160,8 @@ def places_sheet(plan):
     has_unmet = problem.unused or problem.short
     has_penalties = any(place.penalty is not None for place in problem.places)
     for number, (place, result) in enumerate(zip(problem.places, plan.places)):
+        if place.is_quiet:
+            continue
         unmet = result.stays + result.missing
         cells = [place.period] * bool(problem.periods)
         cells += [place.name, figure(place.supply), figure(result.costs), result.group]
@@ -184,14 +188,17 @@ def places_sheet(plan):
 
 
 def stock_sheets(plan):
-    """The table of what places keep, if there are periods: a row for each place, and a column for
-    each period."""
+    """The table of what places keep, if there are periods: a row for each place that keeps
+    something, and a column for each period, and for first stock."""
     problem, rows = plan.problem, {}
-    if not plan.stores:
-        return []
     for one, result in zip(problem.stores, plan.stores):
-        rows.setdefault(problem.places[one.tail - 1].name, {})[one.departs] = result.carries
-    columns = [("name", "")] + [(period, "kept after it") for period in problem.periods[:-1]]
+        if not problem.is_quiet(one):
+            rows.setdefault(problem.places[one.tail - 1].name, {})[one.departs] = result.carries
+    if not rows:
+        return []
+    columns = [("name", "")]
+    for period in problem.times[:-1]:
+        columns.append((period.name, FIRST_KEPT if period.stock else "kept after it"))
     cells = [
         [name, *(figure(kept.get(head)) for head, _ in columns[1:])] for name, kept in rows.items()
     ]

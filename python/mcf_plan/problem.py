@@ -34,17 +34,25 @@ CostRange = collections.namedtuple("CostRange", "low high")
 
 class Place(
     collections.namedtuple(
-        "Place", "name supply spot bounds penalty line cells period", defaults=("",)
+        "Place",
+        "name supply spot bounds penalty line cells period is_stock",
+        defaults=("", False),
     )
 ):
     """A place, in a period if there are periods. `bounds` limits the flow through it (its inflow
     and its supply) or is None; `penalty` is the cost of each unit that is missing there, or None if
-    that of all places holds; `line` and `cells` are those of its table."""
+    that of all places holds; `line` and `cells` are those of its table. `is_stock` says that its
+    supply is its stock before the first period or after the last."""
 
     @property
     def label(self):
         """The name, and the period if there are periods."""
         return f"{self.name} ({self.period})" if self.period else self.name
+
+    @property
+    def is_quiet(self):
+        """Whether it is about stock that isn't there, so that nothing is told of it."""
+        return self.is_stock and not self.supply
 
 
 class Route(
@@ -75,8 +83,9 @@ class Problem:
         self.supply, self.demand = (number_in(answer.one(word)) for word in ("supply", "demand"))
         self.unused, self.short = options.unused, options.short
         self.penalty = value_of(options.penalty, self.mark) if options.penalty else None
-        # The periods, and what places may keep from one to the next, as routes.
-        self.periods, self.stores = [], []
+        # The named periods; with those of first and last stock; and what places may keep from one
+        # of these to the next, as routes.
+        self.periods, self.times, self.stores = [], [], []
         self.places = self.all_places()
         self.numbers = {
             (place.name, place.period): number for number, place in enumerate(self.places, 1)
@@ -163,6 +172,14 @@ class Problem:
             heads = tuple(f"{head} {len(found) + 1}" for head in ("most", "cost"))
         return tuple(found)
 
+    def is_quiet(self, store):
+        """Whether what a place may keep is stock that isn't there."""
+        return any(self.places[end - 1].is_quiet for end in store[:2])
+
+    def is_stock(self, store):
+        """Whether what a place may keep is its first or its last stock."""
+        return any(self.places[end - 1].is_stock for end in store[:2])
+
     def ends(self, route):
         """The names of a route's ends, with their periods if there are some."""
         return self.places[route.tail - 1].label, self.places[route.head - 1].label
@@ -214,7 +231,11 @@ class Plan:
         self.problem, self.cost = problem, number_in(problem.answer.one("cost"))
         self.routes, self.stores = problem.route_results(), problem.store_results()
         groups, rows = {}, problem.answer.rows["place"]
-        self.places = [place_result(cells[2:], groups) for cells in rows]
+        # A place of which nothing is told takes no number of a group.
+        self.places = [
+            place_result(cells[2:], {} if place.is_quiet else groups)
+            for place, cells in zip(problem.places, rows)
+        ]
         self.has_ranges = problem.options.ranges
         self.has_supplies = self.has_ranges and (
             problem.names_penalty() if problem.short else problem.unused

@@ -15,7 +15,6 @@ from .results import (
 )
 from .words import TOLD_NAMES, count_of, listed
 
-STOCK_HEADS = ("first stock", "last stock")
 # A range that isn't told.
 UNKNOWN = "unknown"
 RANGES = (
@@ -51,7 +50,8 @@ def write_flows(results, plan):
 
 
 def write_prices(results, plan):
-    """Writes prices.csv: the places in their order, with the columns of their table."""
+    """Writes prices.csv: the places in their order, with the columns of their table. Where there is
+    no first or last stock, nothing is told of it."""
     problem = plan.problem
     has_bounds = any(place.bounds for place in problem.places)
     groups = [PLACE_RESULTS] + [SUPPLY_RESULTS] * plan.has_supplies
@@ -59,6 +59,8 @@ def write_prices(results, plan):
     groups += [PLACE_PERIODS] * bool(problem.periods)
     rows = []
     for number, (place, result) in enumerate(zip(problem.places, plan.places)):
+        if place.is_quiet:
+            continue
         cells = [figure(result.costs), result.group, *supply_cells(plan, number)]
         if has_bounds:
             through = result.through
@@ -70,11 +72,14 @@ def write_prices(results, plan):
 
 
 def write_stock(results, plan):
-    """Writes stock.csv, if there are periods: what places keep from each to the next."""
+    """Writes stock.csv, if there are periods: what places keep from each to the next, and what of
+    their first and last stock, if they have some."""
     problem = plan.problem
     if problem.periods:
         rows = []
         for number, (one, result) in enumerate(zip(problem.stores, plan.stores)):
+            if problem.is_quiet(one):
+                continue
             cells = result_cells(result) + range_cells(plan, plan.store_ranges[number])
             cells += room_cells(plan, result, plan.store_rooms[number])
             rows.append([problem.places[one.tail - 1].name, one.departs, one.arrives, *cells])
@@ -142,10 +147,10 @@ def arc_cells(crossing):
 
 
 def slips(problem):
-    """Likely slips in tables that are readable. Stock counts in the supplies of the answer, so it
-    leaves nothing to say."""
+    """Likely slips in tables that are readable. First stock counts as supply and last stock as
+    demand, so they leave nothing to say."""
     column = problem.place_sheet.place("supply")
-    if has_stock(problem):
+    if any(period.stock for period in problem.times):
         return []
     if problem.supply and not problem.demand:
         stays = ", and all that is sent stays" if problem.unused else ""
@@ -164,13 +169,6 @@ def slips(problem):
             "all supplies are empty or 0, so no place sends or takes anything: was one forgotten?"
         ]
     return []
-
-
-def has_stock(problem):
-    """Whether a row of places has stock before the first period, or after the last."""
-    places = [problem.place_sheet.place(head) for head in STOCK_HEADS]
-    cells = (cell_at(cells, place) for _, cells in problem.place_sheet.rows for place in places)
-    return any(cell.strip("0") for cell in cells)
 
 
 def balance_sentence(problem):
@@ -270,15 +268,18 @@ def beside_lines(plan):
 
 
 def stock_lines(plan):
-    """A line on what is kept from a period to the next, if there are periods."""
-    if not plan.problem.periods:
+    """A line on what is kept from a period to the next, beside first and last stock, if there are
+    periods."""
+    problem = plan.problem
+    if not problem.periods:
         return []
-    kept = [result for result in plan.stores if result.carries]
+    found = zip(problem.stores, plan.stores)
+    kept = [result for one, result in found if result.carries and not problem.is_stock(one)]
     if not kept:
         return ["Nothing is kept from a period to the next."]
     most = max(result.carries for result in kept)
-    cost = plan.problem.said(sum(result.cost or 0 for result in kept))
-    return [f"What places keep costs {cost} of that; at most {plan.problem.said(most)} at once."]
+    cost = problem.said(sum(result.cost or 0 for result in kept))
+    return [f"What places keep costs {cost} of that; at most {problem.said(most)} at once."]
 
 
 def savings_of(plan):

@@ -37,7 +37,7 @@ def plan_scene(plan, caption, period=""):
     and otherwise those that carry something or are shut."""
     problem, number_of = plan.problem, functools.partial(shown_number, plan.problem)
     widest, links = max((abs(result.carries) for result in plan.routes), default=0), []
-    places = [place for place in problem.places if place.period == period]
+    places = [place for place in problem.places if is_drawn(place, period)]
     here = [number for number, one in enumerate(problem.routes) if one.departs == period]
     for number in here:
         route, result = problem.routes[number], plan.routes[number]
@@ -48,9 +48,9 @@ def plan_scene(plan, caption, period=""):
     left_out = len(here) - len(links)
     heading = period or f"A least-cost plan: cost {number_of(plan.cost, caption.currency)}"
     heading += f" ({left_out} idle routes aren't drawn)" if left_out else ""
-    shorts, kept = short_names([place.name for place in places]), kept_in(plan, period)
+    shorts, stock = short_names([place.name for place in places]), stock_in(plan, period)
     nodes = [
-        node_of(problem, place, short, result.stays + result.missing, kept.get(place.name, 0))
+        node_of(problem, place, short, result.stays + result.missing, stock[place.name])
         for place, short, result in zip(places, shorts, results_in(plan, period))
     ]
     return Scene(
@@ -66,21 +66,29 @@ def plan_scene(plan, caption, period=""):
     )
 
 
+def is_drawn(place, period):
+    """Whether a place is in the picture of a period, or in that of all if there are no periods."""
+    return place.period == period and not place.is_stock
+
+
 def results_in(plan, period):
-    """The results of the places in a period, or of all places if there are no periods."""
+    """The results of the places in the picture of a period."""
     found = zip(plan.problem.places, plan.places)
-    return [result for place, result in found if place.period == period]
+    return [result for place, result in found if is_drawn(place, period)]
 
 
-def kept_in(plan, period):
-    """What places keep after a period, by their names."""
-    problem = plan.problem
-    found = zip(problem.stores, plan.stores)
-    return {
-        problem.places[store.tail - 1].name: result.carries
-        for store, result in found
-        if store.departs == period
-    }
+def stock_in(plan, period):
+    """The notes on what places have of their first stock in a period, and on what they keep after
+    it, by their names."""
+    problem, notes = plan.problem, collections.defaultdict(list)
+    for store, result in zip(problem.stores, plan.stores):
+        ends = [problem.places[end - 1] for end in store[:2]]
+        amount = shown_number(problem, result.carries)
+        if result.carries and is_drawn(ends[0], period):
+            notes[ends[0].name].append(f"keeps {amount}")
+        elif result.carries and ends[0].is_stock and is_drawn(ends[1], period):
+            notes[ends[0].name].append(f"first stock {amount}")
+    return notes
 
 
 def plan_link(problem, route, result, kind, widest):
@@ -133,7 +141,8 @@ def blocked_scene(blocked, caption):
         for place, short in zip(problem.places, shorts)
     ]
     notes = {"limits": "limits them"} if marked else {}
-    scene = Scene(heading, nodes, links, groups, notes, caption)
+    told = [number for number, place in enumerate(problem.places) if not place.is_quiet]
+    scene = part_of(Scene(heading, nodes, links, groups, notes, caption), told)
     return near_scene(scene) if len(scene.nodes) > NEAR and any(groups) else scene
 
 
@@ -166,31 +175,35 @@ def near_scene(scene):
             *({link.tail, link.head} for link in scene.links if {link.tail, link.head} & blocking)
         )
     )
-    numbers = {node: number for number, node in enumerate(near)}
+    left_out = len(scene.nodes) - len(near)
+    heading = scene.heading + (f" ({left_out} places farther off aren't drawn)" if left_out else "")
+    return part_of(scene._replace(heading=heading), near)
+
+
+def part_of(scene, chosen):
+    """A scene with some of its places, and the routes between them. All places that block are
+    among them."""
+    numbers = {node: number for number, node in enumerate(chosen)}
     links = [
         link._replace(tail=numbers[link.tail], head=numbers[link.head])
         for link in scene.links
         if link.tail in numbers and link.head in numbers
     ]
-    left_out = len(scene.nodes) - len(near)
-    heading = scene.heading + (f" ({left_out} places farther off aren't drawn)" if left_out else "")
     return scene._replace(
-        heading=heading,
-        nodes=[scene.nodes[node] for node in near],
+        nodes=[scene.nodes[node] for node in chosen],
         links=links,
         groups=[{numbers[node] for node in group} for group in scene.groups],
     )
 
 
-def node_of(problem, place, short, unmet=0, kept=0):
-    """A place for the picture, with what is unmet there and what it keeps."""
+def node_of(problem, place, short, unmet=0, stock=()):
+    """A place for the picture, with what is unmet there, and with notes on its stock."""
     kind = "sends" if place.supply > 0 else "takes" if place.supply < 0 else "passes"
     amount = functools.partial(shown_number, problem)
     note = f"{kind} {amount(abs(place.supply))}" if place.supply else ""
     word = "stays" if place.supply > 0 else "missing"
     notes = [note] * bool(note) + [f"{amount(unmet)} {word}"] * bool(unmet)
-    notes += [f"keeps {amount(kept)}"] * bool(kept)
-    return Node(place.label, short, ", ".join(notes), kind, place.spot)
+    return Node(place.label, short, ", ".join([*notes, *stock]), kind, place.spot)
 
 
 def limits_text(problem, route):

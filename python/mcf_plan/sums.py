@@ -78,8 +78,8 @@ def ends_of(route, result):
 
 
 def place_numbers(plan):
-    """For each place: the number 1, its inflow and outflow over routes, what it sends and takes,
-    its surplus and shortage, and the cost of its outflow."""
+    """For each place: the number 1, or 0 for stock that isn't there; its inflow and outflow over
+    routes, what it sends and takes, its surplus and shortage, and the cost of its outflow."""
     places = plan.problem.places
     ins, outs, costs = ([0] * (len(places) + 1) for _ in range(3))
     for route, result in zip(plan.problem.routes, plan.routes):
@@ -92,7 +92,7 @@ def place_numbers(plan):
         stays, missing = result.stays, result.missing
         sends, takes = max(place.supply, 0) - stays, max(-place.supply, 0) - missing
         flows = [ins[number], outs[number], sends, takes, stays, missing]
-        numbers.append([1, *flows, costs[number]])
+        numbers.append([int(not place.is_quiet), *flows, costs[number]])
     return numbers
 
 

@@ -7,6 +7,7 @@ from .answer import FORBIDDEN, Sheet, cell_at
 from .faults import At, shown
 from .figures import mark_in, value_of
 from .notes import number_cells
+from .periods import LAST
 from .problem import check_spots
 from .roster import is_list
 from .tables import BLANKS, LOOKED
@@ -144,19 +145,12 @@ SENTENCES = {
     "no thing": "no thing" + NOTHING,
     "no person": "no person" + NOTHING,
 }
-# Reminders that stock counts among supplies and demands, by faults, with the head of the stock.
-STOCK = {
+# Reminders of how a last stock counts, by faults.
+LAST_STOCK = {
     "a penalty, but a supply above 0": (
-        "first stock",
-        (
-            " Less the demand of the first period, a first stock is a supply: write a line for each"
-            " period, the first one without a penalty"
-        ),
+        " The penalty of a last stock stands on a line for the last period"
     ),
-    "no penalty, but other places have one": (
-        "last stock",
-        "; a last stock is a demand, too",
-    ),
+    "no penalty, but other places have one": "; a last stock is a demand, too",
 }
 RANGE = re.compile("[0-9]+ ?([.][.]|-|–) ?[0-9]+")
 DATE = re.compile(r"[0-9]{4}-|\.\s?\w{3}")
@@ -205,7 +199,7 @@ class Teller:
         self.done.add(here)
         if not (is_lacking and kind in self.done):
             text = "" if kind in self.done else self.text(word, line, column, what, cell)
-            text += f" (in period {shown(period)})" if text and period else ""
+            text += f" (in period {shown(period)})" if text and period not in ("", LAST) else ""
             self.faults.add(At(self.tables[word].name, line, column), what, text, cell)
         self.done.add(kind)
 
@@ -360,9 +354,8 @@ class Teller:
 
 
 def stock_hint(sheet, row, what):
-    """A reminder of how stock counts, if a row of places has some that the fault is about."""
-    head, text = STOCK[what]
-    return text if cell_at(row, sheet.place(head)) else ""
+    """A reminder of how a last stock counts, if a row of places has one."""
+    return LAST_STOCK[what] if cell_at(row, sheet.place(LAST)) else ""
 
 
 def has_letter(cell):

@@ -1,7 +1,8 @@
 """Tests of plans over periods as the tool shows them."""
+import re
 import unittest
 
-from support import WithFolder, rows_of
+from support import WithFolder, rows_of, run
 
 PLACES = """name,period,supply,keep most,keep cost,first stock,last stock
 Brewery,,100,,,,
@@ -78,12 +79,8 @@ class Periods(WithFolder):
             ["Brewery", "70", "June", "July"],
         )
         self.assertEqual([flows[3][head] for head in ("from", "to")], ["Kiel", "Depot"])
-        self.assertEqual(
-            [row["period"] for row in rows_of(self.out / "stock.csv")][::2], ["May", "June"]
-        )
-        self.assertEqual(len(rows_of(self.out / "prices.csv")), 9)
         sums = [row for row in rows_of(self.out / "sums.csv") if row["by"] == "period"]
-        self.assertEqual([row["takes"] for row in sums], ["60", "90", "110"])
+        self.assertEqual([row["takes"] for row in sums], ["0", "60", "90", "100", "10"])
         pictures = sorted(path.name for path in self.out.glob("*.svg"))
         self.assertEqual(pictures, ["plan-1.svg", "plan-2.svg", "plan-3.svg"])
         page = (self.out / "report.html").read_text(encoding="utf-8")
@@ -161,9 +158,85 @@ class Periods(WithFolder):
             },
         )
 
+    def test_first_and_last_stock(self):
+        """Each has a period of its own, of which the tables tell where there is stock. Pictures are
+        of named periods."""
+        status, _, told = self.flow(PLACES, ROUTES, "--unused", "allow")
+        self.assertEqual(status, 0, told)
+        self.assertEqual(
+            [list(row.values())[:4] for row in rows_of(self.out / "stock.csv")],
+            [
+                ["Depot", "first stock", "May", "20"],
+                ["Depot", "May", "June", "0"],
+                ["Kiel", "May", "June", "0"],
+                ["Depot", "June", "July", "0"],
+                ["Kiel", "June", "July", "0"],
+                ["Depot", "July", "last stock", "10"],
+            ],
+        )
+        prices = [(row["name"], row["in_period"]) for row in rows_of(self.out / "prices.csv")]
+        self.assertEqual(prices[0], ("Depot", "first stock"))
+        self.assertEqual(prices[-1], ("Depot", "last stock"))
+        self.assertEqual(len(prices), 11)
+        groups = [int(row["group"]) for row in rows_of(self.out / "prices.csv")]
+        self.assertEqual(sorted(set(groups)), [1, 2, 3])
+        sums = [row for row in rows_of(self.out / "sums.csv") if row["by"] == "name"]
+        self.assertEqual(
+            [(row["value"], row["lines"], row["sends"], row["takes"]) for row in sums],
+            [("Brewery", "3", "240", "0"), ("Depot", "5", "20", "10"), ("Kiel", "3", "0", "250")],
+        )
+        notes = [
+            re.findall(">((?:first stock|keeps) [^<]*)<", path.read_text(encoding="utf-8"))
+            for path in sorted(self.out.glob("*.svg"))
+        ]
+        self.assertEqual(notes, [["first stock 20"], [], ["keeps 10"]])
+        page = (self.out / "report.html").read_text(encoding="utf-8")
+        rows = re.findall("<tr><td>(?:first|last) stock</td><td>([^<]*)</td>", page)
+        self.assertEqual(rows, ["Depot", "Depot"])
+        self.assertIn("there before the first period, and kept for it", page)
+
+    def test_no_plan_with_stock(self):
+        """Places without first or last stock aren't told of among those that block, and aren't
+        drawn in their stock's periods."""
+        places = PLACES.replace("July,-100", "July,-160")
+        self.assertEqual(self.flow(places, ROUTES, "--unused", "allow")[0], 1)
+        rows = [row for row in rows_of(self.out / "bottleneck.csv") if row["kind"] == "place"]
+        self.assertEqual(
+            [(row["name"], row["must"]) for row in rows if "stock" in row["name"]],
+            [("Depot (first stock)", "-20"), ("Depot (last stock)", "10")],
+        )
+        drawn = (self.out / "plan.svg").read_text(encoding="utf-8")
+        self.assertEqual(
+            [name for name in re.findall("<title>([^<]*)</title>", drawn) if "stock" in name],
+            [
+                "Depot (first stock) -&gt; Depot (May): 0 or more",
+                "Depot (July) -&gt; Depot (last stock): 0 or more",
+                "Depot (first stock)",
+                "Depot (last stock)",
+            ],
+        )
+
+    def test_plans_side_by_side(self):
+        """Plans are compared in what they take of first stock and leave as last stock."""
+        more = PLACES.replace("0.5,20,10", "0.5,25,10")
+        old = self.made("old", PLACES, ROUTES, "--unused", "allow")
+        status, said, _ = run("diff", old, self.made("new", more, ROUTES, "--unused", "allow"))
+        self.assertEqual(status, 0)
+        self.assertIn("  Depot (first stock) -> (kept): 20, now 25 (+5)\n", said)
+        self.assertNotIn("Kiel (first stock)", said)
+
+    def test_periods_called_as_stock(self):
+        """Named periods may be called as those of stock are."""
+        for place in ("2", ""):
+            places = PLACES.replace("May,-60", "last stock,-30").replace("July", "first stock")
+            places = places.replace("0.5,20,10", f"0.5,{place},{place}")
+            with self.subTest(place=place):
+                status, _, told = self.flow(places, ROUTES, "--unused", "allow")
+                self.assertEqual(status, 0, told)
+                self.assertEqual(len(list(self.out.glob("*.svg"))), 3)
+
     def test_stock_is_no_slip(self):
-        """The demand of May is met from stock, so that no supply is left; what is left of June's
-        supply is stock."""
+        """All demands may be met from first stock, and all supplies may be left as last stock."""
         routes = "from,to,most,cost\nShop,Shop,,1\n"
         for rows in ("Shop,May,-3,3,\nShop,June,-2,,\n", "Shop,May,5,,\nShop,June,3,,3\n"):
             with self.subTest(rows=rows):
