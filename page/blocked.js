@@ -1,7 +1,7 @@
 // @ts-check
 // Why there is no plan: bottlenecks, from the rows of an answer.
 import { Network } from './network.js';
-import { labelIn } from './periods.js';
+import { isQuiet, labelIn } from './periods.js';
 import { MISSING, STAYS, THROUGH } from './plan.js';
 
 /**
@@ -149,10 +149,12 @@ export class Blocked {
     return [{ side, nodes, must, can: 0n, forcing: [], limiting: [] }, ...this.bottlenecks];
   }
 
-  // This method returns the numbers from 0 of the places of a bottleneck.
+  // This method returns the numbers from 0 of the places of a bottleneck, without those of which
+  // nothing is told.
   /** @type {(found: Bottleneck) => number[]} */
   placesOf({ nodes }) {
-    return [...new Set(nodes.map((node) => this.network.placeOf[node - 1]))].sort((a, b) => a - b);
+    const { places } = this.problem, found = nodes.map((node) => this.network.placeOf[node - 1]);
+    return [...new Set(found)].filter((k) => !isQuiet(places[k])).sort((a, b) => a - b);
   }
 
   // This method returns the names of the ends of what joins nodes.

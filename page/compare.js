@@ -126,9 +126,10 @@ export function flowSide(plan) {
       ...routes.map(({ carries }, k) =>
         part(problem.ends(problem.routes[k]), units.amount(carries))
       ),
-      ...stores.map(({ carries }, k) => {
-        const place = problem.places[problem.stores[k].tail - 1];
-        return part([labelIn(place), KEPT], units.amount(carries));
+      ...stores.flatMap(({ carries }, k) => {
+        const store = problem.stores[k], place = problem.places[store.tail - 1];
+        const kept = part([labelIn(place), KEPT], units.amount(carries));
+        return problem.isQuiet(store) ? [] : [kept];
       }),
       ...stays.map(([place, amount]) => part([labelIn(place), STAYS], units.amount(amount))),
       ...missing.map(([place, amount]) => part([MISSING, labelIn(place)], units.amount(amount))),

@@ -14,7 +14,7 @@ import {
 import { Faults, countOf } from './faults.js';
 import { carriedLines, carriedOf, otherwiseLines } from './heads.js';
 import {
-  departuresOf, firstOf, labelIn, periodsOf, placesOver, storesOf,
+  departuresOf, firstOf, isQuiet, labelIn, periodsOf, placesOver, storesOf, timesOf,
 } from './periods.js';
 import { NEEDED, numberCells, readLine } from './sentences.js';
 import { SPOT_HEADS, spotsOf } from './spots.js';
@@ -46,7 +46,9 @@ export class Problem {
     this.notes = notesOf(texts);
     this.placeTable = new Table(texts[0], answer.tables.get('places'));
     this.routeTable = new Table(texts[1], answer.tables.get('routes'));
+    // The named periods, and with those of first and last stock.
     this.periods = periodsOf(this.placeTable);
+    this.times = timesOf(this.placeTable, this.periods, this.mark);
     const { places, routes, stores } = this.read();
     const price = penalty ? exactOf(penalty, this.mark) : null;
     this.units = unitsOf(places, [...routes, ...stores], price || ZERO);
@@ -54,21 +56,21 @@ export class Problem {
     this.penalty = price && scaled(price, this.units.costs);
     this.places = places.map((place) => wholePlace(place, this.units));
     this.routes = routes.map((route) => wholeRoute(route, this.units));
-    // What places may keep from a period to the next, as routes.
+    // What places may keep from a period to the next, as routes, with their first and last stock.
     this.stores = stores.map((store) => wholeRoute(store, this.units));
   }
 
   // This method reads places and routes, in each period if there are periods.
   /** @type {() => { places: Place<Exact>[], routes: ReadRoute[], stores: ReadRoute[] }} */
   read() {
-    const { placeTable, routeTable, periods, mark, notes } = this;
+    const { placeTable, routeTable, times, mark, notes } = this;
     const rows = placesOf(placeTable, mark, notes);
     const firsts = firstOf(rows), routes = routesOf(routeTable, firsts, mark);
-    if (!periods.length) return { places: rows, routes, stores: [] };
+    if (!this.periods.length) return { places: rows, routes, stores: [] };
     return {
-      places: placesOver(placeTable, rows, periods, mark),
-      routes: departuresOf(routeTable, routes, periods, firsts.length),
-      stores: storesOf(placeTable, rows, periods, mark),
+      places: placesOver(placeTable, rows, times, mark),
+      routes: departuresOf(routeTable, routes, times, firsts.length),
+      stores: storesOf(placeTable, rows, times, mark),
     };
   }
 
@@ -112,6 +114,14 @@ export class Problem {
       ...readLine(settledBy(cells, this.mark), this.mark, this.reading),
     ];
   }
+
+  // This method says whether what a place may keep is stock that isn't there.
+  /** @type {(store: Route) => boolean} */
+  isQuiet({ tail, head }) { return [tail, head].some((end) => isQuiet(this.places[end - 1])); }
+
+  // This method says whether what a place may keep is its first or its last stock.
+  /** @type {(store: Route) => boolean} */
+  isStock({ tail, head }) { return [tail, head].some((end) => this.places[end - 1].isStock); }
 
   // This method returns the names of a route's ends, with their periods if there are periods.
   /** @type {(route: Route) => string[]} */
@@ -182,6 +192,7 @@ function placesOf(table, mark, notes) {
       bounds: bounds.some(Boolean) ? boundsOf(bounds, mark) : null,
       penalty: limitOf(penalty, mark),
       period: '',
+      isStock: false,
       line,
       cells,
     };

@@ -2,6 +2,7 @@
 // The results of a plan, from the rows of an answer.
 import { exactOf, scaled } from './amounts.js';
 import { size } from './model.js';
+import { isQuiet } from './periods.js';
 
 /**
  * @typedef {import('./answer.js').Answer} Answer
@@ -90,7 +91,8 @@ export class FlowPlan {
     const groups = new Map();
     /** @type {PlaceResult[]} */
     this.places = answer.rows('place').map(([, , stays, missing, price, group, ...passes], k) => {
-      if (!groups.has(group)) groups.set(group, groups.size + 1);
+      // A place of which nothing is told takes no number of a group.
+      if (!groups.has(group) && !isQuiet(problem.places[k])) groups.set(group, groups.size + 1);
       return {
         price: price ? this.rateOf(price) : null,
         group: groups.get(group),

@@ -6,7 +6,7 @@ import {
   FLOW_RESULTS, PLACE_PERIOD, PLACE_RESULTS, RANGE_RESULTS, ROOM_RESULTS, ROUTE_PERIODS, STOCK,
   SUPPLY_RESULTS, THROUGH_RESULTS,
 } from './heads.js';
-import { labelIn } from './periods.js';
+import { isQuiet, labelIn } from './periods.js';
 import { MISSING, STAYS, THROUGH } from './plan.js';
 import { SEPARATORS, cellAt, lineOf } from './tables.js';
 import { words } from './words.js';
@@ -80,7 +80,8 @@ export function flowsTable(plan) {
   return after('flows', problem.routeTable, hasPeriods ? [...own, ROUTE_PERIODS] : own, rows);
 }
 
-// This function lists what places keep from each period to the next, if there are periods.
+// This function lists what places keep from each period to the next, if there are periods, and what
+// of their first and last stock, if they have some.
 /** @type {(plan: FlowPlan) => SavedTable[]} */
 export function stockTables(plan) {
   const { problem } = plan;
@@ -90,11 +91,12 @@ export function stockTables(plan) {
       name: 'stock',
       like: problem.placeTable,
       heads,
-      rows: problem.stores.map(({ tail, departs, arrives }, k) => [
-        problem.places[tail - 1].name, departs, arrives, ...cellsOf(plan, plan.stores[k]),
+      rows: problem.stores.flatMap((store, k) => (problem.isQuiet(store) ? [] : [[
+        problem.places[store.tail - 1].name, store.departs, store.arrives,
+        ...cellsOf(plan, plan.stores[k]),
         ...rangeCells(plan, plan.storeRanges[k]),
         ...roomCells(plan, plan.stores[k], plan.storeRooms[k]),
-      ]),
+      ]])),
       figures: heads.map((_, k) => k).slice(3),
     }]
     : [];
@@ -142,14 +144,14 @@ function cellsOf(plan, { carries, cost, free, saves, isExact, dearer }) {
 }
 
 // This function lists the places in order, with their own columns. One more unit at a place costs
-// minus the price of the place.
+// minus the price of the place. Where there is no first or last stock, nothing is told of it.
 /** @type {(plan: FlowPlan) => SavedTable} */
 export function pricesTable(plan) {
   const hasBounds = plan.problem.places.some((place) => place.bounds);
   /** @type {[string[], string[]][]} */
-  const rows = plan.problem.places.map((place, k) => {
+  const rows = plan.problem.places.flatMap((place, k) => {
     const { price, group, through } = plan.places[k];
-    return [
+    return isQuiet(place) ? [] : [[
       place.cells,
       [
         plan.problem.units.rate(price),
@@ -159,7 +161,7 @@ export function pricesTable(plan) {
         ...(hasBounds ? roomCells(plan, through, plan.passes[k]) : []),
         ...(place.period ? [place.period] : []),
       ],
-    ];
+    ]];
   });
   return after(
     'prices',
@@ -231,19 +233,12 @@ export function csvOf({ heads, rows, like, figures }, mark) {
   return `${like.mark ? '\ufeff' : ''}${named}${lines.join('\n')}\n`;
 }
 
-// This function says whether a row of places has stock before the first period, or after the last.
-/** @type {(table: import('./tables.js').Table) => boolean} */
-function hasStock(table) {
-  const read = table.reader(['first stock', 'last stock']);
-  return table.rows.some(({ cells }) => read(cells).some((cell) => /[^0]/.test(cell)));
-}
-
-// This function lists likely mistakes in tables that can be read. Stock counts in the supplies of
-// the problem, so it leaves nothing to say.
+// This function lists likely mistakes in tables that can be read. First stock counts as supply and
+// last stock as demand, so they leave nothing to say.
 /** @type {(problem: Problem, policy: Policy) => string[]} */
 export function slips(problem, policy) {
-  const [supply, demand] = balanceOf(problem), { places, placeTable } = problem;
-  if (hasStock(placeTable)) return [];
+  const [supply, demand] = balanceOf(problem), { places, placeTable, times } = problem;
+  if (times.some(({ stock }) => stock)) return [];
   if (supply && !demand) {
     const stays = policy.unused ? ', and all that is sent stays' : '';
     return [
@@ -352,11 +347,12 @@ export function countsOfProblem({ places, routes, periods }) {
     : [[names, 'place', 'places'], [routes.length, 'route', 'routes']];
 }
 
-// This function says what is kept from a period to the next, if there are periods.
+// This function says what is kept from a period to the next, beside first and last stock, if there
+// are periods.
 /** @type {(plan: FlowPlan) => string[]} */
 function stockLines({ problem, stores }) {
   if (!problem.periods.length) return [];
-  const kept = stores.filter(({ carries }) => carries);
+  const kept = stores.filter(({ carries }, k) => carries && !problem.isStock(problem.stores[k]));
   if (!kept.length) return ['Nothing is kept from a period to the next.'];
   const cost = problem.said.total(kept.reduce((sum, one) => sum + (one.cost || 0n), 0n));
   const most = kept.reduce((most_, { carries }) => (carries > most_ ? carries : most_), 0n);

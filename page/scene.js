@@ -5,7 +5,7 @@
 // bottlenecks.
 import { size } from './model.js';
 import { balanceOf } from './blocked.js';
-import { labelIn } from './periods.js';
+import { isQuiet, labelIn } from './periods.js';
 import { grouped } from './view.js';
 
 /**
@@ -49,7 +49,7 @@ export function planScene(plan, caption, period = '') {
   const { problem } = plan, { amount: said, total } = figuresOf(problem);
   /** @type {SceneLink[]} */
   const links = [];
-  const here = indicesOf(problem.places, (place) => place.period === period);
+  const here = indicesOf(problem.places, (place) => isDrawn(place, period));
   const departing = indicesOf(problem.routes, ({ departs }) => departs === period);
   const widest = plan.routes.reduce(
     (most, { carries }) => (size(carries) > most ? size(carries) : most),
@@ -63,12 +63,13 @@ export function planScene(plan, caption, period = '') {
   }
   const idle = departing.length - links.length;
   const left = idle ? ` (${idle} idle routes aren't drawn)` : '';
-  const shorts = shortNames(here.map((k) => problem.places[k].name)), kept = keptIn(plan, period);
+  const shorts = shortNames(here.map((k) => problem.places[k].name));
+  const stock = stockIn(plan, period);
   const heading = period || `A least-cost plan: cost ${total(plan.cost, caption.currency)}`;
   return {
     heading: heading + left,
     nodes: here.map((k, n) =>
-      nodeOf(problem, problem.places[k], shorts[n], plan.places[k].unmet, kept.get(k))
+      nodeOf(problem, problem.places[k], shorts[n], plan.places[k].unmet, stock.get(k))
     ),
     links,
     groups: [],
@@ -83,12 +84,29 @@ export function planScene(plan, caption, period = '') {
 /** @type {<T>(list: T[], test: (one: T) => boolean) => number[]} */
 const indicesOf = (list, test) => list.map((_, k) => k).filter((k) => test(list[k]));
 
-// This function returns what places keep after a period, by their numbers from 0.
-/** @type {(plan: FlowPlan, period: string) => Map<number, bigint>} */
-const keptIn = ({ problem, stores }, period) => new Map(
-  indicesOf(problem.stores, ({ departs }) => departs === period)
-    .map((k) => [problem.stores[k].tail - 1, stores[k].carries])
-);
+// This function says whether a place is in the picture of a period, or in that of all if there are
+// no periods.
+/** @type {(place: Place, period: string) => boolean} */
+const isDrawn = (place, period) => place.period === period && !place.isStock;
+
+// This function returns the notes on what places have of their first stock in a period, and on what
+// they keep after it, by their numbers from 0.
+/** @type {(plan: FlowPlan, period: string) => Map<number, string[]>} */
+function stockIn({ problem, stores }, period) {
+  const { amount: said } = figuresOf(problem);
+  /** @type {Map<number, string[]>} */
+  const notes = new Map();
+  /** @type {(end: number, note: string) => void} */
+  const add = (end, note) => { notes.set(end - 1, [...notes.get(end - 1) || [], note]); };
+  problem.stores.forEach(({ tail, head }, k) => {
+    const { carries } = stores[k], [from, to] = [tail, head].map((end) => problem.places[end - 1]);
+    if (carries && isDrawn(from, period)) add(tail, `keeps ${said(carries)}`);
+    else if (carries && from.isStock && isDrawn(to, period)) {
+      add(head, `first stock ${said(carries)}`);
+    }
+  });
+  return notes;
+}
 
 // This function describes route k of a plan. If the flow runs in the opposite direction, the link
 // does, too.
@@ -142,15 +160,11 @@ export function blockedScene(blocked, caption) {
   const groups = blocked.bottlenecks.map((found) =>
     new Set(blocked.placesOf(found))
   );
-  const scene = {
-    heading: `No plan exists: ${whyBlocked(blocked, caption.unit)}`,
-    nodes,
-    links,
-    groups,
-    notes: marked.size ? { limits: 'limits them' } : {},
-    caption,
-  };
-  return nodes.length > NEAR && groups.length ? nearScene(scene) : scene;
+  const heading = `No plan exists: ${whyBlocked(blocked, caption.unit)}`;
+  const notes = marked.size ? { limits: 'limits them' } : {};
+  const told = indicesOf(problem.places, (place) => !isQuiet(place));
+  const scene = partOf({ heading, nodes, links, groups, notes, caption }, told);
+  return scene.nodes.length > NEAR && groups.length ? nearScene(scene) : scene;
 }
 
 // This function marks what forces or limits a bottleneck, by its kind, number and sign.
@@ -184,15 +198,21 @@ function nearScene(scene) {
   for (const { tail, head } of scene.links) {
     if (blocking.has(tail) || blocking.has(head)) near.add(tail).add(head);
   }
-  const order = [...near].sort((a, b) => a - b);
-  const numbers = new Map(order.map((node, k) => [node, k]));
-  const left = scene.nodes.length - order.length;
+  const left = scene.nodes.length - near.size;
+  const heading = scene.heading + (left ? ` (${left} places farther off aren't drawn)` : '');
+  return partOf({ ...scene, heading }, [...near].sort((a, b) => a - b));
+}
+
+// This function returns a scene with some of its places, and the routes between them. All places
+// that block are among them.
+/** @type {(scene: Scene, chosen: number[]) => Scene} */
+function partOf(scene, chosen) {
+  const numbers = new Map(chosen.map((node, k) => [node, k]));
   return {
     ...scene,
-    heading: scene.heading + (left ? ` (${left} places farther off aren't drawn)` : ''),
-    nodes: order.map((node) => scene.nodes[node]),
+    nodes: chosen.map((node) => scene.nodes[node]),
     links: scene.links
-      .filter(({ tail, head }) => near.has(tail) && near.has(head))
+      .filter(({ tail, head }) => numbers.has(tail) && numbers.has(head))
       .map((link) => ({ ...link, tail: numbers.get(link.tail), head: numbers.get(link.head) })),
     groups: scene.groups.map((group) => new Set([...group].map((node) => numbers.get(node)))),
   };
@@ -202,15 +222,17 @@ function nearScene(scene) {
  * @param {Problem} problem
  * @param {Place} place
  * @param {string} short
+ * @param {bigint} [unmet]
+ * @param {string[]} [stock] notes
  * @returns {SceneNode}
  */
-function nodeOf(problem, place, short, unmet = 0n, kept = 0n) {
+function nodeOf(problem, place, short, unmet = 0n, stock = []) {
   const kind = place.supply > 0n ? 'sends' : place.supply < 0n ? 'takes' : 'passes';
   const { amount: said } = figuresOf(problem);
   const notes = [
     place.supply ? `${kind} ${said(size(place.supply))}` : '',
     unmet ? `${said(unmet)} ${place.supply > 0n ? 'stays' : 'missing'}` : '',
-    kept ? `keeps ${said(kept)}` : '',
+    ...stock,
   ];
   return {
     name: labelIn(place),

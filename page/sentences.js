@@ -3,6 +3,7 @@
 import { ZERO, compare, decimalText, exactOf, markIn } from './amounts.js';
 import { at, countOf, listed, shown } from './faults.js';
 import { nearTo } from './near.js';
+import { LAST } from './periods.js';
 import { spotsOf } from './spots.js';
 import { LOOKED, Table, cellAt, escaped, fold } from './tables.js';
 import { words } from './words.js';
@@ -89,7 +90,7 @@ const SENTENCES = {
       + 'smaller lead',
   'a penalty, but a supply above 0':
     'a penalty is the cost of what is missing, and this place sends: leave the cell empty; or '
-      + 'is the sign of the supply wrong?{firstStock}',
+      + 'is the sign of the supply wrong?{stockPenalty}',
   'no penalty, but other places have one':
     'this is empty, and other places have a penalty: give each place that takes one, '
       + '{ofAll}{stock}',
@@ -132,9 +133,8 @@ const NOTHING =
     + 'column';
 // What is wrong with a title that isn't read, and the head that it is about.
 const TITLE = /^(nearly|not read without) (.*)$/;
-// A reminder that a first stock counts among supplies.
-const FIRST_STOCK = ' Less the demand of the first period, a first stock is a supply: write a line '
-  + 'for each period, the first one without a penalty';
+// A reminder of where the penalty of a last stock stands.
+const STOCK_PENALTY = ' The penalty of a last stock stands on a line for the last period';
 // The heads of numbers.
 /** @type {Record<string, RegExp>} */
 const NUMBERS = {
@@ -214,7 +214,8 @@ export class Teller {
     const isFirst = this.done.size < this.done.add(kind).size;
     if (isLacking && !isFirst) return;
     const text = isFirst
-      ? this.text(word, line, column, what, cell) + (period && ` (in period ${shown(period)})`)
+      ? this.text(word, line, column, what, cell)
+        + (period && period !== LAST ? ` (in period ${shown(period)})` : '')
       : '';
     this.faults.add(at(this.texts[word].name, Number(line), column), what, text, cell);
   }
@@ -286,8 +287,8 @@ export class Teller {
       merges: () => this.merged(word, Number(line), column),
       wishes: () => this.wishes(word),
       range: word === 'costs' && !isList(table) && RANGE.test(cell) ? NUMBERED : '',
-      stock: table.reader(['last stock'])(row)[0] ? '; a last stock is a demand, too' : '',
-      firstStock: table.reader(['first stock'])(row)[0] ? FIRST_STOCK : '',
+      stock: table.reader([LAST])(row)[0] ? '; a last stock is a demand, too' : '',
+      stockPenalty: table.reader([LAST])(row)[0] ? STOCK_PENALTY : '',
       meant: shown(meant),
       heads: listed(table.titles.map(shown)),
       separator: shown(table.separator),

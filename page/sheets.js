@@ -23,7 +23,7 @@ import { listed } from './faults.js';
 import { groupSheets, groupsTables } from './groups.js';
 import { size } from './model.js';
 import { cellAt } from './tables.js';
-import { labelIn } from './periods.js';
+import { isQuiet, labelIn } from './periods.js';
 import { blockedScene, planScenes, whyBlocked } from './scene.js';
 import { flowSumsTable, flowViews, pairSumsTable, pairViews } from './sums.js';
 import { grouped } from './view.js';
@@ -219,6 +219,9 @@ const PASSING = [
   number('one more passing costs', 'at least, if one more has to pass; empty: full'),
 ];
 
+// What the column of first stock says.
+const FIRST_KEPT = 'there before the first period, and kept for it';
+
 // This function makes the column of supplies editable, unless there are periods.
 /** @type {(table: Table) => Partial<Column>} */
 const supplyOf = (table) => (table.heads.includes('period') ? {} : { edit: 'supply' });
@@ -252,6 +255,11 @@ const placeColumns = (table, { hasSupplies, hasUnmet, hasPenalties, hasBounds, h
   ...ownOf(table),
 ];
 
+// This function returns the numbers from 0 of the places of which a sheet tells: where there is no
+// first or last stock, it tells nothing of it.
+/** @type {(problem: Problem) => number[]} */
+const toldPlaces = ({ places }) => places.map((_, k) => k).filter((k) => !isQuiet(places[k]));
+
 /** @type {(plan: FlowPlan) => Sheet} */
 function placesSheet(plan) {
   const { problem, hasSupplies, hasRanges } = plan;
@@ -260,9 +268,11 @@ function placesSheet(plan) {
   const hasBounds = problem.places.some(({ bounds }) => bounds);
   const hasUnmet = Boolean(plan.policy.unused || plan.policy.short);
   const hasPenalties = problem.places.some(({ penalty }) => penalty !== null);
+  const told = toldPlaces(problem);
   /** @type {Sheet['row']} */
-  const row = (k) => {
-    const place = problem.places[k], { price, group, unmet, through } = plan.places[k];
+  const row = (number) => {
+    const k = told[number], place = problem.places[k];
+    const { price, group, unmet, through } = plan.places[k];
     const passing = through ? [
       units.amount(through.carries), units.amount(place.bounds.most), units.total(through.cost),
       through.saves ? units.rate(through.saves) : '',
@@ -290,29 +300,32 @@ function placesSheet(plan) {
     columns: placeColumns(
       placeTable, { hasSupplies, hasUnmet, hasPenalties, hasBounds, hasRanges }
     ),
-    count: problem.places.length,
+    count: told.length,
     row,
     from: placeTable,
     field: 'places',
   };
 }
 
-// This function returns the sheet of what places keep, if there are periods: a row for each place,
-// and a column for each period.
+// This function returns the sheet of what places keep, if there are periods: a row for each place
+// that keeps something, and a column for each period, and for first stock.
 /** @type {(plan: FlowPlan) => Sheet[]} */
 function stockSheet({ problem, stores }) {
   /** @type {Map<string, Map<string, bigint>>} */
   const found = new Map();
-  problem.stores.forEach(({ tail, departs }, k) => {
-    const { name } = problem.places[tail - 1];
-    found.set(name, (found.get(name) || new Map()).set(departs, stores[k].carries));
+  problem.stores.forEach((store, k) => {
+    const { name } = problem.places[store.tail - 1], kept = found.get(name) || new Map();
+    if (!problem.isQuiet(store)) found.set(name, kept.set(store.departs, stores[k].carries));
   });
-  const periods = problem.periods.slice(0, -1);
+  const times = problem.times.slice(0, -1), periods = times.map(({ name }) => name);
   return found.size
     ? [
       sheetOf(
         'Stock',
-        [column('name'), ...periods.map((period) => number(period, 'kept after it'))],
+        [
+          column('name'),
+          ...times.map(({ name, stock }) => number(name, stock ? FIRST_KEPT : 'kept after it')),
+        ],
         [...found].map(([name, kept]) => ({
           kind: '',
           cells: [
@@ -422,7 +435,7 @@ function limitingSheet(blocked) {
 // This function returns the sheets whose cells may be changed if no plan exists.
 /** @type {(problem: Problem) => Sheet[]} */
 function inputSheets(problem) {
-  const { routes, places, units, routeTable, placeTable } = problem;
+  const { routes, places, units, routeTable, placeTable } = problem, told = toldPlaces(problem);
   const name = (/** @type {number} */ node) => labelIn(places[node - 1]);
   return [
     {
@@ -457,10 +470,13 @@ function inputSheets(problem) {
         column('name'),
         number('supply', 'above 0 it sends, below 0 it takes', supplyOf(placeTable)),
       ],
-      count: places.length,
+      count: told.length,
       from: placeTable,
       field: 'places',
-      row: (k) => ({ kind: '', cells: [labelIn(places[k]), units.amount(places[k].supply)] }),
+      row: (k) => ({
+        kind: '',
+        cells: [labelIn(places[told[k]]), units.amount(places[told[k]].supply)],
+      }),
     },
   ];
 }

@@ -6,7 +6,7 @@ import {
 } from './heads.js';
 import { size } from './model.js';
 import { NEEDED } from './sentences.js';
-import { cellOrPeriod } from './periods.js';
+import { cellOrPeriod, isQuiet } from './periods.js';
 import { cellAt } from './tables.js';
 
 /**
@@ -60,13 +60,15 @@ function added(lines) {
 const wayOf = ({ tail, head }, { carries }) =>
   carries < 0n ? [head - 1, tail - 1] : [tail - 1, head - 1];
 
-// This function returns for each place: the number 1, its inflow and outflow over routes, what it
-// sends and takes, its surplus and shortage, and the cost of its outflow.
+// This function returns for each place: the number 1, or 0 for stock that isn't there; its inflow
+// and outflow over routes, what it sends and takes, its surplus and shortage, and the cost of its
+// outflow.
 /** @type {(plan: FlowPlan) => bigint[][]} */
 function placeNumbers({ problem, routes, places }) {
-  const found = problem.places.map(({ supply }, k) => {
-    const { unmet } = places[k], sends = supply > 0n, met = size(supply) - unmet;
-    return [1n, 0n, 0n, ...(sends ? [met, 0n, unmet, 0n] : [0n, met, 0n, unmet]), 0n];
+  const found = problem.places.map((place, k) => {
+    const { supply } = place, { unmet } = places[k], sends = supply > 0n;
+    const met = size(supply) - unmet, count = isQuiet(place) ? 0n : 1n;
+    return [count, 0n, 0n, ...(sends ? [met, 0n, unmet, 0n] : [0n, met, 0n, unmet]), 0n];
   });
   problem.routes.forEach((route, k) => {
     const [tail, head] = wayOf(route, routes[k]), amount = size(routes[k].carries);

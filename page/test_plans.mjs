@@ -21,6 +21,7 @@ import {
   stockTables,
 } from './report.js';
 import { flowOf, pairsOf } from './running.js';
+import { blockedScene, planScenes } from './scene.js';
 import { planShown } from './sheets.js';
 import { flowSumsTable, pairSumsTable } from './sums.js';
 import { loaded } from './test_module.mjs';
@@ -292,7 +293,8 @@ async function summed(expect, solver) {
   );
 }
 
-// Stock may leave no supply, or no demand; no sign is wrong then.
+// All demands may be met from first stock, and all supplies may be left as last stock; no sign is
+// wrong then.
 async function stocked(expect, solver) {
   const routes = { name: 'routes', text: 'from,to,most,cost\nShop,Shop,,1\n' };
   for (const rows of ['Shop,May,-3,3,\nShop,June,-2,,\n', 'Shop,May,5,,\nShop,June,3,,3\n']) {
@@ -304,6 +306,72 @@ async function stocked(expect, solver) {
     const { said, status } = await told('flow', solver, [places, routes], choices);
     expect(status === 0 && !said.includes('warning'), `stock: ${said}`);
   }
+}
+
+// Tables with first and last stock, by the demand of the last period, which may be too great.
+const withStock = (demand) => [
+  {
+    name: 'places',
+    text: 'name,period,supply,keep most,keep cost,first stock,last stock\nBrewery,,100,,,,\n'
+      + `Depot,,0,100,0.5,20,10\nKiel,May,-60,10,1,,\nKiel,June,-90,10,1,,\nKiel,July,${demand},,,,\n`,
+  },
+  {
+    name: 'routes',
+    text: 'from,to,most,cost,lead,both\nBrewery,Depot,120,2,1,\nDepot,Kiel,90,1,0,yes\n'
+      + 'Brewery,Kiel,40,5,,\n',
+  },
+];
+
+// Stock has periods of its own, of which sheets tell where there is stock. Pictures are of named
+// periods.
+async function stockShown(expect, solver) {
+  const choices = asked(['--unused', 'allow']);
+  const { plan } = await flowOf(solver, withStock(-100), choices), { sheets } = planShown(plan);
+  const rowsOf = (name) => {
+    const { count, row } = sheets.find(({ title }) => title === name);
+    return Array.from({ length: count }, (_, k) => row(k).cells);
+  };
+  const periods = rowsOf('Places').map(([period, name]) => `${name} ${period}`);
+  const stock = 'Depot 20 0 0 10; Kiel  0 0 ';
+  for (const [found, wanted] of [
+    [periods.length, 11],
+    [periods[0], 'Depot first stock'],
+    [periods[10], 'Depot last stock'],
+    [rowsOf('Stock').map((cells) => cells.join(' ')).join('; '), stock],
+    [
+      planScenes(plan, choices.caption)
+        .map(({ nodes }) => nodes.map(({ note }) => note).join(' | ')).join('; '),
+      'sends 100 | first stock 20 | takes 60; sends 100 |  | takes 90; '
+        + 'sends 100, 60 stays | keeps 10 | takes 100',
+    ],
+  ]) expect(found === wanted, `stock: ${found}, and not ${wanted}`);
+}
+
+// If there is no plan, places without stock aren't told of or drawn in the periods of stock.
+async function stockBlocked(expect, solver) {
+  const choices = asked(['--unused', 'allow']);
+  const { blocked } = await flowOf(solver, withStock(-160), choices);
+  const { nodes, links, groups } = blockedScene(blocked, choices.caption);
+  const names = nodes.map(({ name }) => name).filter((name) => name.includes('stock'));
+  const stock = 'Depot (first stock),Depot (last stock)';
+  expect(names.join() === stock && nodes.length === 11, `drawn: ${names}, ${nodes.length}`);
+  expect(
+    links.every(({ tail, head }) => nodes[tail] && nodes[head])
+      && groups.every((group) => [...group].every((node) => nodes[node])),
+    'routes and groups of what is drawn'
+  );
+  const told = bottleneckTable(blocked).rows.map(([, , , name]) => name)
+    .filter((name) => name.includes('stock'));
+  expect(told.join() === stock, `told: ${told}`);
+}
+
+// Named periods may be called as those of stock are.
+async function stockNamed(expect, solver) {
+  const [places, routes] = withStock(-100);
+  const text = places.text.replace('May,-60', 'last stock,-30').replace('July', 'first stock');
+  const { plan } = await flowOf(solver, [{ name: 'places', text }, routes], asked(['--unused', 'allow']));
+  const scenes = planScenes(plan, asked([]).caption);
+  expect(scenes.length === 3 && scenes.every(({ nodes }) => nodes.length === 3), 'named as stock');
 }
 
 // The mark before decimals of a table doesn't change points in the names of its periods.
@@ -393,6 +461,9 @@ export default async function test(expect) {
   await hinted(expect, solver);
   await summed(expect, solver);
   await stocked(expect, solver);
+  await stockShown(expect, solver);
+  await stockBlocked(expect, solver);
+  await stockNamed(expect, solver);
   await pointed(expect, solver);
   await unitsOverPeriods(expect, solver);
   for (const name of fs.readdirSync(plans)

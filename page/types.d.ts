@@ -90,12 +90,24 @@ interface Bounds<A = bigint> extends Step<A> {
 }
 
 /**
+ * A period: its name, the named period whose rows hold in it, and the head of the stock of which it
+ * is, '' for a named period.
+ */
+interface Period {
+  name: string;
+  rows: string;
+  stock: string;
+}
+
+/**
  * A place. `spot` is null where the table has no x and y, `bounds` where nothing bounds it, and
- * `penalty` where that of all places holds. `period` is '' where there are none.
+ * `penalty` where that of all places holds. `period` is '' where there are none; `isStock` says
+ * that its supply is its stock before the first period or after the last.
  */
 interface Place<A = bigint> extends Row {
   name: string;
   period: string;
+  isStock: boolean;
   supply: A;
   spot: Spot | null;
   bounds: Bounds<A> | null;
