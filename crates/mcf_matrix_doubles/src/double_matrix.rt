@@ -143,6 +143,10 @@ fn first_refused(bits: &[u64], rows: usize, columns: usize, stride: usize) -> Op
     ensures { MatchOption result (AreEntries (record { entries = bits.now; rows = rows; columns = columns; stride = stride }))
         (λ p. IsFirstRefused (record { entries = bits.now; rows = rows; columns = columns; stride = stride }) p.0 p.1) }
 {
+    // Without columns there may be more rows than anyone can count.
+    if columns == 0 {
+        return None;
+    }
     for row in 0..rows {
         let start = row * stride;
         if let Some(column) = first_refused_in(&bits[start..start + columns]) {

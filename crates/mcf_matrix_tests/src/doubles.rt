@@ -78,6 +78,28 @@ fn entries_are_judged(rt: HostRuntime) -> Result<(), Fail> {
     Ok(())
 }
 
+// Whether these are a matrix, for numbers that the compiler doesn't know.
+#[inline(never)]
+fn is_matrix(entries: &[u64], rows: usize, columns: usize, stride: usize) -> bool {
+    DoubleMatrix::of(entries, rows, columns, stride).is_ok()
+}
+
+// Entries with their rows, columns and stride, and whether they are a matrix. Nobody can count the
+// rows of the first one.
+static SHAPES: [(&[u64], usize, usize, usize, bool); 3] = [
+    (&[], usize::MAX, 0, 0, true),
+    (&[1, 2], 1, 2, 2, true),
+    (&[1], 1, 2, 2, false),
+];
+
+#[test]
+fn shapes_are_judged(rt: HostRuntime) -> Result<(), Fail> {
+    for (entries, rows, columns, stride, is) in &SHAPES {
+        assert!(rt; is_matrix(entries, *rows, *columns, *stride) == *is);
+    }
+    Ok(())
+}
+
 // Whether a matrix of two rows reads as it stands.
 fn reads_its_rows(entries: &[u64]) -> bool {
     let Ok(matrix) = DoubleMatrix::of(entries, 2, 1, 2) else {

@@ -3,7 +3,7 @@ use mcf_matrix::{FORBIDDEN, Matrix, MatrixFault};
 use std::test::Fail;
 
 // A list with its rows, columns and stride, and its fault, if it has one.
-static SHAPES: [(&[i64], usize, usize, usize, Option<MatrixFault>); 9] = [
+static SHAPES: [(&[i64], usize, usize, usize, Option<MatrixFault>); 10] = [
     (&[], 0, 0, 0, None),
     (&[], 0, 3, 3, None),
     (&[1, 2, 3, 4], 2, 2, 2, None),
@@ -11,6 +11,7 @@ static SHAPES: [(&[i64], usize, usize, usize, Option<MatrixFault>); 9] = [
     (&[1, 2, 9, 3], 2, 2, 3, Some(MatrixFault::Shape)),
     (&[1, 2, 3, 4], 2, 2, 1, Some(MatrixFault::Shape)),
     (&[1, 2], usize::MAX, 1, 2, Some(MatrixFault::Shape)),
+    (&[], usize::MAX, 0, 0, None),
     (
         &[FORBIDDEN, 1_000_000_000_000_000, -1_000_000_000_000_000],
         1,
