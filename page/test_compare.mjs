@@ -55,17 +55,18 @@ async function flows(expect, solver) {
 async function stock(expect, solver) {
   const kept = [], lead = 'from,to,most,cost,lead\nMill,Hub,,4,\nHub,Wien,,4,\nMill,Wien,,12,1\n';
   for (const [label, most] of [['much', 9], ['less', 2]]) {
-    const text = 'name,period,supply,keep most,keep cost\n'
-      + `Mill,Mo,5,,\nHub,,,${most},1\nWien,Tu,-5,,\n`;
+    const text = 'name,period,supply,keep most,keep cost,first stock\n'
+      + `Mill,Mo,5,,,\nHub,,,${most},1,1\nWien,Tu,-6,,,\n`;
     const sources = [{ name: 'places', text }, { name: 'routes', text: lead }];
     const { plan } = await flowOf(solver, sources, asked([]));
     kept.push({ label, side: flowSide(plan) });
   }
-  const wanted = 'figure,from,to,much,less\ncost,,,45,54\ndelivered,,,5,5\n'
-    + 'cost of what is kept,,,5,2\nroutes,,,5,5\nroutes that carry something,,,2,3\n'
-    + 'full routes,,,0,0\ncarries,Mill (Mo),Hub (Mo),5,2\ncarries,Mill (Tu),Hub (Tu),0,0\n'
-    + 'carries,Hub (Mo),Wien (Mo),0,0\ncarries,Hub (Tu),Wien (Tu),5,2\n'
-    + 'carries,Mill (Mo),Wien (Tu),0,3\ncarries,Hub (Mo),(kept),5,2\n';
+  const wanted = 'figure,from,to,much,less\ncost,,,50,62\ndelivered,,,6,6\n'
+    + 'cost of what is kept,,,6,2\nroutes,,,5,5\nroutes that carry something,,,2,3\n'
+    + 'full routes,,,0,0\ncarries,Mill (Mo),Hub (Mo),5,1\ncarries,Mill (Tu),Hub (Tu),0,0\n'
+    + 'carries,Hub (Mo),Wien (Mo),0,0\ncarries,Hub (Tu),Wien (Tu),6,2\n'
+    + 'carries,Mill (Mo),Wien (Tu),0,4\ncarries,Hub (first stock),(kept),1,1\n'
+    + 'carries,Hub (Mo),(kept),6,2\n';
   expect(tableOf(kept) === wanted, `what places keep, side by side: ${tableOf(kept)}`);
 }
 

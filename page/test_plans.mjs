@@ -355,6 +355,12 @@ async function stockBlocked(expect, solver) {
   const names = nodes.map(({ name }) => name).filter((name) => name.includes('stock'));
   const stock = 'Depot (first stock),Depot (last stock)';
   expect(names.join() === stock && nodes.length === 11, `drawn: ${names}, ${nodes.length}`);
+  const titles = links.map(({ title }) => title).filter((title) => title.includes('stock)'));
+  expect(
+    titles.join('; ') === 'Depot (first stock) -> Depot (May): 0 or more; '
+      + 'Depot (July) -> Depot (last stock): 0 or more',
+    `routes of stock: ${titles.join('; ')}`
+  );
   expect(
     links.every(({ tail, head }) => nodes[tail] && nodes[head])
       && groups.every((group) => [...group].every((node) => nodes[node])),
@@ -363,6 +369,24 @@ async function stockBlocked(expect, solver) {
   const told = bottleneckTable(blocked).rows.map(([, , , name]) => name)
     .filter((name) => name.includes('stock'));
   expect(told.join() === stock, `told: ${told}`);
+}
+
+// Bounds are those of named periods. If the place sends in the last one, the penalty is that of the
+// last stock alone.
+async function stockPenalties(expect, solver) {
+  const text = 'name,period,supply,first stock,last stock,most,penalty\nDepot,Jan,,2,,9,\n'
+    + 'Depot,Feb,3,,5,9,7\nShop,Jan,-2,,,,4\n';
+  const routes = { name: 'routes', text: 'from,to,most,cost\nDepot,Shop,,1\n' };
+  const choices = asked(['--short', 'allow']);
+  const { plan } = await flowOf(solver, [{ name: 'places', text }, routes], choices);
+  const { columns, count, row } = planShown(plan).sheets.find(({ title }) => title === 'Places');
+  const heads = columns.map(({ head }) => head);
+  const found = Array.from({ length: count }, (_, k) => row(k).cells).map((cells) =>
+    ['name', 'period', 'penalty', 'passes'].map((head) => cells[heads.indexOf(head)]).join(' ')
+  ).join('; ');
+  const wanted = 'Depot first stock  ; Depot Jan  2; Shop Jan 4 ; Depot Feb  3; Shop Feb  ; '
+    + 'Depot last stock 7 ';
+  expect(found === wanted, `penalties and bounds of stock: ${found}`);
 }
 
 // Named periods may be called as those of stock are.
@@ -463,6 +487,7 @@ export default async function test(expect) {
   await stocked(expect, solver);
   await stockShown(expect, solver);
   await stockBlocked(expect, solver);
+  await stockPenalties(expect, solver);
   await stockNamed(expect, solver);
   await pointed(expect, solver);
   await unitsOverPeriods(expect, solver);

@@ -194,6 +194,20 @@ class Periods(WithFolder):
         rows = re.findall("<tr><td>(?:first|last) stock</td><td>([^<]*)</td>", page)
         self.assertEqual(rows, ["Depot", "Depot"])
         self.assertIn("there before the first period, and kept for it", page)
+        table = page[page.index('<table aria-label="Stock"') :].split("</table>")[0]
+        self.assertEqual(re.findall("<tr><td>([^<]*)</td>", table), ["Depot", "Kiel"])
+
+    def test_penalties(self):
+        """If a place sends in the last period, its penalty there is that of the last stock."""
+        places = "name,period,supply,last stock,penalty\nDepot,Jan,,,\nDepot,Feb,3,5,7\n"
+        routes = "from,to,most,cost\nDepot,Depot,,1\n"
+        self.assertEqual(self.flow(places, routes, "--short", "allow")[0], 0)
+        page = (self.out / "report.html").read_text(encoding="utf-8")
+        table = page[page.index('<table aria-label="Places"') :].split("</table>")[0]
+        column = re.findall("<th [^>]*>([^<]*)", table).index("penalty")
+        rows = [re.findall("<td[^>]*>([^<]*)", row) for row in table.split("<tr>")[2:]]
+        found = [(cells[0], cells[column]) for cells in rows]
+        self.assertEqual(found, [("Jan", ""), ("Feb", ""), ("last stock", "7")])
 
     def test_no_plan_with_stock(self):
         """Places without first or last stock aren't told of among those that block, and aren't
@@ -223,7 +237,7 @@ class Periods(WithFolder):
         status, said, _ = run("diff", old, self.made("new", more, ROUTES, "--unused", "allow"))
         self.assertEqual(status, 0)
         self.assertIn("  Depot (first stock) -> (kept): 20, now 25 (+5)\n", said)
-        self.assertNotIn("Kiel (first stock)", said)
+        self.assertIn(" of 17 differ:\n", said)
 
     def test_periods_called_as_stock(self):
         """Named periods may be called as those of stock are."""
