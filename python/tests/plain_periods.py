@@ -24,6 +24,8 @@ PeriodKind = collections.namedtuple("PeriodKind", "periods open tables")
 # In plans of the second kind, routes, places and stores are often full.
 ROOMY = PeriodKind((1, 3), 0.5, LOOSE._replace(places=(1, 3), bounded=0.3))
 CROWDED = PeriodKind((2, 3), 0.1, TIGHT._replace(places=(2, 3), routes=(3, 0), through=4))
+# What may be kept of a stock beside it, if it has a limit: more than any plan keeps.
+STOCK_ROOM = Fraction(10) ** 6
 PERIODS = ("Jan", "Feb", "KW 48", "2", "März, 2. Hälfte")
 
 # A row of places: the number of its place; the number of the period in which it holds, or None for
@@ -98,10 +100,21 @@ class PeriodProblem:
     def keeps(self, place, period):
         """What a place may keep after a period: anything, for nothing, of its first stock and for
         its last stock, and otherwise what its row says. None is nothing."""
-        if period < 0 or period == len(self.periods) - 1:
-            return None, Fraction(0)
         row = self.row_in(place, period)
+        if period < 0 or period == len(self.periods) - 1:
+            return self.stock_most(row, period < 0), Fraction(0)
         return None if row is None else self.places[row].keep
+
+    def stock_most(self, row, is_first):
+        """The most of a stock that may be kept. Without a cost below 0 it has no limit, and
+        otherwise one that no plan fills."""
+        costs = [step[1] for one in self.routes for step in one.says.steps]
+        costs += [one.says.bounds[2] for one in self.places if one.says.bounds]
+        costs += [one.keep[1] for one in self.places if one.keep]
+        if min(costs, default=0) >= 0:
+            return None
+        stock = 0 if row is None else self.places[row][4 if is_first else 5]
+        return stock + STOCK_ROOM
 
     def stores(self):
         """What each place may keep from each period to the next."""
@@ -174,7 +187,11 @@ class PeriodProblem:
             word, *key = self.key(move, lines)
             found = told[(own[word], *key)]
             if found:
-                flat.append([words[1], str(number), "", "", *found.pop(0)])
+                cells = found.pop(0)
+                most = move.route.steps[0][0]
+                if own[word] == "keep" and most is not None and most >= STOCK_ROOM:
+                    cells[2] = str(most - Fraction(cells[0])) if Fraction(cells[2]) > 0 else "0"
+                flat.append([words[1], str(number), "", "", *cells])
         return None if any(told.values()) else flat
 
     @staticmethod
