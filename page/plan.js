@@ -66,11 +66,16 @@ export class FlowPlan {
     const storeKeys = problem.stores.map(({ line, tail, departs }) =>
       [String(line), problem.places[tail - 1].name, departs]
     );
-    this.stores = toldInTurn(
+    const stores = toldInTurn(
       answer.rows('keep').map((cells) =>
         [[...cells.slice(0, 2), cells[8]], this.result(cells.slice(2))]
       ),
       storeKeys
+    );
+    // Of a stock, any amount may be kept: where a cost is below 0, it has a limit that no plan
+    // fills, which isn't told.
+    this.stores = stores.map((one, k) =>
+      (problem.isStock(problem.stores[k]) ? { ...one, free: null } : one)
     );
     this.hasRanges = Boolean(policy.ranges);
     this.hasSupplies = this.hasRanges

@@ -132,8 +132,12 @@ class PeriodProblem(Problem):
         return told_in_turn(rows, [(*key, route.is_back) for key, route in keys])
 
     def store_results(self):
-        """The results of what places keep in a plan."""
+        """The results of what places keep in a plan. Of a stock, any amount may be kept: where a
+        cost is below 0, it has a limit that no plan fills, which isn't told."""
         rows = (
             ((*cells[:2], cells[8]), route_result(cells[2:])) for cells in self.answer.rows["keep"]
         )
-        return told_in_turn(rows, self.store_keys())
+        return [
+            result._replace(free=None) if self.is_stock(store) else result
+            for store, result in zip(self.stores, told_in_turn(rows, self.store_keys()))
+        ]

@@ -158,6 +158,16 @@ class Periods(WithFolder):
             },
         )
 
+    def test_stock_beside_a_cost_below_0(self):
+        """What is kept of a stock has a limit there, which isn't told."""
+        places = "name,supply,period,first stock,keep most,keep cost\nW,,Jan,5,9,-1\nW,-2,Feb,,,\n"
+        status, _, told = self.flow(places, "from,to,most,cost\n", "--unused", "allow")
+        self.assertEqual(status, 0, told)
+        self.assertEqual(
+            [(row["period"], row["keeps"], row["free"]) for row in rows_of(self.out / "stock.csv")],
+            [("first stock", "2", ""), ("Jan", "2", "7")],
+        )
+
     def test_first_and_last_stock(self):
         """Each has a period of its own, of which the tables tell where there is stock. Pictures are
         of named periods."""
