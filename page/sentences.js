@@ -178,6 +178,7 @@ export class Teller {
     this.shows = /** @type {NumberCell[]} */ ([]);
     this.done = new Set();
     this.crossed = /** @type {Map<string, string>} */ (new Map());
+    this.hasWishes = false;
   }
 
   // This method notes all faults of an answer, and then positions of places that are no numbers.
@@ -186,6 +187,7 @@ export class Teller {
     const found = [...answer.rows('fault'), ...secondRows(answer)];
     if (!found.length) return;
     this.crossed = new Map(answer.rows('crossing').map(([line, , other]) => [line, other]));
+    this.hasWishes = answer.rows('wishes').length > 0;
     for (const [word, text] of Object.entries(this.texts)) {
       const read = answer.tables.get(word) || { headLine: 1, titles: [''], rows: [] };
       this.tables[word] = new Table(text, read);
@@ -202,7 +204,7 @@ export class Teller {
 
   // This method notes a fault. The first one of a kind tells all; of columns that a table lacks,
   // too. A fault of a cell counts once, in whichever periods it is. The head may be spelled as the
-  // table has it.
+  // table has it; a sheet of wishes has no column of things.
   /** @type {(fault: string[]) => void} */
   note([word, line, head, what, read, period = '']) {
     const [column, cell] = this.located(word, line, fold(head), what, read);
@@ -217,7 +219,8 @@ export class Teller {
       ? this.text(word, line, column, what, cell)
         + (period && period !== LAST ? ` (in period ${shown(period)})` : '')
       : '';
-    this.faults.add(at(this.texts[word].name, Number(line), column), what, text, cell);
+    const shownColumn = this.hasWishes && column === 'what' ? '' : column;
+    this.faults.add(at(this.texts[word].name, Number(line), shownColumn), what, text, cell);
   }
 
   // This method returns the cells of a row. Of those that share a line, as wishes do, it is the

@@ -164,7 +164,7 @@ class Teller:
     def __init__(self, words, tables, options, faults):
         self.tables, self.options, self.faults = dict(zip(words, tables)), options, faults
         self.sheets, self.rows, self.shows, self.done = {}, {}, [], set()
-        self.crossed = {}
+        self.crossed, self.has_wishes = {}, False
 
     def tell(self, answer):
         """Notes all faults of an answer, and positions of places that are no numbers."""
@@ -175,6 +175,7 @@ class Teller:
                 self.rows[word].setdefault(line, []).append(cells)
         faults = answer.rows["fault"] + second_rows(answer)
         self.crossed = {int(line): other for line, _, other in answer.rows["crossing"]}
+        self.has_wishes = bool(answer.rows["wishes"])
         tables = zip(self.tables, self.tables.values(), self.sheets.values()) if faults else ()
         cells = (cell for table in tables for cell in number_cells(*table))
         self.shows = [(mark_in(one[2]), *one) for one in cells if mark_in(one[2])]
@@ -190,7 +191,7 @@ class Teller:
     def note(self, word, line, head, what, cell, period=""):
         """Notes a fault. The first one of a kind tells all; of columns that a table lacks, too. A
         fault of a cell counts once, in whichever periods it is. The head may be spelled as the
-        table has it."""
+        table has it; a sheet of wishes has no column of things."""
         column, cell = self.located(word, line, head.lower(), what, cell)
         is_lacking, here = what == "no such column", (word, line, what, column)
         kind = word, what, is_lacking or column.isdecimal() or column
@@ -200,7 +201,8 @@ class Teller:
         if not (is_lacking and kind in self.done):
             text = "" if kind in self.done else self.text(word, line, column, what, cell)
             text += f" (in period {shown(period)})" if text and period not in ("", LAST) else ""
-            self.faults.add(At(self.tables[word].name, line, column), what, text, cell)
+            shown_column = "" if self.has_wishes and column == "what" else column
+            self.faults.add(At(self.tables[word].name, line, shown_column), what, text, cell)
         self.done.add(kind)
 
     def row(self, word, line, head, cell):
