@@ -17,14 +17,16 @@ ANSWERS = {"", "yes", "y", "x", "ja", "no", "0", "nein"}
 
 
 def spoil(rng, tables):
-    """Makes one to three cells of tables wrong."""
+    """Makes one to three cells of tables wrong. The last place keeps a name: without one, its row
+    may be one of totals, which isn't read."""
     for _ in range(rng.randint(1, 3)):
         heads, rows = rng.choice(tables)
         column, row = rng.randrange(len(heads)), rng.choice(rows)
         if heads[column] in ("from", "to"):
             row[column] = rng.choice(["", "Nowhere"])
         elif heads[column] == "name":
-            row[column] = rng.choice(["", rng.choice(rows)[column]])
+            name = rng.choice(["", rng.choice(rows)[column]])
+            row[column] = name or rows[0][column] * (row is rows[-1])
         elif heads[column] == "both":
             row[column] = "maybe"
         elif heads[column] == "cost" and "from" in heads and rng.random() < 0.3:
