@@ -113,8 +113,9 @@ class PeriodProblem:
         costs += [one.keep[1] for one in self.places if one.keep]
         if min(costs, default=0) >= 0:
             return None
-        stock = 0 if row is None else self.places[row][4 if is_first else 5]
-        return stock + STOCK_ROOM
+        if row is None:
+            return STOCK_ROOM
+        return STOCK_ROOM + (self.places[row].first if is_first else self.places[row].last)
 
     def stores(self):
         """What each place may keep from each period to the next."""

@@ -165,8 +165,8 @@ class PeriodCase:
         return linear
 
     def add_stock(self, linear, key, says, moves):
-        """Adds the stock of a place in a period: what comes in at the beginning of the first
-        period, and what goes out at the end of the last, or is missing then."""
+        """Adds the stock of a place: first stock enters it in the first period, or stays; last
+        stock leaves it in the last period, or is missing."""
         (place, period), (leaves, comes) = key, moves
         first, last = (says[head] or 0 for head in ("first stock", "last stock"))
         begins = linear.variable(f"begins_{place}_{period}")
