@@ -33,11 +33,8 @@ pub fn restore(alloc: Global, instance: &Instance, state: &State<'_>) -> Result<
     ensures cost { IfOk result (λ flow. cost instance.now.arcs flow.items ≡ cost state.now.net.arcs state.now.amounts +ℤ fixed_cost instance.now.arcs) }
     ensures wants { OnErr result (1 ≤ length instance.now.arcs) }
 {
-    // Called only for its clause: each amount lies between 0 and the width of its arc.
-    let _net = state.net();
-    let count = instance.arc_count();
-    let mut flow = Vec::with_capacity(alloc, count as usize)?;
-    for i in 0..count {
+    let mut flow = Vec::with_capacity(alloc, instance.arc_count() as usize)?;
+    for i in 0..state.net.arc_count() {
         flow.push(restored_amount(instance, state, ArcId::at(i)))?;
     }
     Ok(flow)

@@ -20,7 +20,7 @@ use std::marker::Model;
 /// Clauses see the net and the amounts.
 #[derive(Drop)]
 pub struct State<'n> {
-    net: &'n Net,
+    pub(crate) net: &'n Net,
     amounts: Amounts,
     surpluses: Vec<i128>,
 }
