@@ -8,7 +8,7 @@ ghost use Rattle.mcf_scaling.specs.Private.CurrentArcs.{AreFirsts, rest_from};
 ghost use Rattle.mcf_scaling.specs.Private.Stars.{AreCapacityMarks, IsStarOf, span_of};
 ghost use Rattle.mcf_scaling.specs.Optimality.{AreSmallPrices, IsAdmissible};
 
-use crate::pricing::{factor_of, is_admissible, price_of};
+use crate::pricing::{is_admissible, price_of};
 use crate::star::{ForwardStar, residual_of};
 use mcf_network::{Net, Rid, State};
 use mcf_text::{NoMemory, NodeId};
@@ -39,11 +39,10 @@ pub(crate) fn next_admissible(
 {
     let end = star.span(v).end;
     let price = price_of(prices, v);
-    let factor = factor_of(state);
     let mut i = *current;
     'looking: while i < end {
         let residual = star.at(i);
-        if is_admissible(state, prices, has_capacity[i], price, factor, residual) {
+        if is_admissible(state, prices, has_capacity[i], price, residual) {
             *current = i;
             return Some(residual_of(residual.link));
         }

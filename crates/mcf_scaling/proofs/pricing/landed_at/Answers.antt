@@ -11,13 +11,13 @@ use Rattle.mcf_scaling.proofs.pricing.landed_at.Goals as goal
 pub scaled-cost-requires-clause-cost : goal.scaled-cost-requires-clause-cost
 scaled-cost-requires-clause-cost c =
     let r = residual_of c.args.residual.link in
-    let arc = link_arc c.args.state.now.net c.args.residual.link c.requires.residual.link in
+    let arc = link_arc c.args.net.now c.args.residual.link c.requires.residual.link in
     let same : to_z w128 (of_z w128 c.from.result) ≡ c.args.residual.cost = search rules in
-    subst (IsUpTo limits.cost) (sym (same ∙ c.requires.residual.cost)) (cost_small c.args.state.now.net r.arc r.back c.net-net.ensures.valid.of_net arc)
+    subst (IsUpTo limits.cost) (sym (same ∙ c.requires.residual.cost)) (cost_small c.args.net.now r.arc r.back c.node_count.ensures.of_net arc)
 
 pub price_of-requires-clause-node : goal.price_of-requires-clause-node
 price_of-requires-clause-node c =
     let r = residual_of c.args.residual.link in
-    let arc = link_arc c.args.state.now.net c.args.residual.link c.requires.residual.link in
-    let node = head_is_node c.args.state.now.net r.arc r.back c.net-net.ensures.valid.of_net arc in
+    let arc = link_arc c.args.net.now c.args.residual.link c.requires.residual.link in
+    let node = head_is_node c.args.net.now r.arc r.back c.node_count.ensures.of_net arc in
     omega (arith, node, c.new.ensures, c.requires.residual.head, c.requires.prices.count)

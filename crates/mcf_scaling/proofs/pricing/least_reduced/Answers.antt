@@ -1,13 +1,14 @@
-use Rattle.std.proofs.Common.{◌≡◌, ◌^◌, ◌+◌, ℤ, List, arith, refl, rules, sym, ap, ◌∙◌, subst, to_z, of_z}
+use Rattle.std.proofs.Common.{◌≡◌, ◌^◌, ◌+◌, ◌<◌, length, ℤ, List, arith, refl, rules, sym, ap, ◌∙◌, subst, to_z, of_z}
 use mir.Syntax.{w128}
 use Rattle.std.proofs.lemmas.Int.{ints, to_z-of_z}
 use Rattle.mcf_flows.specs.Network.{at_node}
 use Rattle.mcf_flows.specs.WellFormed.{IsUpTo}
 use Rattle.mcf_network.specs.declared.rid.Rid.{Rid}
 use Rattle.mcf_network.specs.Stars.{ListsLeaving}
+use Rattle.mcf_scaling.specs.declared.star.ResidualArc.{ResidualArc}
 use Rattle.mcf_scaling.specs.declared.star.Span.{Span}
 use Rattle.mcf_scaling.specs.Private.CurrentArcs.{rest_from}
-use Rattle.mcf_scaling.specs.Private.Stars.{residual_at}
+use Rattle.mcf_scaling.specs.Private.Stars.{IsCapacityMark, mark_of, residual_at, residual_of}
 use Rattle.mcf_scaling.proofs.StarLaws.{rest_end, scan_residual, scan_step}
 use Rattle.mcf_scaling.proofs.Scans.{IsScanned, scanned_next, scanned_none, scanned_some, scanned_start}
 use Rattle.mcf_scaling.proofs.pricing.least_reduced.Goals as goal
@@ -28,6 +29,12 @@ pub lowered-least-requires-clause-residual : goal.lowered-least-requires-clause-
 lowered-least-requires-clause-residual c =
     scan_residual c.args.state.now.net c.args.star.now c.args.v c.positions.i c.span-span.result c.requires.star c.requires.node
     c.span-span.ensures c.positions-test.true c.at.result c.at.ensures
+
+pub lowered-least-requires-clause-mark : goal.lowered-least-requires-clause-mark
+lowered-least-requires-clause-mark c =
+    let within : c.positions.i < length c.args.has_capacity.now = search rules in
+    subst (λ (p : ResidualArc). IsCapacityMark c.args.state.now (residual_of p.link) (mark_of c.args.has_capacity.now c.positions.i)) (sym c.at.ensures)
+    (c.requires.marks.each c.positions.i within)
 
 pub positions-preserved : goal.positions-preserved
 positions-preserved c =
