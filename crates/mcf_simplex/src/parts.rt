@@ -60,8 +60,8 @@ impl<'n> Model for Run<'n> {
 
     ghost view = { λ r. record { rule = r.rule; basis = r.room.basis } };
 
-    ghost invariant = { λ r. HasRoomFor r.room.basis.net r.room.state.net (length r.room.shown.cut) r.room.shown.pricer
-        (length r.room.shown.prices.items) };
+    ghost invariant = { λ r. IsBasis r.room.basis
+        × HasRoomFor r.room.basis.net r.room.state.net (length r.room.shown.cut) r.room.shown.pricer (length r.room.shown.prices.items) };
 }
 
 impl<'n> Run<'n> {
@@ -154,14 +154,12 @@ fn advance<P: Pricing>(
     counts: &mut RunCounts,
     pivots: u32,
 ) -> bool
+    requires { IsBasis basis.old }
     ensures run { IsAdvanced P.Picks (record { rule = rule.old; basis = basis.old }) pivots result (record { rule = rule.new; basis = basis.new }) }
     ensures over { result ≡ true → HasNoEligible basis.new }
     ensures net { basis.new.net ≡ basis.old.net }
-    ensures old { IsBasis basis.old }
     ensures basis { IsBasis basis.new }
 {
-    // Called only for its clause: this is a basis.
-    let _net = basis.net();
     for made in 0..pivots {
         let Some(k) = rule.pick(basis) else {
             return true;

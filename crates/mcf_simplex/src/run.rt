@@ -12,13 +12,12 @@ use mcf_basis::Basis;
 /// Each pivot lowers the pair of the cost and the sum of the prices, so the loop ends, whatever the
 /// rule.
 pub(crate) fn run<P: Pricing>(rule: &mut P, basis: &mut Basis<'_>)
+    requires { IsBasis basis.old }
     ensures run { IsLoop P.Picks rule.old basis.old rule.new basis.new }
     ensures over { HasNoEligible basis.new }
     ensures net { basis.new.net ≡ basis.old.net }
     ensures basis { IsBasis basis.new }
 {
-    // Called only for its clause: this is a basis.
-    let _net = basis.net();
     'pivots: while let Some(k) = rule.pick(basis) {
         basis.pivot(k);
     }

@@ -5,7 +5,7 @@ use Rattle.mcf_simplex.proofs.Running.{moved_on_next, moved_on_start}
 use Rattle.mcf_simplex.proofs.parts.advance.Goals as goal
 
 pub loop-made-init : goal.loop-made-init
-loop-made-init g c = moved_on_start g.P.Pricing.Picks c.args.rule.now c.args.basis.now c.net-net.ensures.basis
+loop-made-init g c = moved_on_start g.P.Pricing.Picks c.args.rule.now c.args.basis.now c.requires
 
 pub loop-made-preserved : goal.loop-made-preserved
 loop-made-preserved g c =

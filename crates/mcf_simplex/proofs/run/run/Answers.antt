@@ -3,7 +3,7 @@ use Rattle.mcf_simplex.proofs.Running.{measure_falls, under_way_end, under_way_n
 use Rattle.mcf_simplex.proofs.run.run.Goals as goal
 
 pub pivots-init : goal.pivots-init
-pivots-init g c = under_way_start g.P.Pricing.Picks c.args.rule.now c.args.basis.now c.net-net.ensures.basis
+pivots-init g c = under_way_start g.P.Pricing.Picks c.args.rule.now c.args.basis.now c.requires
 
 pub pivots-smaller : goal.pivots-smaller
 pivots-smaller g c =
@@ -17,5 +17,5 @@ pivots-preserved g c =
 
 pub returns-clause-run : goal.returns-clause-run
 returns-clause-run g c =
-    under_way_end g.P.Pricing.Picks c.args.rule.now c.args.basis.now c.pivots.rule c.pick.new.self c.pivots.basis c.net-net.ensures.basis
+    under_way_end g.P.Pricing.Picks c.args.rule.now c.args.basis.now c.pivots.rule c.pick.new.self c.pivots.basis c.requires
     c.pivots.invariant c.in_default.ensures.picks
