@@ -404,7 +404,7 @@ number_of
 mcf_reading.name_kind no_place_kind mcf_reading.cell_faults
 scales_of great_faults planner_faults IsProperPlanner steps_in rows_in
 numbers_of is_bounded
-IsBeyond limited shortage_of IsShownIn mcf_flow_tables.origin_in
+IsBeyondInStage limited IsShownIn mcf_flow_tables.origin_in
 prepared_places prepared_routes done_to AreFilled lacking
 tells_periods IsPeriodTableAnswer
 """

@@ -1,6 +1,6 @@
 -- The answers for a planner's problem.
 -- Source: own
-use Rattle.std.specs.Prelude.{◌≡◌, ℕ, Bool, true, false, ℤ, pos, ◌*ℤ◌, ◌≤ℤ◌, ◌⊎◌, Some, length}
+use Rattle.std.specs.Prelude.{◌≡◌, IsTrue, ℕ, Bool, true, false, ℤ, pos, ◌*ℤ◌, ◌≤ℤ◌, ◌⊎◌, Some, length}
 use Rattle.mcf_flows.specs.Blocking.{in_list, in_table}
 use Rattle.mcf_flows.specs.Limits.{limits}
 use Rattle.mcf_flows.specs.Network.{IsNode, when}
@@ -68,19 +68,23 @@ pub record IsShownIn (P : Planner) (p : LeastPlannerPlan) : Type 0 where
   pub is_plan : IsModelPlan p.shown.model p.shown.carries.items
   pub shown : ShowsPlan p.shown.model.routes p.shown.prices.items p.shown.carries.items
 
--- the first fault of the network of a model of the problem, in which as much may be missing as
--- places want, or the least that is missing in a plan
+-- the first fault of the network of the problem's model
 pub record IsBeyond (P : Planner) (fault : ArrayFault) : Type 0 where
   pub most : ℤ
-  pub all_or_least : (most ≡ when P.policy.short (all_wanted P.places)) ⊎ IsLeastMissing most P
+  pub allowed : IsAllowed (misses_least P) most P
   pub beyond : array_fault limits (network_of (reach_of (model_of most P)) (model_of most P)) ≡ Some fault
+
+-- such a fault of a stage: of the only one, or of the first or the last of two, of which the first
+-- finds how little can be missing
+abbrev pub IsBeyondInStage : Planner → ArrayFault → Type 0
+IsBeyondInStage P fault = IsBeyond P fault ⊎ (IsTrue (misses_least P) × IsBeyond (shortage_of P) fault)
 
 -- a least plan, with the model of the problem in which bounds have the limits that they need; or
 -- places that are a bottleneck; or the first number beyond the limits of that problem
 abbrev pub IsPlannerAnswer : Planner → PlannerAnswer → Type 0
 IsPlannerAnswer P (Least p) = IsBestPlannerPlan P p × IsShownIn (limited P) p
 IsPlannerAnswer P (NoPlan b) = HasNoPlannerPlan P b
-IsPlannerAnswer P (Beyond fault) = IsBeyond (limited P) fault ⊎ IsBeyond (shortage_of (limited P)) fault
+IsPlannerAnswer P (Beyond fault) = IsBeyondInStage (limited P) fault
 
 -- ---- the two stages
 
@@ -88,7 +92,7 @@ IsPlannerAnswer P (Beyond fault) = IsBeyond (limited P) fault ⊎ IsBeyond (shor
 abbrev pub IsStagedAnswer : Planner → PlannerAnswer → Type 0
 IsStagedAnswer P (Least p) = IsBestPlannerPlan P p × IsShownIn P p
 IsStagedAnswer P (NoPlan b) = HasNoPlannerPlan P b
-IsStagedAnswer P (Beyond fault) = IsBeyond P fault ⊎ IsBeyond (shortage_of P) fault
+IsStagedAnswer P (Beyond fault) = IsBeyondInStage P fault
 
 -- a model in which no more than `most` is missing stands for the problem: its least plans are least
 -- plans of the problem, in finer units, too; and it has all plans, or it has the one that misses
