@@ -7,6 +7,7 @@ use Rattle.mcf_period_units.specs.declared.origins.DepartureOrigin.{DepartureOri
 use Rattle.mcf_period_units.specs.declared.origins.PeriodOrigins.{PeriodOrigins}
 use Rattle.mcf_period_units.specs.declared.origins.PlaceOrigin.{PlaceOrigin}
 use Rattle.mcf_period_units.specs.declared.origins.StoreOrigin.{StoreOrigin}
+use Rattle.mcf_period_units.specs.PlacesOver.{row_or_first}
 use Rattle.mcf_plan_rows.specs.FaultRows.{TwoTables, tables_in}
 use Rattle.mcf_period_text.specs.declared.timed.Timed.{Timed}
 
@@ -49,7 +50,7 @@ departure_origin t place =
 
 -- the row of a place in a period: the one that holds then, or else the one that names it first
 abbrev pub told_row : PlaceOrigin → ℕ
-told_row o = if o.row == 0 then o.first else o.row
+told_row o = row_or_first o.row o.first
 
 -- ---- names
 

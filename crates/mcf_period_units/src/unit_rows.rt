@@ -1,7 +1,6 @@
 //! The rows of places in whole units.
 ghost use Rattle.std.specs.Prelude.{◌≡◌, IfOk, option_map};
 ghost use Rattle.std.specs.List.{list_any};
-ghost use Rattle.mcf_places.specs.PlannerFaults.{place_earns};
 ghost use Rattle.mcf_reading.specs.Cells.{zero_decimal};
 ghost use Rattle.mcf_period_units.specs.PeriodEntries.{entries_over, entry_at, route_time_at, time_at};
 ghost use Rattle.mcf_period_units.specs.UnitRows.{earning, far_more, first_place, is_of_stock, keep_earns, keep_in, keep_over, last_place, leaves, named_place, penalty_unless, place_over, row_at, row_earns, stock_keep, stock_place, unit_row, unit_rows};
@@ -9,7 +8,7 @@ ghost use Rattle.mcf_period_units.specs.UnitRows.{earning, far_more, first_place
 use mcf_decimal::Decimal;
 use mcf_model::{RouteRow, Step, some_earn};
 use mcf_period_reading::{KeepEntry, PeriodTables, PlaceTime, RouteTime};
-use mcf_places::{Bounds, Place};
+use mcf_places::{Place, place_earns};
 use mcf_reading::{PlaceEntry, Tables};
 use mcf_text::NoMemory;
 use mcf_units::{Scales, place_in, whole, whole_limit};
@@ -246,16 +245,6 @@ fn keep_earns(keep: Option<UnitKeep>) -> bool
 {
     match keep {
         Some(keep) => keep.cost < 0,
-        None => false,
-    }
-}
-
-// Whether one that passes through a place does.
-fn place_earns(through: Option<Bounds>) -> bool
-    ensures { result ≡ place_earns through }
-{
-    match through {
-        Some(bounds) => bounds.cost < 0,
         None => false,
     }
 }

@@ -100,8 +100,8 @@ pub(crate) fn sums(places: &[Place]) -> Totals
     totals
 }
 
-// Returns whether a unit that passes through a place costs less than 0.
-fn place_earns(through: Option<Bounds>) -> bool
+/// Returns whether a unit that passes through a place with these bounds costs less than 0.
+pub fn place_earns(through: Option<Bounds>) -> bool
     ensures { result ≡ place_earns through }
 {
     match through {

@@ -31,7 +31,9 @@ mod ways;
 
 pub use answering::{LeastPlannerPlan, PlannerAnswer, ShownModel, least, misses_least};
 pub use crossings::Crossing;
-pub use faults::{PLACE_LIMIT, PlannerFault, SUM_LIMIT, Totals, given, missing_cost, wanted};
+pub use faults::{
+    PLACE_LIMIT, PlannerFault, SUM_LIMIT, Totals, given, missing_cost, place_earns, wanted,
+};
 pub use laws::{
     least_model_plans_are_least, limits_change_no_plan, planner_bottlenecks_have_no_plan,
     planners_are_models, plans_fill_no_limit, plans_miss_no_more, sound_planners_have_sound_models,

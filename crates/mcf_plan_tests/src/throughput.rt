@@ -2,7 +2,7 @@
 use mcf_choice::Choice;
 use mcf_model::{RouteRow, Step};
 use mcf_places::{
-    Bounds, LeastPlannerPlan, Place, Planner, PlannerAnswer, Policy, least, model_of,
+    Bounds, LeastPlannerPlan, Place, Planner, PlannerAnswer, Policy, least, model_of, place_earns,
 };
 use mcf_planner::Planner as Engine;
 use mcf_text::NoMemory;
@@ -103,5 +103,18 @@ fn its_model_has_a_limit(rt: HostRuntime) -> Result<(), Fail> {
     };
     let model = model_of(rt.alloc(), &planner, 0)?;
     assert_eq!(rt; (model.place_count(), model.route_count()), (8, 6));
+    Ok(())
+}
+
+#[test]
+fn passing_earns_below_a_cost_of_zero(rt: HostRuntime) -> Result<(), Fail> {
+    let earning = Bounds {
+        least: 0,
+        most: None,
+        cost: -1,
+    };
+    let idle = Bounds { cost: 0, ..earning };
+    assert!(rt; place_earns(Some(earning)));
+    assert!(rt; !place_earns(Some(idle)) && !place_earns(None));
     Ok(())
 }
