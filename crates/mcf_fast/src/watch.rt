@@ -69,10 +69,10 @@ const EARLY_ARCS: u32 = 128;
 
 const LEAST_ARCS: u32 = 256;
 
-// The same for nets of more nodes and of so many arcs per node. With 512 in place of 256, runs of
-// nets of netgen's kind with 2^14 nodes and 16, 24 and 32 arcs per node cost 0.87, 0.8 and 0.7 to
-// 0.8 as much by their counts, with 2^13 nodes 1.0, 1.0 and 0.76 to 0.97; with 8 arcs per node they
-// cost 0.94 to 1.3 as much.
+// From how many nodes and how many arcs per node on a block has at least how many arcs. With 512 in
+// place of 256, runs of nets of netgen's kind with 2^14 nodes and 16, 24 and 32 arcs per node cost
+// 0.87, 0.8 and 0.7 to 0.8 as much by their counts, with 2^13 nodes 1.0, 1.0 and 0.76 to 0.97; with
+// 8 arcs per node they cost 0.94 to 1.3 as much.
 const FULL_NODES: u32 = 8_000;
 
 const MANY_ARCS_PER_NODE: u64 = 16;
