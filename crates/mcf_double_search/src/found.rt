@@ -9,9 +9,9 @@ pub enum DoubleFound {
     Cover(Cover),
 }
 
-/// An assignment that may be least: the column of each row, or `u32::MAX` for a row without one,
-/// with prices of rows and columns that may show it, in units of 2^unit * 2^-1074. If `is_rounded`,
-/// they may show it for the entries rounded down to such units.
+/// An assignment that may be least: the column of each row, or a number that is no column's for a
+/// row without one, with prices of rows and columns that may show it, in units of 2^unit * 2^-1074.
+/// If `is_rounded`, they may show it for the entries rounded down to such units.
 #[derive(Drop)]
 pub struct DoubleAssignment {
     pub column_of: Vec<u32>,

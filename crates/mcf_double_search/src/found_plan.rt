@@ -12,7 +12,7 @@ pub enum DoubleFoundPlan {
 
 /// A transport plan that may be least, with prices of rows and columns that may show it, in units
 /// of 2^unit * 2^-1074. If `is_rounded`, they may show it for the entries rounded down to such
-/// units. It has fewer entries than the matrix has rows and columns together.
+/// units.
 #[derive(Drop)]
 pub struct DoublePlan {
     pub shipments: Vec<Shipment>,

@@ -10,8 +10,8 @@ pub enum Found {
     Cover(Cover),
 }
 
-/// An assignment: each row's column, or `u32::MAX` for a free row, with prices of rows and columns
-/// that may show it to be least.
+/// An assignment: each row's column, or a number that is no column's for a free row, with prices of
+/// rows and columns that may show it to be least.
 #[derive(Drop)]
 pub struct Assignment {
     pub column_of: Vec<u32>,
@@ -34,8 +34,7 @@ pub enum FoundPlan {
     Cut(Cut),
 }
 
-/// A transport plan that may be least, with prices that may show it. It has fewer entries than the
-/// matrix has rows and columns together.
+/// A transport plan that may be least, with prices that may show it.
 #[derive(Drop)]
 pub struct Plan {
     pub shipments: Vec<Shipment>,
