@@ -106,6 +106,7 @@ impl Planner {
     pub fn route(&self, place: usize) -> RouteParts<'_>
         requires place { place < length self.now.routes }
         ensures value { route_with result.row result.steps.now ≡ slice_index_or self.now.routes place no_route }
+        ensures counted { result.row.step_count ≡ length result.steps.now }
         ensures proper { IsProperPlanner self.now }
     {
         let row = self.rows[place];
