@@ -1,5 +1,5 @@
 -- Ranges of answers, and their rows.
-use Rattle.std.proofs.Common.{◌≡◌, ℕ, suc, ◌+◌, ◌<◌, ◌≤◌, true, List, [], ◌∷◌, ◌++◌, length, drop, drop-cons, get_or, refl, sym, ap, ◌∙◌, subst, arith, append_assoc, append-nil, Result, Ok, Err, Option, Some, None, inl, inr}
+use Rattle.std.proofs.Common.{◌≡◌, ℕ, suc, ◌+◌, ◌<◌, ◌≤◌, true, false, List, [], ◌∷◌, ◌++◌, length, drop, drop-cons, get_or, refl, sym, ap, ◌∙◌, subst, arith, append_assoc, append-nil, Result, Ok, Err, Option, Some, None, inl, inr}
 use Rattle.std.specs.Prelude.{IfOk, IfNone, IfSome}
 use Rattle.std.proofs.lemmas.List.{drop_all}
 use Rattle.mcf_answer_rows.proofs.RowTexts.{rows_are_table, rows_text_append}
@@ -61,13 +61,14 @@ solved_answer texts options (Tables said) h = solved_table said.places said.rout
 
 module _ (P : Planner) (p : LeastPlannerPlan) where
   pub returning : (row : ℕ) → has_way_back P row ≡ true → IsRowRange P p row None
-  returning row h = record { exact = tt; none = inl h }
+  returning row h = record { asked = tt; exact = tt; none = inl h }
 
-  pub row_told : {E : Type 0} (result : Result (Option CostRange) E) (row : ℕ) → IfOk result (λ told. IfSome told (IsPlannerRange P (plan_in p.plan) row))
+  pub row_told : {E : Type 0} (result : Result (Option CostRange) E) (row : ℕ) → has_way_back P row ≡ false
+      → IfOk result (λ told. IfSome told (IsPlannerRange P (plan_in p.plan) row))
       → IfOk result (λ told. IfNone told (¬ AreWithinLimits p.shown.model p.shown.prices.items p.shown.carries.items)) → IfOk result (IsRowRange P p row)
-  row_told (Ok (Some range)) row exact none = record { exact = exact; none = tt }
-  row_told (Ok None) row exact none = record { exact = tt; none = inr none }
-  row_told (Err e) row exact none = tt
+  row_told (Ok (Some range)) row h exact none = record { asked = h; exact = exact; none = tt }
+  row_told (Ok None) row h exact none = record { asked = tt; exact = tt; none = inr none }
+  row_told (Err e) row h exact none = tt
 
   pub route_told : {E : Type 0} (result : Result (Option CostRange) E) (k : ℕ) → IfOk result (λ told. IfSome told (IsPlannerRange P (plan_in p.plan) k))
       → IfOk result (λ told. IfNone told (¬ AreWithinLimits p.shown.model p.shown.prices.items p.shown.carries.items)) → IfOk result (IsRouteRange P p k)

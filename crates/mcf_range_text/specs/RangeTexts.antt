@@ -39,6 +39,7 @@ has_way_back P row = list_any (λ k. k == row) P.returning
 -- what is told of a row: the range of the cost of its route; or none, if the row has a way back of
 -- its own, or if numbers are beyond the limits of ranges
 pub record IsRowRange (P : Planner) (p : LeastPlannerPlan) (row : ℕ) (told : Option CostRange) : Type 0 where
+  pub asked : IfSome told (λ range. has_way_back P row ≡ false)
   pub exact : IfSome told (IsPlannerRange P (plan_in p.plan) row)
   pub none : IfNone told ((has_way_back P row ≡ true) ⊎ (¬ AreWithinLimits p.shown.model p.shown.prices.items p.shown.carries.items))
 
