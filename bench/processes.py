@@ -134,9 +134,13 @@ class Case:
     """A measured case of `fast`: its seconds and peak memory, beside LEMON's."""
 
     def __init__(self, runs):
-        theirs = [runs[name].seconds for name in ("LEMON ns", "LEMON cs") if name in runs]
+        theirs = [runs[name].each for name in ("LEMON ns", "LEMON cs") if name in runs]
         self.seconds = runs["fast"].seconds
-        self.ratio = self.seconds / min(theirs) if theirs else None
+        self.ratio = None
+        if theirs:
+            # neighbours in time, since the speed of a machine may change within a case
+            better = zip(runs["fast"].each, min(theirs, key=statistics.median))
+            self.ratio = statistics.median(our / their for our, their in better)
         own = resource.getrusage(resource.RUSAGE_SELF).ru_maxrss / 1024 + 1
         self.memory = (
             runs["fast"].peak / runs["LEMON ns"].peak

@@ -51,13 +51,14 @@ def cost_of(lines):
 
 
 class Run:
-    """The least processor seconds of some runs, the greatest peak memory in megabytes, and the
-    cost."""
+    """The processor seconds of some runs and the least of them, the greatest peak memory in
+    megabytes, and the cost."""
 
     cost_of = staticmethod(cost_of)
 
     def __init__(self):
         self.seconds, self.peak, self.cost = float("inf"), 0.0, None
+        self.each = []
 
     def again(self, command):
         with tempfile.TemporaryFile("w+") as out:
@@ -68,7 +69,8 @@ class Run:
                 sys.exit(f"{' '.join(command)} ended with status {process.returncode}")
             out.seek(0)
             self.cost = self.cost_of(out)
-        self.seconds = min(self.seconds, usage.ru_utime + usage.ru_stime)
+        self.each.append(usage.ru_utime + usage.ru_stime)
+        self.seconds = min(self.seconds, self.each[-1])
         self.peak = max(self.peak, usage.ru_maxrss / 1024)
 
 
