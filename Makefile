@@ -52,6 +52,7 @@ lint:
 	@scripts/documents.py check
 	@scripts/comments.py check
 	@scripts/words.py check
+	@scripts/speeds.py check
 	@scripts/pictures.py check
 	@scripts/allocations.py
 	@python3 python/tests/plans.py check
