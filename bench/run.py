@@ -9,8 +9,8 @@ PART
   fast      solves nets of fifteen families and of rising size by the engine `fast`, beside the
             better of LEMON's network simplex and cost scaling, as whole processes with their peak
             memory; prints a table of the medians of the ratios of runs in turn, for all `--seeds`,
-            from 2^16 nodes on for the first one; of these
-            `--families` and sizes, as `--exponents` of 2, if they are named (skipped without LEMON)
+            from 2^16 nodes on for the first one; of these `--families` and sizes, as `--exponents`
+            of 2, if they are named (skipped without LEMON)
   assign    solves assignments by the engine `sap`, beside dlib and LEMON, as whole processes; the
             script skips a missing library and says so
   check     judges such an answer for its instance

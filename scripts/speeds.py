@@ -103,7 +103,7 @@ SPEEDS = (
         r"Costs \| 20 \| 100 \| 200 \| 500 \|$",
         "",
         INTEGERS,
-        "ties; calls of small matrices",
+        "ties; calls of small matrices; `abs(i - j)` wasn't examined",
     ),
     Speed(
         "transport between 20 to 1,000 points",
