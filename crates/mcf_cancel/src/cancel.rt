@@ -1,6 +1,6 @@
 //! The plain engine.
 ghost use Rattle.std.specs.Prelude.{◌≡◌, ◌≤◌, IfOk, OnErr, ⊤};
-ghost use Rattle.mcf_network.specs.States.{IsFeasibleState};
+ghost use Rattle.mcf_network.specs.States.{IsFeasibleState, IsPseudoflow};
 ghost use Rattle.mcf_flows.specs.Network.{node_count};
 ghost use Rattle.mcf_engine.specs.NegativeCycles.{IsCancelled, IsNegativeCycle};
 ghost use Rattle.mcf_engine.specs.Outcomes.{AreStatePrices, IsLeastState, IsOutcome};
@@ -77,7 +77,8 @@ fn cancel_cycles<'n>(
 
 // Pushes as much as possible around a negative cycle.
 fn cancel_cycle(state: &mut State<'_>, walk: &[Rid])
-    requires { IsNegativeCycle state.old walk.now }
+    requires flow { IsPseudoflow state.old }
+    requires cycle { IsNegativeCycle state.old walk.now }
     ensures { IsCancelled state.old state.new walk.now }
 {
     let amount = room_along(state, walk);

@@ -145,7 +145,8 @@ impl PathSearch {
 
     /// Pushes as much as possible along the path to the last visited node.
     pub(crate) fn augment(&mut self, state: &mut State<'_>) -> Result<(), NoMemory>
-        requires { IsFound state.old self.old.visits.items }
+        requires flow { IsPseudoflow state.old }
+        requires found { IsFound state.old self.old.visits.items }
         ensures nodes { length self.new.reached ≡ length self.old.reached }
         ensures room { vec_capacity self.new.visits ≡ vec_capacity self.old.visits }
         ensures augmented { OnOk result (IsAugmented state.old state.new) }

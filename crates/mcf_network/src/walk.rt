@@ -27,14 +27,13 @@ pub fn room_along(state: &State<'_>, walk: &[Rid]) -> i128
 /// If they form a walk, this much surplus moves from its beginning to its end, and the cost of the
 /// state changes by the walk's cost per unit.
 pub fn push_along(state: &mut State<'_>, walk: &[Rid], amount: i128)
-    requires { CanPushAlong state.old walk.now amount }
+    requires flow { IsPseudoflow state.old }
+    requires can { CanPushAlong state.old walk.now amount }
     ensures value { state.new ≡ pushed_along state.old walk.now amount }
     ensures surpluses { (u w : ℕ) → IsWalk state.old.net u walk.now w → MovesSurplus state.old state.new u w amount }
     ensures cost { cost state.old.net.arcs state.new.amounts ≡ cost state.old.net.arcs state.old.amounts +ℤ walk_cost state.old.net walk.now *ℤ amount }
     ensures valid { IsPseudoflow state.new }
 {
-    // Called only for its clause: each amount lies between 0 and the width of its arc.
-    let _net = state.net();
     for r in walk {
         state.push(*r, amount);
     }

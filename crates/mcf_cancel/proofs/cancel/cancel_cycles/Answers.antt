@@ -12,8 +12,8 @@ returns-in-Prices-clause-shown c =
     let found = rw c.in-Prices.is at c.in_ok-prices.ensures.recovered in
     state_prices c.args.state.net c.cycles.state _ c.cycles.invariant found
 
-pub cancel_cycle-requires : goal.cancel_cycle-requires
-cancel_cycle-requires c =
+pub cancel_cycle-requires-clause-cycle : goal.cancel_cycle-requires-clause-cycle
+cancel_cycle-requires-clause-cycle c =
     rw c.as_slice.ensures.value (rw c.in-Cycle.is at c.in_ok-prices.ensures.recovered)
 
 pub cycles-smaller : goal.cycles-smaller

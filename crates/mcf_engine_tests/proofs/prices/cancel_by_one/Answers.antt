@@ -14,8 +14,8 @@ returns-in-Prices-clause-shown c =
     let found = rw c.in-Prices.is at c.in_ok-prices.ensures.recovered in
     state_prices c.args.state.net c.cycles.state _ c.cycles.invariant found
 
-pub push_along-requires : goal.push_along-requires
-push_along-requires c =
+pub push_along-requires-clause-can : goal.push_along-requires-clause-can
+push_along-requires-clause-can c =
     let cycle = rw c.in-Cycle.is at c.in_ok-prices.ensures.recovered in
     rw c.as_slice.ensures.value (cycle_by_one c.cycles.state _ cycle)
 

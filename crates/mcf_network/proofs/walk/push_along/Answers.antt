@@ -43,11 +43,11 @@ returns-clause-surpluses c u w walk v h =
     let e : c.loop-r.state ≡ pushed_along c.args.state.now c.args.walk.now c.args.amount =
     along_done c.loop-r.state c.args.state.now c.args.walk.now c.loop-r.r-index c.args.amount _
     (to_z-of_z w128 c.args.amount c.ranges.amount) c.loop-r-test.false c.loop-r.invariant.rest in
-    rw e (moves_along c.args.state.now c.args.walk.now c.args.amount u w c.loop-r.invariant.start c.requires walk v)
+    rw e (moves_along c.args.state.now c.args.walk.now c.args.amount u w c.loop-r.invariant.start c.requires.can walk v)
 
 pub returns-clause-cost : goal.returns-clause-cost
 returns-clause-cost c =
     let e : c.loop-r.state ≡ pushed_along c.args.state.now c.args.walk.now c.args.amount =
     along_done c.loop-r.state c.args.state.now c.args.walk.now c.loop-r.r-index c.args.amount _
     (to_z-of_z w128 c.args.amount c.ranges.amount) c.loop-r-test.false c.loop-r.invariant.rest in
-    rw e (cost_along c.args.state.now c.args.walk.now c.args.amount c.loop-r.invariant.start c.requires)
+    rw e (cost_along c.args.state.now c.args.walk.now c.args.amount c.loop-r.invariant.start c.requires.can)
