@@ -1,6 +1,6 @@
 //! Finds a feasible flow of a net, as `mcf_feas::feasible` does, in plain Rust. Each round pushes excess down the
-//! levels of the nodes, up to four times. A breadth-first search from all nodes with an excess then looks for a node
-//! with a deficit, and the round ends with an augmentation along the path to that node.
+//! levels of the nodes. A breadth-first search from all nodes with an excess then looks for a node with a deficit, and
+//! the round ends with an augmentation along the path to that node.
 #![allow(dead_code)]
 #[path = "net.rs"]
 pub mod net;
@@ -112,9 +112,6 @@ impl Search {
     }
 }
 
-const PASSES: u32 = 4;
-const SHALLOW: u32 = 16;
-
 /// The level of each node, and the queue of active nodes.
 struct Preflow {
     levels: Vec<u32>,
@@ -126,43 +123,27 @@ impl Preflow {
         Preflow { levels: vec![0; nodes], queue: VecDeque::with_capacity(nodes) }
     }
 
-    /// Pushes excess down the levels. Repeats this as long as each time at most half of the nodes with an excess keep
-    /// one.
-    fn round(&mut self, state: &mut State) {
-        let mut before = u32::MAX;
-        for _ in 0..PASSES {
-            let senders = self.start(state);
-            if senders == 0 || senders > before / 2 {
-                return;
-            }
-            before = senders;
-            self.pass(state, senders);
-        }
-    }
-
     /// Finds each node's distance to the nodes with a deficit, then visits active nodes, first in, first out. Ends when
-    /// the queue is empty or after as many visits as there are nodes; a lift counts as four visits.
-    fn pass(&mut self, state: &mut State, senders: u32) {
-        self.set_levels(state, senders);
+    /// the queue is empty or after as many visits as there are nodes.
+    fn round(&mut self, state: &mut State) {
+        self.set_levels(state);
         self.start(state);
-        let mut budget = state.net.node_count();
-        while budget > 0 {
+        for _ in 0..state.net.node_count() {
             let Some(node) = self.queue.pop_front() else {
                 return;
             };
-            budget = budget.saturating_sub(self.visit(state, node));
+            self.visit(state, node);
         }
     }
 
-    fn start(&mut self, state: &State) -> u32 {
+    fn start(&mut self, state: &State) {
         self.queue.clear();
         for node in 1..=state.net.node_count() {
             self.wake(state, node);
         }
-        self.queue.len() as u32
     }
 
-    fn set_levels(&mut self, state: &State, senders: u32) {
+    fn set_levels(&mut self, state: &State) {
         self.queue.clear();
         let far = state.net.node_count();
         for node in 1..=far {
@@ -172,23 +153,14 @@ impl Preflow {
                 self.queue.push_back(node);
             }
         }
-        let top = self.search_back(state, senders);
-        for level in &mut self.levels {
-            *level = (*level).min(top);
-        }
+        self.search_back(state);
     }
 
-    /// Searches backward from the queue until all of the nodes with an excess (`senders` of them) have a level, or three
-    /// quarters have a low one. Returns the last level, or the number of nodes if the queue runs empty.
-    fn search_back(&mut self, state: &State, senders: u32) -> u32 {
+    /// Searches backward from the queue.
+    fn search_back(&mut self, state: &State) {
         let far = state.net.node_count();
-        let mut sought = senders;
-        let mut level = 1;
-        while sought > 0 && (level > SHALLOW || sought > senders / 4) {
-            let Some(node) = self.queue.pop_front() else {
-                return far;
-            };
-            level = self.levels[node as usize - 1] + 1;
+        while let Some(node) = self.queue.pop_front() {
+            let level = self.levels[node as usize - 1] + 1;
             for along in state.net.leaving(node) {
                 if !along.back && state.amounts[along.arc as usize] == 0 {
                     continue;
@@ -199,10 +171,8 @@ impl Preflow {
                 }
                 self.levels[from as usize - 1] = level;
                 self.queue.push_back(from);
-                sought -= u32::from(state.surplus(from) > 0);
             }
         }
-        level
     }
 
     fn wake(&mut self, state: &State, node: u32) {
@@ -212,7 +182,7 @@ impl Preflow {
     }
 
     /// Pushes a node's excess to lower nodes, and lifts the node if some is left.
-    fn visit(&mut self, state: &mut State, node: u32) -> u32 {
+    fn visit(&mut self, state: &mut State, node: u32) {
         let net = state.net;
         let level = self.levels[node as usize - 1];
         let mut least = net.node_count();
@@ -223,7 +193,7 @@ impl Preflow {
                 continue;
             }
             if self.push_share(state, *along) {
-                return 1;
+                return;
             }
             least = least.min(self.open_level(state, *along));
         }
@@ -231,7 +201,6 @@ impl Preflow {
         if least + 1 < net.node_count() {
             self.queue.push_back(node);
         }
-        4
     }
 
     fn open_level(&self, state: &State, along: Rid) -> u32 {

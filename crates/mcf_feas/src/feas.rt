@@ -31,12 +31,11 @@ pub enum Feas<'n> {
 /// sum is below 0. If they sum to 0, the set blocks by `Send`.
 ///
 /// It pushes surplus down the levels of the nodes, first in, first out (Goldberg and Tarjan; Ahuja,
-/// Magnanti and Orlin, Network Flows, section 7.7), in rounds. A level is at most the distance of a
-/// node from the nodes that take; if these are near, the search stops when three quarters of the
-/// nodes with a surplus have a level, and the others are relabelled when they are visited. After
-/// each round a breadth-first search from the nodes with a surplus shows that none is left, or that
-/// none can leave the nodes it reached, or finds an augmenting path (chapter 6). The time of a
-/// round is mostly linear in the nodes and arcs, and so is the memory.
+/// Magnanti and Orlin, Network Flows, section 7.7), in rounds. When a round begins, the level of a
+/// node is its distance from the nodes that take. After each round a breadth-first search from the
+/// nodes with a surplus shows that none is left, or that none can leave the nodes it reached, or
+/// finds an augmenting path (chapter 6). The time of a round is mostly linear in the nodes and
+/// arcs, and so is the memory.
 ///
 /// # Errors
 ///

@@ -12,7 +12,6 @@ mod laws;
 mod levels;
 mod path_search;
 mod preflow;
-mod tuning;
 mod waiting;
 
 pub use feas::{Feas, feasible};

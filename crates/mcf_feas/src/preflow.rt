@@ -1,100 +1,68 @@
 //! Pushes of surplus from node to node, down the levels.
-ghost use Rattle.std.specs.Prelude.{◌≡◌, ◌≤◌, ◌≤ℤ◌, ◌<ℤ◌, length, pos};
+ghost use Rattle.std.specs.Prelude.{◌≡◌, ◌≤ℤ◌, ◌<ℤ◌, length, pos};
 ghost use Rattle.mcf_flows.specs.Network.{IsArcNumber, IsNode, node_count};
 ghost use Rattle.mcf_network.specs.Residual.{tail};
-ghost use Rattle.mcf_network.specs.States.{IsPseudoflow, room_of, surplus_at};
+ghost use Rattle.mcf_network.specs.States.{room_of, surplus_at};
 ghost use Rattle.mcf_feas.specs.Private.Pushing.{IsPushedOn};
 
 use crate::levels::set_levels;
-use crate::tuning::{PASSES, RELABEL_COST};
 use crate::waiting::{next_waiting, wait};
 use mcf_network::{Rid, State};
 use mcf_text::{ArcId, NodeId};
 use std::collections::VecDeque;
 
-/// Pushes surplus down the levels, again and again as long as at most half of the nodes with a
-/// surplus are left each time.
+/// Sets the levels of the nodes, and then visits active nodes, first in, first out, until none is
+/// left, or as many were visited as there are nodes.
 pub(crate) fn round(state: &mut State<'_>, levels: &mut [u32], queue: &mut VecDeque<NodeId>)
-    requires valid { IsPseudoflow state.old }
-    requires levels { length levels.old ≡ node_count state.old.net }
-    ensures { IsPushedOn state.old state.new }
-{
-    let mut before = u32::MAX;
-    'passes: for _ in 0..PASSES {
-        let senders = start(state, queue);
-        if senders == 0 || senders > before / 2 {
-            return;
-        }
-        before = senders;
-        pass(state, levels, queue, senders);
-    }
-}
-
-// Sets the levels of the nodes, and then visits active nodes, first in, first out, until none is
-// left, or as many were visited as there are nodes. The given number of nodes have a surplus.
-fn pass(state: &mut State<'_>, levels: &mut [u32], queue: &mut VecDeque<NodeId>, senders: u32)
     requires { length levels.old ≡ node_count state.old.net }
     ensures { IsPushedOn state.old state.new }
 {
-    set_levels(state, levels, queue, senders);
+    set_levels(state, levels, queue);
     start(state, queue);
     visit_all(state, levels, queue);
 }
 
-// Queues each node with a surplus, and no other. Returns their number.
-fn start(state: &State<'_>, queue: &mut VecDeque<NodeId>) -> u32 {
+// Queues each node with a surplus, and no other.
+fn start(state: &State<'_>, queue: &mut VecDeque<NodeId>) {
     queue.clear();
-    let mut senders = 0u32;
     'nodes: for number in 0..state.net().node_count() {
         let node = NodeId::at(number);
         if state.surplus(node) > 0 {
-            senders = senders.saturating_add(1);
             wait(queue, node);
         }
     }
-    senders
 }
 
-// Visits active nodes until none is left, or as many were visited as there are nodes; one that
-// relabels its node counts as several.
+// Visits active nodes until none is left, or as many were visited as there are nodes.
 fn visit_all(state: &mut State<'_>, levels: &mut [u32], queue: &mut VecDeque<NodeId>)
     requires { length levels.old ≡ node_count state.old.net }
     ensures { IsPushedOn state.old state.new }
 {
-    let mut budget = state.net().node_count();
-    'visits: while budget > 0 {
+    'visits: for _ in 0..state.net().node_count() {
         let Some(node) = next_waiting(state, queue) else {
             return;
         };
-        let cost = visit(state, levels, queue, node);
-        budget = budget.saturating_sub(cost);
+        visit(state, levels, queue, node);
     }
 }
 
 // Pushes the surplus of a node to lower ones. If they can't take all of it, relabels the node to
 // one level above the lowest node to which it can push, and queues it, unless that is above every
-// level. Returns as how many visits this counts.
-fn visit(
-    state: &mut State<'_>,
-    levels: &mut [u32],
-    queue: &mut VecDeque<NodeId>,
-    node: NodeId,
-) -> u32
+// level.
+fn visit(state: &mut State<'_>, levels: &mut [u32], queue: &mut VecDeque<NodeId>, node: NodeId)
     requires levels { length levels.old ≡ node_count state.old.net }
     requires node { IsNode (node_count state.old.net) node }
-    ensures cost { 1 ≤ result }
-    ensures pushed { IsPushedOn state.old state.new }
+    ensures { IsPushedOn state.old state.new }
 {
     let far = state.net().node_count();
     let Some(least) = push_down(state, levels, queue, node) else {
-        return 1;
+        return;
     };
     let level = least.saturating_add(1);
     levels[node.place()] = level;
     if level < far {
         wait(queue, node);
     }
-    RELABEL_COST
 }
 
 // Pushes the surplus of a node along its residual arcs to lower nodes. If some is left, returns the

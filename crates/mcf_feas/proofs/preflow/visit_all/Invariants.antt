@@ -3,6 +3,3 @@ use Rattle.mcf_feas.proofs.preflow.visit_all.Given as goal
 
 abbrev pub invariant-visits : goal.invariant-visits
 invariant-visits l = IsPushedOn l.initial.state l.state
-
-abbrev pub decreases-visits : goal.decreases-visits
-decreases-visits l = l.budget
