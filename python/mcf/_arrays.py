@@ -9,7 +9,7 @@ from typing import Any, List, Mapping, Optional, Sequence, Tuple, Union
 
 from ._library import BLOCKED, INVALID_INPUT, ArcArrays, Choice, Verdict
 from ._limits import Arc, Limits
-from ._numbers import listed
+from ._numbers import listed, refuse_masked
 from ._solving import NODE, Flow, as_node, blocked_by, flow_choice, refused_by, solve_rows
 from ._types import Column, Numbers
 
@@ -68,6 +68,7 @@ class Kind:
     object like one; as array.array if a column is a buffer; and otherwise as lists."""
 
     def __init__(self, columns: Sequence[Any]):
+        refuse_masked(*columns)
         is_numpy = any(hasattr(column, "__array__") for column in columns)
         self.numpy: Any = sys.modules.get("numpy") if is_numpy else None
         self.is_buffer = any(isinstance(column, (array, memoryview)) for column in columns)

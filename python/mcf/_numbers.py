@@ -12,6 +12,14 @@ def is_float(value: Any) -> bool:
     return isinstance(value, float) or getattr(getattr(value, "dtype", None), "kind", "") == "f"
 
 
+def refuse_masked(*arrays: Any) -> None:
+    """ValueError if an entry of a numpy array is masked: nothing says which number it is."""
+    for values in arrays:
+        mask: Any = getattr(values, "mask", None)
+        if hasattr(mask, "any") and mask.any():
+            raise ValueError("an entry is masked: say what it is, as by `filled(numpy.inf)`")
+
+
 def listed(values: Any) -> Any:
     """A numpy array as a list, in which a float of any width is the decimal that it prints as.
     Other iterables stay as they are."""

@@ -14,7 +14,7 @@ from ._library import (
     at,
     marked,
 )
-from ._numbers import is_float
+from ._numbers import is_float, refuse_masked
 from ._types import Matrix, Real
 from .transportation import cost_at, matrix_of, refused_cost, whole
 
@@ -135,6 +135,7 @@ def assign(
 def _read(costs: Any, maximize: bool) -> Costs:
     """The matrix of costs to minimize."""
     is_array = hasattr(costs, "__array__")
+    refuse_masked(costs)
     if is_array:
         import numpy
 

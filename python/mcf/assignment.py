@@ -21,7 +21,7 @@ from ._library import (
     choice_of,
 )
 from ._limits import COST
-from ._numbers import exact, is_float, limited, listed, scale_of
+from ._numbers import exact, is_float, limited, listed, refuse_masked, scale_of
 from ._solving import flow_choice, solve_whole
 from ._types import Matrix, Real
 
@@ -99,6 +99,7 @@ def linear_sum_assignment(
     >>> linear_sum_assignment([[4, 1, 3], [2, 0, 5], [3, 2, 2]])
     ([0, 1, 2], [1, 0, 2])
     """
+    refuse_masked(cost_matrix)
     if engine == "auto" and assign_small is not None:
         pair = assign_small(cost_matrix, maximize)
         if pair is not None:

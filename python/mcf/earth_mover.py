@@ -5,6 +5,7 @@ from typing import Any, Dict, List, NamedTuple, Tuple, Union
 
 from ._errors import NotAccepted
 from ._library import BLOCKED, FLOW, FORBIDDEN, INVALID_INPUT, Costs, DoubleTransportArrays
+from ._numbers import refuse_masked
 from .transportation import exact_cost, in_place, infeasible, total_of
 
 # Masses have at most so many bits in their unit, so that their sum fits 64.
@@ -203,6 +204,7 @@ def emd2(
     """
     import numpy
 
+    refuse_masked(b)
     b = numpy.asarray(b, dtype=float)
     if b.ndim == 2 and b.shape[1] != 1:
         options = (numItermax, log, return_matrix, center_dual, numThreads, check_marginals)
@@ -221,6 +223,7 @@ def _arguments(a: Any, b: Any, M: Any) -> Tuple[Any, Any, Any]:
     """Masses and costs as doubles, of shapes that fit."""
     import numpy
 
+    refuse_masked(a, b, M)
     a, b, M = numpy.asarray(a, dtype=float), numpy.asarray(b, dtype=float), numpy.asarray(M)
     if M.ndim != 2:
         raise ValueError("M isn't a matrix: %d dimensions" % M.ndim)

@@ -19,7 +19,7 @@ from ._library import (
     marked,
 )
 from ._limits import ARCS, COST
-from ._numbers import exact, is_float, limited
+from ._numbers import exact, is_float, limited, refuse_masked
 from ._solving import solve
 from ._types import Array, Matrix, Real
 
@@ -166,6 +166,7 @@ def transport(
       ..
     mcf.Infeasible: 3 node(s) must send 2 and can send 0
     """
+    refuse_masked(costs, supplies, demands)
     given_supplies, given_demands = _masses(supplies, 0), _masses(demands, len(supplies))
     matrix, numpy = matrix_of(costs, len(given_supplies), len(given_demands))
     problem = arrays_of(matrix)(matrix, given_supplies, given_demands)

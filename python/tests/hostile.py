@@ -528,6 +528,26 @@ class Arrays(unittest.TestCase):
             self.assertEqual(mcf_sum(base.T), best)
             self.assertEqual(mcf_sum(np.asmatrix(base)), best)
 
+    def test_masked_entries(self):
+        table = np.ma.masked_equal([[1, 7], [2, 3]], 7)
+        ones = np.ma.masked_array([1, 1])
+        supplies = np.ma.masked_array([1, -1], mask=[True, False])
+        calls = [
+            (mcf.linear_sum_assignment, table),
+            (mcf.assign, table),
+            (mcf.transport, table, [1, 1], [1, 1]),
+            (mcf.transport, table.data, ones, np.ma.masked_array([1, 1], mask=[False, True])),
+            (mcf.emd, [0.5, 0.5], [0.5, 0.5], table),
+            (mcf.emd2, [0.5, 0.5], np.ma.masked_equal([0.5, 0.5], 0.5), table.data),
+            (mcf.solve_arrays, supplies, [0], [1], [5], [3]),
+        ]
+        for call, *words in calls:
+            with self.assertRaisesRegex(ValueError, "an entry is masked", msg=call):
+                call(*words)
+        free = np.ma.masked_array(table.data)
+        self.assertEqual(mcf_sum(free), 4)
+        self.assertEqual(mcf.transport(free, ones, ones).cost, 4)
+
     def test_lists_of_numbers_of_numpy(self):
         chance = random.Random(7)
         for kind in ("i1", "u1", "i2", "u2", "i4", "u4", "i8", "u8", "f4", "f8"):
