@@ -69,7 +69,7 @@ impl Update<'_> {
             if surplus > 0 {
                 active = active.wrapping_add(1);
             } else if surplus < 0 {
-                self.buckets.lists().raise(node, most);
+                self.buckets.raise(node, most);
             }
         }
         active
@@ -104,31 +104,29 @@ impl Update<'_> {
     // rounded up.
     #[inline(always)]
     fn spread(&mut self, node: u32, greatest: u32, way: Way) {
-        let scanned = self.star.scanned();
-        let mut lists = self.buckets.lists();
-        let price = scanned.price(node);
-        let rank = i64::from(lists.rank(node));
+        let price = self.star.price(node);
+        let rank = i64::from(self.buckets.rank(node));
         let (mark, least, sign) = match way {
             Way::Heads => (FULL, 0, 1),
             Way::Tails => (EMPTY, 1, -1),
         };
         'places: for i in self.star.first(node)..self.star.end(node) {
-            let place = scanned.place(i);
+            let place = self.star.place(i);
             if place.head & mark != 0 {
                 continue;
             }
             let other = place.node();
-            let old = lists.rank(other);
+            let old = self.buckets.rank(other);
             if old >= greatest {
                 continue;
             }
-            let fall = price.wrapping_sub(scanned.price(other));
-            let along = scanned.cost(i, place).wrapping_add(fall);
+            let fall = price.wrapping_sub(self.star.price(other));
+            let along = self.star.cost(i, place).wrapping_add(fall);
             let slacks = self.star.slacks(along.wrapping_mul(sign));
             let new = rank.wrapping_sub(slacks).wrapping_sub(1);
             let new = u32::try_from(new).unwrap_or(0).min(greatest).max(least);
             if new > old {
-                lists.raise(other, new);
+                self.buckets.raise(other, new);
             }
         }
     }

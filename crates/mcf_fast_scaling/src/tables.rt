@@ -61,49 +61,6 @@ pub(crate) struct Buckets {
     befores: Vec<u32>,
 }
 
-/// The lists of the buckets, which a loop borrows once.
-#[derive(Drop)]
-pub(crate) struct Lists<'a> {
-    ranks: &'a mut [u32],
-    heads: &'a mut [u32],
-    nexts: &'a mut [u32],
-    befores: &'a mut [u32],
-}
-
-impl Lists<'_> {
-    /// The rank of a node.
-    pub(crate) fn rank(&self, node: u32) -> u32 {
-        at(self.ranks, node, 0)
-    }
-
-    /// Gives a node a greater rank, and so another bucket.
-    #[inline(always)]
-    pub(crate) fn raise(&mut self, node: u32, rank: u32) {
-        let old = self.rank(node);
-        if old > 0 {
-            self.unlink(node, old);
-        }
-        let next = at(self.heads, rank, NOWHERE);
-        put(self.nexts, node, next);
-        put(self.befores, next, node);
-        put(self.heads, rank, node);
-        put(self.ranks, node, rank);
-    }
-
-    // Removes a node from the bucket of its rank.
-    #[inline(always)]
-    fn unlink(&mut self, node: u32, rank: u32) {
-        let next = at(self.nexts, node, NOWHERE);
-        let before = at(self.befores, node, NOWHERE);
-        if at(self.heads, rank, NOWHERE) == node {
-            put(self.heads, rank, next);
-        } else {
-            put(self.nexts, before, next);
-        }
-        put(self.befores, next, before);
-    }
-}
-
 impl Buckets {
     /// The empty buckets for this many nodes: one per node, but at least the least number.
     pub(crate) fn start(alloc: Global, nodes: u32) -> Result<Buckets, NoMemory> {
@@ -132,15 +89,30 @@ impl Buckets {
         at(&self.ranks, node, 0)
     }
 
-    /// The lists.
+    /// Gives a node a greater rank, and so another bucket.
     #[inline(always)]
-    pub(crate) fn lists(&mut self) -> Lists<'_> {
-        Lists {
-            ranks: &mut self.ranks,
-            heads: &mut self.heads,
-            nexts: &mut self.nexts,
-            befores: &mut self.befores,
+    pub(crate) fn raise(&mut self, node: u32, rank: u32) {
+        let old = self.rank(node);
+        if old > 0 {
+            self.unlink(node, old);
         }
+        let next = at(&self.heads, rank, NOWHERE);
+        put(&mut self.nexts, node, next);
+        put(&mut self.befores, next, node);
+        put(&mut self.heads, rank, node);
+        put(&mut self.ranks, node, rank);
+    }
+
+    // Removes a node from the bucket of its rank.
+    fn unlink(&mut self, node: u32, rank: u32) {
+        let next = at(&self.nexts, node, NOWHERE);
+        let before = at(&self.befores, node, NOWHERE);
+        if at(&self.heads, rank, NOWHERE) == node {
+            put(&mut self.heads, rank, next);
+        } else {
+            put(&mut self.nexts, before, next);
+        }
+        put(&mut self.befores, next, before);
     }
 
     /// Takes a node from the bucket of a rank, if there is one. It keeps its rank.
