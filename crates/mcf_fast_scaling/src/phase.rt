@@ -3,7 +3,7 @@
 use crate::spreading::Update;
 use crate::star::{NOTHING, Star};
 use crate::tables::{Buckets, Queue};
-use crate::tuning::{MOST_ARCS, MOST_NODES};
+use crate::tuning::{LATE_FIFTHS, MOST_ARCS, MOST_NODES};
 use mcf_columns::{NOWHERE, at, put};
 
 // A path from an active node: its residual arcs, by their places, and the nodes that they leave and
@@ -160,7 +160,7 @@ impl Phase<'_> {
 
     // Whether an update of all prices is due.
     fn is_late(&self) -> bool {
-        self.relabels > self.star.node_count() / 5 * 2
+        self.relabels > self.star.node_count() / 5 * LATE_FIFTHS
     }
 
     // Updates all prices. Each node begins with its first arc then.
