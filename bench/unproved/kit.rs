@@ -244,6 +244,48 @@ pub mod itoa {
 
 pub mod std {
     pub use ::std::{cmp, io, mem};
+    // Four numbers at a time, one after another: plain `rustc` has no `std::simd`.
+    pub mod simd {
+        pub mod prelude {
+            use ::std::array::from_fn;
+            #[allow(non_camel_case_types)]
+            #[derive(Clone, Copy)]
+            pub struct i64x4([i64; 4]);
+            #[derive(Clone, Copy)]
+            pub struct Mask([bool; 4]);
+            impl i64x4 {
+                pub fn from_slice(numbers: &[i64]) -> i64x4 {
+                    i64x4(from_fn(|i| numbers[i]))
+                }
+                pub fn splat(number: i64) -> i64x4 {
+                    i64x4([number; 4])
+                }
+                pub fn simd_min(self, other: i64x4) -> i64x4 {
+                    i64x4(from_fn(|i| self.0[i].min(other.0[i])))
+                }
+                pub fn simd_lt(self, other: i64x4) -> Mask {
+                    Mask(from_fn(|i| self.0[i] < other.0[i]))
+                }
+                pub fn reduce_min(self) -> i64 {
+                    self.0[0].min(self.0[1]).min(self.0[2]).min(self.0[3])
+                }
+                pub fn copy_to_slice(self, numbers: &mut [i64]) {
+                    numbers[..4].copy_from_slice(&self.0);
+                }
+            }
+            impl Mask {
+                pub fn select(self, yes: i64x4, no: i64x4) -> i64x4 {
+                    i64x4(from_fn(|i| if self.0[i] { yes.0[i] } else { no.0[i] }))
+                }
+            }
+            impl ::std::ops::Sub for i64x4 {
+                type Output = i64x4;
+                fn sub(self, other: i64x4) -> i64x4 {
+                    i64x4(from_fn(|i| self.0[i].wrapping_sub(other.0[i])))
+                }
+            }
+        }
+    }
     pub mod test {
         // The runtime of a test, and why one fails.
         pub struct HostRuntime;
