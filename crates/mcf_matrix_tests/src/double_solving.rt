@@ -23,7 +23,7 @@ enum Kind {
 // Rows, columns, entries, what is answered, and the one least matching.
 type Worked = (usize, usize, &'static [u64], Kind, &'static [u32]);
 
-static WORKED: [Worked; 9] = [
+static WORKED: [Worked; 21] = [
     // A matrix whose costs are whole.
     (
         2,
@@ -150,6 +150,135 @@ static WORKED: [Worked; 9] = [
         Kind::Least,
         &[1, 0],
     ),
+    // No rows, and no columns.
+    (0, 2, &[], Kind::Least, &[]),
+    (2, 0, &[], Kind::Least, &[NO, NO]),
+    // A row, and a column, of 1, 2^-60 and 3.
+    (
+        1,
+        3,
+        &[
+            0x3FF0_0000_0000_0000,
+            0x3C30_0000_0000_0000,
+            0x4008_0000_0000_0000,
+        ],
+        Kind::Least,
+        &[1],
+    ),
+    (
+        3,
+        1,
+        &[
+            0x3FF0_0000_0000_0000,
+            0x3C30_0000_0000_0000,
+            0x4008_0000_0000_0000,
+        ],
+        Kind::Least,
+        &[NO, 0, NO],
+    ),
+    // More rows than columns, and no matching.
+    (
+        3,
+        2,
+        &[
+            INFINITY,
+            0x3FB9_9999_9999_999A,
+            INFINITY,
+            0x3FD3_3333_3333_3333,
+            INFINITY,
+            0x3FD3_3333_3333_3333,
+        ],
+        Kind::Infeasible,
+        &[],
+    ),
+    // Bits from 1 down to 2^-117, 118 in all, and to 2^-118.
+    (
+        2,
+        2,
+        &[
+            0x3FF0_0000_0000_0000,
+            0x38A0_0000_0000_0000,
+            0x38A0_0000_0000_0000,
+            0x3FF0_0000_0000_0000,
+        ],
+        Kind::Least,
+        &[1, 0],
+    ),
+    (
+        2,
+        2,
+        &[
+            0x3FF0_0000_0000_0000,
+            0x3890_0000_0000_0000,
+            0x3890_0000_0000_0000,
+            0x3FF0_0000_0000_0000,
+        ],
+        Kind::Rounded,
+        &[1, 0],
+    ),
+    // Entries of 0, whose bits count nowhere.
+    (
+        2,
+        2,
+        &[
+            0,
+            0x3FB9_9999_9999_999A,
+            0x3FB9_9999_9999_999A,
+            0x3FD3_3333_3333_3333,
+        ],
+        Kind::Least,
+        &[1, 0],
+    ),
+    (
+        2,
+        2,
+        &[
+            0x4008_0000_0000_0000,
+            0x3FF0_0000_0000_0000,
+            0x3FF0_0000_0000_0000,
+            0,
+        ],
+        Kind::Least,
+        &[1, 0],
+    ),
+    // 1 and the next double, beside 2^-65 and the second double after it.
+    (
+        2,
+        2,
+        &[
+            0x3FF0_0000_0000_0000,
+            0x3FF0_0000_0000_0001,
+            0x3BE0_0000_0000_0002,
+            0x3BE0_0000_0000_0000,
+        ],
+        Kind::Least,
+        &[0, 1],
+    ),
+    // The greatest double, beside 2^1022, and beside 1.
+    (
+        2,
+        2,
+        &[
+            0x7FEF_FFFF_FFFF_FFFF,
+            0x7FD0_0000_0000_0000,
+            0x7FD0_0000_0000_0000,
+            0x7FEF_FFFF_FFFF_FFFF,
+        ],
+        Kind::Least,
+        &[1, 0],
+    ),
+    (
+        2,
+        2,
+        &[
+            0x7FEF_FFFF_FFFF_FFFF,
+            0x3FF0_0000_0000_0000,
+            0x3FF0_0000_0000_0000,
+            0x7FEF_FFFF_FFFF_FFFF,
+        ],
+        Kind::Rounded,
+        &[1, 0],
+    ),
 ];
 
 // What is answered, and the matching.
@@ -186,7 +315,7 @@ fn doubles_are_assigned(rt: HostRuntime) -> Result<(), Fail> {
             count = count.wrapping_add(1);
         }
     }
-    assert_eq!(rt; count, 9);
+    assert_eq!(rt; count, 21);
     Ok(())
 }
 

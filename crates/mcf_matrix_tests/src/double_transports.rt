@@ -41,7 +41,7 @@ type Worked = (
     &'static [Shipment],
 );
 
-static WORKED: [Worked; 8] = [
+static WORKED: [Worked; 10] = [
     // Plans that differ by one unit in the last place.
     (
         &[ONE, LATER, ONE, AFTER],
@@ -149,6 +149,9 @@ static WORKED: [Worked; 8] = [
         Kind::Infeasible,
         &[],
     ),
+    // No columns.
+    (&[], &[0, 0], &[], Kind::Least, &[]),
+    (&[], &[3, 0], &[], Kind::Infeasible, &[]),
     // Masses of another length.
     (&[TENTH, ONE, ONE, ONE], &[3, 4], &[7], Kind::NotShown, &[]),
     // Bits too far apart.
@@ -218,7 +221,7 @@ fn plans_of_doubles_are_found(rt: HostRuntime) -> Result<(), Fail> {
             count = count.wrapping_add(1);
         }
     }
-    assert_eq!(rt; count, 8);
+    assert_eq!(rt; count, 10);
     Ok(())
 }
 

@@ -18,6 +18,8 @@ mod doubles;
 #[cfg(test)]
 mod matrices;
 #[cfg(test)]
+mod scattered;
+#[cfg(test)]
 mod searching;
 #[cfg(test)]
 mod solving;
