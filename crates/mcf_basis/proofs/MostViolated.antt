@@ -5,7 +5,7 @@ use Rattle.mcf_flows.specs.Network.{IsArcNumber, node_count}
 use Rattle.mcf_basis.specs.Pivots.{IsEligible}
 use Rattle.mcf_basis.specs.Private.Layouts.{Layout, IsLaidOut, basis_in, no_offer, offer_at}
 use Rattle.mcf_basis.specs.Private.Offered.{CanCompare, CanCompareIn, HasOwnEnds, HasPricedEnds, IsFirstLeast, IsLeastOffer, reduced_of}
-use Rattle.mcf_basis.specs.Violations.{IsMostViolated, IsMostViolatedPick, violation}
+use Rattle.mcf_basis.specs.Violations.{HasNoneOf, IsFrom, IsMostViolated, violation}
 use Rattle.mcf_basis.proofs.Offers.{IsReadOffer, own_nodes_of, read_offer}
 use Rattle.mcf_basis.proofs.Views.{price_fits, price_spread}
 
@@ -56,20 +56,19 @@ module _ (l : Layout) (ok : IsLaidOut l) where
           own = λ i from to. (at_place i (omega arith, omega (arith, to))).own;
         }
 
-    pub most_violated_some : (i : ℕ) → IsFirstLeast l.table.prices l.offers (first - 1) (end - 1) i → IsMostViolated (basis_in l) first end (i + 1)
+    pub most_violated_some : (i : ℕ) → IsFirstLeast l.table.prices l.offers (first - 1) (end - 1) i → IsMostViolated (basis_in l) (IsFrom first end) (i + 1)
     most_violated_some i found =
         let here = at_place i (omega arith, omega (arith, found.high)) in
         let el : IsEligible (basis_in l) (i + 1) = here.eligible found.gains in
         record {
-          low = omega (arith, found.low);
-          high = omega (arith, found.high);
+          one_of = (omega (arith, found.low), omega (arith, found.high));
           eligible = el;
-          greatest = λ j above below other. (let there = (placed j (omega arith, omega arith)).size other in
-              let le = found.least (j - 1) (omega arith) (omega arith) in omega (arith, ints, here.size el, there, le));
-          first_one = λ j above below other. (let there = (placed j (omega arith, omega (arith, below, found.high))).size other in
-              let lt = found.first (j - 1) (omega arith) (omega arith) in omega (arith, ints, here.size el, there, lt));
+          greatest = λ j p other. (let there = (placed j other.arc).size other in
+              let le = found.least (j - 1) (omega (arith, p.0)) (omega (arith, p.0, p.1, low)) in omega (arith, ints, here.size el, there, le));
+          first_one = λ j p below other. (let there = (placed j other.arc).size other in
+              let lt = found.first (j - 1) (omega (arith, p.0)) (omega (arith, p.0, below, low)) in omega (arith, ints, here.size el, there, lt));
         }
 
-    pub most_violated_none : IsLeastOffer l.table.prices l.offers (first - 1) (end - 1) None → IsMostViolatedPick (basis_in l) first end None
-    most_violated_none none = λ j above below other. (let neg = (placed j (omega arith, omega arith)).only other in
-        let ge = none (j - 1) (omega arith) (omega arith) in omega (arith, ints, neg, ge))
+    pub most_violated_none : IsLeastOffer l.table.prices l.offers (first - 1) (end - 1) None → HasNoneOf (basis_in l) (IsFrom first end)
+    most_violated_none none = λ j p other. (let neg = (placed j other.arc).only other in
+        let ge = none (j - 1) (omega (arith, p.0)) (omega (arith, p.0, p.1, low)) in omega (arith, ints, neg, ge))

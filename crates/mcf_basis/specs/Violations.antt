@@ -13,20 +13,23 @@ HasNoEligible b = (k : ℕ) → ¬ IsEligible b k
 abbrev pub violation : TreeStructure → ℕ → ℕ
 violation b k = unsigned_abs (reduced_at b k)
 
--- none of the arcs from first up to but not including end can enter
-abbrev pub HasNoneIn : TreeStructure → ℕ → ℕ → Type 0
-HasNoneIn b first end = (j : ℕ) → first ≤ j → j < end → ¬ IsEligible b j
+-- none of these arcs is eligible
+abbrev pub HasNoneOf : TreeStructure → (ℕ → Type 0) → Type 0
+HasNoneOf b Are = (k : ℕ) → Are k → ¬ IsEligible b k
 
 -- of these arcs the eligible one of greatest violation, and of those of the same violation the one
 -- of least number
-pub record IsMostViolated (b : TreeStructure) (first end k : ℕ) : Type 0 where
-  pub low : first ≤ k
-  pub high : k < end
+pub record IsMostViolated (b : TreeStructure) (Are : ℕ → Type 0) (k : ℕ) : Type 0 where
+  pub one_of : Are k
   pub eligible : IsEligible b k
-  pub greatest : (j : ℕ) → first ≤ j → j < end → IsEligible b j → violation b j ≤ violation b k
-  pub first_one : (j : ℕ) → first ≤ j → j < k → IsEligible b j → violation b j < violation b k
+  pub greatest : (j : ℕ) → Are j → IsEligible b j → violation b j ≤ violation b k
+  pub first_one : (j : ℕ) → Are j → j < k → IsEligible b j → violation b j < violation b k
 
--- the most violated of these arcs, if one is eligible
-abbrev pub IsMostViolatedPick : TreeStructure → ℕ → ℕ → Option ℕ → Type 0
-IsMostViolatedPick b first end (Some k) = IsMostViolated b first end k
-IsMostViolatedPick b first end None = HasNoneIn b first end
+-- what these arcs give: the most violated one, or none if none is eligible
+abbrev pub IsPickOf : TreeStructure → (ℕ → Type 0) → Option ℕ → Type 0
+IsPickOf b Are (Some k) = IsMostViolated b Are k
+IsPickOf b Are None = HasNoneOf b Are
+
+-- an arc from first up to but not including end
+abbrev pub IsFrom : ℕ → ℕ → ℕ → Type 0
+IsFrom first end k = (first ≤ k) × (k < end)

@@ -5,7 +5,7 @@ ghost use Rattle.mcf_flows.specs.WellFormed.{IsUpTo};
 ghost use Rattle.mcf_basis.specs.Bases.{IsBasis};
 ghost use Rattle.mcf_basis.specs.Pivots.{IsEligible};
 ghost use Rattle.mcf_basis.specs.Structures.{price_at, reduced_at, price_limit, reduced_limit};
-ghost use Rattle.mcf_basis.specs.Violations.{IsMostViolatedPick, violation};
+ghost use Rattle.mcf_basis.specs.Violations.{IsFrom, IsPickOf, violation};
 
 use crate::offer::ArcOffer;
 use crate::price_table::PriceTable;
@@ -149,7 +149,7 @@ impl<'n> Basis<'n> {
         requires low { 1 ≤ first }
         requires order { first ≤ end }
         requires high { end ≤ length self.now.net.arcs + 1 }
-        ensures value { IsMostViolatedPick self.now first end result }
+        ensures value { IsPickOf self.now (IsFrom first end) result }
         ensures basis { IsBasis self.now }
     {
         let begin = first as usize - 1;

@@ -8,9 +8,9 @@ use Rattle.std.proofs.lemmas.Grind.{div_ceil_times}
 use Rattle.std.proofs.lemmas.Nat.{mod-mul-add, mod_below, mul-le}
 use Rattle.mcf_basis.specs.Pivots.{IsEligible}
 use Rattle.mcf_basis.specs.Structures.{TreeStructure}
-use Rattle.mcf_basis.specs.Violations.{HasNoEligible, IsMostViolated, IsMostViolatedPick, violation}
+use Rattle.mcf_basis.specs.Violations.{HasNoEligible, HasNoneOf, IsFrom, IsMostViolated, IsPickOf, violation}
 use Rattle.mcf_simplex.specs.Blocks.{IsMoreViolated, block_end}
-use Rattle.mcf_simplex.specs.Following.{HasNoneOf, IsFirstBlock, IsFoundOrNone, IsInBlockOf, IsMostViolatedOf, IsPickOf, place_of, start_place}
+use Rattle.mcf_simplex.specs.Following.{IsFirstBlock, IsFoundOrNone, IsInBlockOf, place_of, start_place}
 use Rattle.mcf_simplex.specs.Private.Pieces.{IsFirstBlockOrNone}
 
 -- two parts, one before the other, that have all eligible ones of some arcs
@@ -19,7 +19,7 @@ module _ (b : TreeStructure) (One Two Whole : ℕ → Type 0) (one_in : (k : ℕ
   none_of_both : HasNoneOf b One → HasNoneOf b Two → HasNoneOf b Whole
   none_of_both e l = λ k all el. elim (split k all el) [ inl o ↦ e k o el | inr t ↦ l k t el ]
 
-  late_alone : (j : ℕ) → HasNoneOf b One → IsMostViolatedOf b Two j → IsMostViolatedOf b Whole j
+  late_alone : (j : ℕ) → HasNoneOf b One → IsMostViolated b Two j → IsMostViolated b Whole j
   late_alone j e l =
       record {
         one_of = two_in j l.one_of;
@@ -28,7 +28,7 @@ module _ (b : TreeStructure) (One Two Whole : ℕ → Type 0) (one_in : (k : ℕ
         first_one = λ i all lt el. elim (split i all el) [ inl o ↦ absurd (e i o el) | inr t ↦ l.first_one i t lt el ];
       }
 
-  early_alone : (k : ℕ) → IsMostViolatedOf b One k → HasNoneOf b Two → IsMostViolatedOf b Whole k
+  early_alone : (k : ℕ) → IsMostViolated b One k → HasNoneOf b Two → IsMostViolated b Whole k
   early_alone k e l =
       record {
         one_of = one_in k e.one_of;
@@ -37,7 +37,7 @@ module _ (b : TreeStructure) (One Two Whole : ℕ → Type 0) (one_in : (k : ℕ
         first_one = λ i all lt el. elim (split i all el) [ inl o ↦ e.first_one i o lt el | inr t ↦ absurd (l i t el) ];
       }
 
-  early_wins : (k j : ℕ) → IsMostViolatedOf b One k → IsMostViolatedOf b Two j → violation b j ≤ violation b k → IsMostViolatedOf b Whole k
+  early_wins : (k j : ℕ) → IsMostViolated b One k → IsMostViolated b Two j → violation b j ≤ violation b k → IsMostViolated b Whole k
   early_wins k j e l le =
       record {
         one_of = one_in k e.one_of;
@@ -52,7 +52,7 @@ module _ (b : TreeStructure) (One Two Whole : ℕ → Type 0) (one_in : (k : ℕ
         ];
       }
 
-  late_wins : (k j : ℕ) → IsMostViolatedOf b One k → IsMostViolatedOf b Two j → violation b k < violation b j → IsMostViolatedOf b Whole j
+  late_wins : (k j : ℕ) → IsMostViolated b One k → IsMostViolated b Two j → violation b k < violation b j → IsMostViolated b Whole j
   late_wins k j e l more =
       record {
         one_of = two_in j l.one_of;
@@ -85,20 +85,6 @@ picked_alike b P Q wide narrow (Some k) m =
       first_one = λ i q lt el. m.first_one i (narrow i q el) lt el;
     }
 picked_alike b P Q wide narrow None none = λ k q el. none k (narrow k q el) el
-
--- arcs side by side
-abbrev IsFrom : ℕ → ℕ → ℕ → Type 0
-IsFrom first last k = (first ≤ k) × (k < last)
-
-side_by_side : (b : TreeStructure) (first last : ℕ) (answer : Option ℕ) → IsMostViolatedPick b first last answer → IsPickOf b (IsFrom first last) answer
-side_by_side b first last (Some k) m =
-    record {
-      one_of = (m.low, m.high);
-      eligible = m.eligible;
-      greatest = λ i q el. m.greatest i q.0 q.1 el;
-      first_one = λ i q lt el. m.first_one i q.0 lt el;
-    }
-side_by_side b first last None none = λ k q el. none k q.0 q.1 el
 
 -- ---- stretch by stretch
 
@@ -142,7 +128,7 @@ module _ (b : TreeStructure) (stretch begin end behind turns first last : ℕ) (
         | inr before ↦ inl (q.0, before)
       ]
 
-  pub before_next : (best found answer : Option ℕ) → IsPickOf b (IsBefore stretch begin end behind) best → IsMostViolatedPick b first last found →
+  pub before_next : (best found answer : Option ℕ) → IsPickOf b (IsBefore stretch begin end behind) best → IsPickOf b (IsFrom first last) found →
       IsMoreViolated b best found answer → IsPickedBefore b stretch begin end (behind + stretch) answer
   before_next best found answer so here more =
       record {
@@ -150,7 +136,7 @@ module _ (b : TreeStructure) (stretch begin end behind turns first last : ℕ) (
         whole = omega (arith, whole);
         picked = picked_of_both b (IsBefore stretch begin end behind) (IsFrom first last) (IsBefore stretch begin end (behind + stretch))
             (λ k q. (q.0, omega (arith, q.1))) next_in next_split (λ j k q r. omega (arith, q.1, r.0, r.1, is_first, is_last)) best found answer so
-            (side_by_side b first last found here) more;
+            here more;
       }
 
 pub before_end : (b : TreeStructure) (stretch begin end behind : ℕ) (best : Option ℕ) → length b.net.arcs ≤ behind →
@@ -188,7 +174,7 @@ passed_one b stretch piece from until begin end p more is_end none =
     }
 
 pub passed_found : (b : TreeStructure) (stretch piece from until begin end k : ℕ) → IsPassedTo b stretch piece from until begin → begin < until →
-    end ≡ block_end until piece begin → IsMostViolatedOf b (IsInBlockOf stretch begin end) k → IsFirstBlock b stretch piece from until k end
+    end ≡ block_end until piece begin → IsMostViolated b (IsInBlockOf stretch begin end) k → IsFirstBlock b stretch piece from until k end
 passed_found b stretch piece from until begin end k p more is_end found =
     let at : begin ≡ min (from + p.blocks * piece) until = p.at in
     let exact : begin ≡ from + p.blocks * piece = omega (arith, at, more) in
@@ -196,7 +182,7 @@ passed_found b stretch piece from until begin end k p more is_end found =
       blocks = p.blocks;
       passed = subst (λ n. HasNoneOf b (IsInBlockOf stretch from n)) exact p.none;
       ends = subst (λ n. end ≡ min (n + piece) until) exact is_end;
-      found = subst (λ n. IsMostViolatedOf b (IsInBlockOf stretch n end) k) exact found;
+      found = subst (λ n. IsMostViolated b (IsInBlockOf stretch n end) k) exact found;
     }
 
 pub passed_all : (b : TreeStructure) (stretch piece from until begin : ℕ) → IsPassedTo b stretch piece from until begin → until ≤ begin →

@@ -4,7 +4,7 @@ use Rattle.std.proofs.lemmas.Bool.{cases_lt, cond-true, cond-false, le-leb, lt-l
 use Rattle.mcf_flows.specs.Network.{IsArcNumber}
 use Rattle.mcf_basis.specs.Pivots.{IsEligible}
 use Rattle.mcf_basis.specs.Structures.{TreeStructure}
-use Rattle.mcf_basis.specs.Violations.{HasNoEligible, HasNoneIn, IsMostViolated, IsMostViolatedPick, violation}
+use Rattle.mcf_basis.specs.Violations.{HasNoEligible, HasNoneOf, IsFrom, IsMostViolated, IsPickOf, violation}
 use Rattle.mcf_simplex.specs.Blocks.{BlockRule, HasNoneInRound, IsBlockPick, IsFound, IsInBlock, IsMoreViolated, IsNothing, IsRoundPick, arc_in_round}
 use Rattle.mcf_simplex.specs.Blocks.{block_end, round_arc, start_arc}
 
@@ -17,14 +17,14 @@ round_high arcs start p h = cond-false _ _ _ (lt-leb (start + p) arcs h)
 -- a block of arcs that stand side by side, from this arc on
 module _ (b : TreeStructure) (start begin end first last : ℕ) (same : last + begin ≡ first + end)
     (at : (p : ℕ) → begin ≤ p → p < end → round_arc b start p + begin ≡ first + p) where
-  none_shifted : HasNoneIn b first last → HasNoneInRound b start begin end
+  none_shifted : HasNoneOf b (IsFrom first last) → HasNoneInRound b start begin end
   none_shifted none = λ p low high el. (let e : round_arc b start p + begin ≡ first + p = at p low high in
-      none (round_arc b start p) (omega arith) (omega arith) el)
+      none (round_arc b start p) (omega arith, omega arith) el)
 
-  place_of : (k : ℕ) → IsMostViolated b first last k → IsInBlock b start begin end k
+  place_of : (k : ℕ) → IsMostViolated b (IsFrom first last) k → IsInBlock b start begin end k
   place_of k best =
-      let low : first ≤ k = best.low in
-      let high : k < last = best.high in
+      let low : first ≤ k = best.one_of.0 in
+      let high : k < last = best.one_of.1 in
       let here : round_arc b start (k + begin - first) + begin ≡ first + (k + begin - first) = at (k + begin - first) (omega arith) (omega arith) in
       record {
         place = k + begin - first;
@@ -33,24 +33,24 @@ module _ (b : TreeStructure) (start begin end first last : ℕ) (same : last + b
         is = omega arith;
         eligible = best.eligible;
         greatest = λ p l h el. (let e : round_arc b start p + begin ≡ first + p = at p l h in
-            best.greatest (round_arc b start p) (omega arith) (omega arith) el);
+            best.greatest (round_arc b start p) (omega arith, omega arith) el);
         first_one = λ p l h el. (let e : round_arc b start p + begin ≡ first + p = at p l (omega arith) in
-            best.first_one (round_arc b start p) (omega arith) (omega arith) el);
+            best.first_one (round_arc b start p) (omega arith, omega arith) (omega arith) el);
       }
 
-  pub shifted : (answer : Option ℕ) → IsMostViolatedPick b first last answer → IsRoundPick b start begin end answer
+  pub shifted : (answer : Option ℕ) → IsPickOf b (IsFrom first last) answer → IsRoundPick b start begin end answer
   shifted None none = none_shifted none
   shifted (Some k) best = place_of k best
 
 -- before the last arc, and after it
 pub pick_low : (b : TreeStructure) (start begin end first last : ℕ) (answer : Option ℕ) → first ≡ start + begin → last ≡ start + end →
-    last ≤ length b.net.arcs + 1 → IsMostViolatedPick b first last answer → IsRoundPick b start begin end answer
+    last ≤ length b.net.arcs + 1 → IsPickOf b (IsFrom first last) answer → IsRoundPick b start begin end answer
 pick_low b start begin end first last answer is_first is_last h best =
     shifted b start begin end first last (omega arith)
     (λ p low high. (let e : round_arc b start p ≡ start + p = round_low (length b.net.arcs) start p (omega arith) in omega arith)) answer best
 
 pub pick_high : (b : TreeStructure) (start begin end first last : ℕ) (answer : Option ℕ) → length b.net.arcs < start + begin → begin ≤ end →
-    first ≡ start + begin - length b.net.arcs → last ≡ start + end - length b.net.arcs → IsMostViolatedPick b first last answer →
+    first ≡ start + begin - length b.net.arcs → last ≡ start + end - length b.net.arcs → IsPickOf b (IsFrom first last) answer →
     IsRoundPick b start begin end answer
 pick_high b start begin end first last answer h order is_first is_last best =
     shifted b start begin end first last (omega arith)
@@ -134,7 +134,7 @@ module _ (b : TreeStructure) (start begin mid end : ℕ) (left : begin ≤ mid) 
 -- the block that goes past the last arc
 pub pick_both : (b : TreeStructure) (start begin end first last : ℕ) (early late answer : Option ℕ) → first ≡ start + begin →
     start + begin ≤ length b.net.arcs → length b.net.arcs + 1 < start + end → start ≤ length b.net.arcs →
-    last ≡ start + end - length b.net.arcs → IsMostViolatedPick b first (length b.net.arcs + 1) early → IsMostViolatedPick b 1 last late →
+    last ≡ start + end - length b.net.arcs → IsPickOf b (IsFrom first (length b.net.arcs + 1)) early → IsPickOf b (IsFrom 1 last) late →
     IsMoreViolated b early late answer → IsRoundPick b start begin end answer
 pick_both b start begin end first last early late answer is_first low high begins is_last e l more =
     joined b start begin (length b.net.arcs + 1 - start) end (omega arith) (omega arith) early late answer

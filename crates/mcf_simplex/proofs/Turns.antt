@@ -1,13 +1,12 @@
 -- Turns round the stretches of the arcs.
-use Rattle.std.proofs.Common.{◌≡◌, ℕ, ◌+◌, ◌-◌, ◌*◌, ◌/◌, ◌%◌, ◌<◌, ◌≤◌, min, inl, inr, length, Option, Some, None, refl, sym, ap, ◌∙◌, arith, subst}
+use Rattle.std.proofs.Common.{◌≡◌, ℕ, ◌+◌, ◌-◌, ◌*◌, ◌/◌, ◌%◌, ◌<◌, ◌≤◌, min, inl, inr, length, Option, Some, None, ap, ◌∙◌, arith, subst}
 use Rattle.std.specs.Int.{div_ceil}
 use Rattle.std.proofs.lemmas.Bool.{cases_lt, cond-true, cond-false, le-leb, lt-leb}
 use Rattle.std.proofs.lemmas.Grind.{div_ceil_times}
 use Rattle.std.proofs.lemmas.Nat.{div-add-mod', div-mul-add, div_below, mod-mul-add, mod_below, mul-le}
 use Rattle.mcf_flows.specs.Network.{IsArcNumber}
-use Rattle.mcf_basis.specs.Pivots.{IsEligible}
 use Rattle.mcf_basis.specs.Structures.{TreeStructure}
-use Rattle.mcf_basis.specs.Violations.{HasNoEligible, IsMostViolated, IsMostViolatedPick}
+use Rattle.mcf_basis.specs.Violations.{HasNoEligible, IsFrom, IsMostViolated, IsPickOf}
 use Rattle.mcf_simplex.specs.Stretches.{HasNoneAt, IsFoundAt, IsNoneFound, IsWidePick, WideRule, start_turn, stretch_length, turn_after, turn_begin, turn_count, turn_end}
 
 -- a turn at which an arc is looked at
@@ -72,7 +71,7 @@ none_left b size turns start some is_turns high none k el =
     let arc : IsArcNumber b.net k = el.arc in
     let t = turn_of (length b.net.arcs) size k some (omega (arith, arc)) (omega (arith, arc)) in
     let in_round : t.turn < turns = omega (arith, t.in_round, is_turns) in
-    none_at b size turns start t.turn (high (omega (arith, in_round))) in_round none k t.low t.high el
+    none_at b size turns start t.turn (high (omega (arith, in_round))) in_round none k (t.low, t.high) el
 
 -- the block of a turn ends within its stretch
 block_within : (l size turn : ℕ) → 1 ≤ size → turn < 4 * div_ceil l size → turn / 4 * size ≤ l
@@ -85,15 +84,15 @@ block_within l size turn some high =
 -- what is looked at at a turn, by the numbers of the code
 pub at_turn : (b : TreeStructure) (arcs size turn count l part first last : ℕ) (answer : Option ℕ) → 1 ≤ size → count ≡ arcs → l ≡ stretch_length arcs →
     turn < turn_count arcs size → part ≡ min size (l - turn / 4 * size) → first ≡ min (turn % 4 * l + turn / 4 * size) count →
-    last ≡ min (turn % 4 * l + (part + turn / 4 * size)) count → IsMostViolatedPick b (first + 1) (last + 1) answer →
-    IsMostViolatedPick b (turn_begin arcs size turn) (turn_end arcs size turn) answer
+    last ≡ min (turn % 4 * l + (part + turn / 4 * size)) count → IsPickOf b (IsFrom (first + 1) (last + 1)) answer →
+    IsPickOf b (IsFrom (turn_begin arcs size turn) (turn_end arcs size turn)) answer
 at_turn b arcs size turn count l part first last answer some is_count is_l high is_part is_first is_last best =
     let product : turn % 4 * l ≡ turn % 4 * stretch_length arcs = ap (λ n. turn % 4 * n) is_l in
     let within : turn / 4 * size ≤ stretch_length arcs = block_within (stretch_length arcs) size turn some high in
     let begins : first + 1 ≡ turn_begin arcs size turn = omega (arith, is_count, product, is_first) in
     let ends : last + 1 ≡ turn_end arcs size turn = omega (arith, is_count, is_l, product, within, is_part, is_last) in
-    subst (λ n. IsMostViolatedPick b (turn_begin arcs size turn) n answer) ends
-    (subst (λ n. IsMostViolatedPick b n (last + 1) answer) begins best)
+    subst (λ n. IsPickOf b (IsFrom (turn_begin arcs size turn) n) answer) ends
+    (subst (λ n. IsPickOf b (IsFrom n (last + 1)) answer) begins best)
 
 -- one turn more without an eligible arc
 pub none_more : (b : TreeStructure) (size turns start passed turn : ℕ) → HasNoneBefore b size turns start passed →
@@ -106,7 +105,7 @@ none_more b size turns start passed turn before is_turn none p low = elim (cases
 -- what a pick gives
 pub found_at : (b : TreeStructure) (old new : WideRule) (turns start passed turn k : ℕ) → turns ≡ turn_count (length b.net.arcs) old.size →
     start ≡ start_turn turns old.next → passed < turns → HasNoneBefore b old.size turns start passed → turn ≡ turn_after turns start passed →
-    IsMostViolatedPick b (turn_begin (length b.net.arcs) old.size turn) (turn_end (length b.net.arcs) old.size turn) (Some k) → new.size ≡ old.size →
+    IsPickOf b (IsFrom (turn_begin (length b.net.arcs) old.size turn) (turn_end (length b.net.arcs) old.size turn)) (Some k) → new.size ≡ old.size →
     new.next ≡ turn_after turns start (passed + 1) → IsWidePick old b (Some k) new
 found_at b old new turns start passed turn k is_turns is_start more none is_turn best size next =
     subst (λ n. IsFoundAt b old n (start_turn n old.next) k new) is_turns
@@ -115,7 +114,7 @@ found_at b old new turns start passed turn k is_turns is_start more none is_turn
       passed = passed;
       in_round = more;
       none = none;
-      found = subst (λ t. IsMostViolated b (turn_begin (length b.net.arcs) old.size t) (turn_end (length b.net.arcs) old.size t) k) is_turn best;
+      found = subst (λ t. IsMostViolated b (IsFrom (turn_begin (length b.net.arcs) old.size t) (turn_end (length b.net.arcs) old.size t)) k) is_turn best;
       size = size;
       next = next;
     }))

@@ -7,9 +7,8 @@
 -- Source: own, akin to AMO 11.5 (candidate list)
 use Rattle.std.specs.Prelude.{◌≡◌, ℕ, ◌+◌, ◌-◌, ◌*◌, ◌%◌, ◌<◌, ◌≤◌, ◌⊎◌, min, nat_le, length, Option, Some, None, if◌then◌else◌}
 use Rattle.std.specs.Int.{div_ceil}
-use Rattle.mcf_basis.specs.Pivots.{IsEligible}
 use Rattle.mcf_basis.specs.Structures.{TreeStructure}
-use Rattle.mcf_basis.specs.Violations.{HasNoEligible, violation}
+use Rattle.mcf_basis.specs.Violations.{HasNoEligible, HasNoneOf, IsMostViolated}
 
 -- in how many stretches the arcs stood at the last pick, how many arcs a piece had, and with which
 -- place the next pick begins
@@ -30,23 +29,6 @@ place_of length k = (k - 1) % length
 abbrev pub IsInBlockOf : ℕ → ℕ → ℕ → ℕ → Type 0
 IsInBlockOf length begin end k = (begin ≤ place_of length k) × (place_of length k < end)
 
--- none of these arcs is eligible
-abbrev pub HasNoneOf : TreeStructure → (ℕ → Type 0) → Type 0
-HasNoneOf b Are = (k : ℕ) → Are k → ¬ IsEligible b k
-
--- of these arcs the eligible one of greatest violation, and of those of the same violation the one
--- of least number
-pub record IsMostViolatedOf (b : TreeStructure) (Are : ℕ → Type 0) (k : ℕ) : Type 0 where
-  pub one_of : Are k
-  pub eligible : IsEligible b k
-  pub greatest : (j : ℕ) → Are j → IsEligible b j → violation b j ≤ violation b k
-  pub first_one : (j : ℕ) → Are j → j < k → IsEligible b j → violation b j < violation b k
-
--- what these arcs give: the most violated one, or none if none is eligible
-abbrev pub IsPickOf : TreeStructure → (ℕ → Type 0) → Option ℕ → Type 0
-IsPickOf b Are (Some k) = IsMostViolatedOf b Are k
-IsPickOf b Are None = HasNoneOf b Are
-
 -- the places from one up to but not including another are gone through in blocks, of which the last
 -- may be shorter: after some blocks without an eligible arc the next one, which ends before the
 -- place next, gives k
@@ -54,7 +36,7 @@ pub record IsFirstBlock (b : TreeStructure) (length piece from until k next : �
   pub blocks : ℕ
   pub passed : HasNoneOf b (IsInBlockOf length from (from + blocks * piece))
   pub ends : next ≡ min (from + blocks * piece + piece) until
-  pub found : IsMostViolatedOf b (IsInBlockOf length (from + blocks * piece) next) k
+  pub found : IsMostViolated b (IsInBlockOf length (from + blocks * piece) next) k
 
 -- with which place of stretches of this length a pick begins: the first one, if there is no place
 -- of the number

@@ -3,10 +3,10 @@
 -- first block of each, then the second of each, and so on. So blocks that are looked at one after
 -- another lie far apart, as in the mixed order of the arcs of LEMON's network simplex.
 -- Source: own, akin to AMO 11.5
-use Rattle.std.specs.Prelude.{◌≡◌, ℕ, ◌+◌, ◌-◌, ◌*◌, ◌/◌, ◌%◌, ◌^◌, ◌<◌, ◌≤◌, min, max, nat_le, length, Option, Some, None, if◌then◌else◌}
+use Rattle.std.specs.Prelude.{◌≡◌, ℕ, ◌+◌, ◌-◌, ◌*◌, ◌/◌, ◌%◌, ◌<◌, ◌≤◌, min, max, nat_le, length, Option, Some, None, if◌then◌else◌}
 use Rattle.std.specs.Int.{div_ceil}
 use Rattle.mcf_basis.specs.Structures.{TreeStructure}
-use Rattle.mcf_basis.specs.Violations.{HasNoEligible, HasNoneIn, IsMostViolated}
+use Rattle.mcf_basis.specs.Violations.{HasNoEligible, HasNoneOf, IsFrom, IsMostViolated}
 
 -- the size of the blocks, and the turn with which the next pick begins
 pub record WideRule : Type 0 where
@@ -51,7 +51,7 @@ turn_after turns start passed = if nat_le (start + passed + 1) turns then start 
 
 -- none of the arcs that are looked at at a turn is eligible
 abbrev pub HasNoneAt : TreeStructure → ℕ → ℕ → Type 0
-HasNoneAt b size turn = HasNoneIn b (turn_begin (length b.net.arcs) size turn) (turn_end (length b.net.arcs) size turn)
+HasNoneAt b size turn = HasNoneOf b (IsFrom (turn_begin (length b.net.arcs) size turn) (turn_end (length b.net.arcs) size turn))
 
 -- after some turns without an eligible arc the next one gives k, of its arcs the eligible one of
 -- greatest violation, and of those of the same violation the one of least number; the next pick
@@ -60,8 +60,8 @@ pub record IsFoundAt (b : TreeStructure) (old : WideRule) (turns start k : ℕ) 
   pub passed : ℕ
   pub in_round : passed < turns
   pub none : (p : ℕ) → p < passed → HasNoneAt b old.size (turn_after turns start p)
-  pub found : IsMostViolated b (turn_begin (length b.net.arcs) old.size (turn_after turns start passed))
-      (turn_end (length b.net.arcs) old.size (turn_after turns start passed)) k
+  pub found : IsMostViolated b (IsFrom (turn_begin (length b.net.arcs) old.size (turn_after turns start passed))
+      (turn_end (length b.net.arcs) old.size (turn_after turns start passed))) k
   pub size : new.size ≡ old.size
   pub next : new.next ≡ turn_after turns start (passed + 1)
 

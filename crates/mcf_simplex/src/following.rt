@@ -2,8 +2,8 @@
 ghost use Rattle.std.specs.Prelude.{◌≡◌, ◌+◌, ◌*◌, ◌<◌, ◌≤◌, IfNone, IfSome, length};
 ghost use Rattle.std.specs.Int.{div_ceil};
 ghost use Rattle.mcf_basis.specs.Pivots.{IsEligible};
-ghost use Rattle.mcf_basis.specs.Violations.{HasNoEligible};
-ghost use Rattle.mcf_simplex.specs.Following.{IsFollowingPick, IsFoundOrNone, IsInBlockOf, IsPickOf, first_following, start_place};
+ghost use Rattle.mcf_basis.specs.Violations.{HasNoEligible, IsPickOf};
+ghost use Rattle.mcf_simplex.specs.Following.{IsFollowingPick, IsFoundOrNone, IsInBlockOf, first_following, start_place};
 ghost use Rattle.mcf_simplex.specs.Private.Pieces.{IsFirstBlockOrNone};
 
 use crate::block::{block_end, more_violated};

@@ -1,7 +1,7 @@
 //! Blocks of arcs, taken in turn from four stretches (segments) of the arcs.
 ghost use Rattle.std.specs.Prelude.{◌≡◌, ◌+◌, ◌*◌, ◌^◌, ◌<◌, ◌≤◌, IfNone, IfSome, length};
 ghost use Rattle.mcf_basis.specs.Pivots.{IsEligible};
-ghost use Rattle.mcf_basis.specs.Violations.{HasNoEligible, IsMostViolatedPick};
+ghost use Rattle.mcf_basis.specs.Violations.{HasNoEligible, IsFrom, IsPickOf};
 ghost use Rattle.mcf_simplex.specs.Stretches.{IsWideFor, IsWidePick, start_turn, stretch_length, turn_after, turn_begin, turn_count, turn_end};
 
 use crate::pricing::{Picked, Pricing};
@@ -126,7 +126,7 @@ fn turn_after(turns: u32, start: u32, passed: u32) -> u32
 fn most_violated_at(basis: &Basis<'_>, size: u32, turn: u32) -> Option<ArcId>
     requires size { 1 ≤ size }
     requires turn { turn < turn_count (length basis.now.net.arcs) size }
-    ensures { IsMostViolatedPick basis.now (turn_begin (length basis.now.net.arcs) size turn) (turn_end (length basis.now.net.arcs) size turn) result }
+    ensures { IsPickOf basis.now (IsFrom (turn_begin (length basis.now.net.arcs) size turn) (turn_end (length basis.now.net.arcs) size turn)) result }
 {
     let arcs = basis.net().arc_count();
     let length = arcs.div_ceil(STRETCHES);

@@ -1,7 +1,8 @@
 -- What blocks of pieces give, from one place up to another.
 use Rattle.std.specs.Prelude.{◌≡◌, ℕ, Option, Some, None}
 use Rattle.mcf_basis.specs.Structures.{TreeStructure}
-use Rattle.mcf_simplex.specs.Following.{HasNoneOf, IsFirstBlock, IsInBlockOf}
+use Rattle.mcf_basis.specs.Violations.{HasNoneOf}
+use Rattle.mcf_simplex.specs.Following.{IsFirstBlock, IsInBlockOf}
 
 -- the first block that has an eligible arc gives one, or none has
 abbrev pub IsFirstBlockOrNone : TreeStructure → ℕ → ℕ → ℕ → ℕ → Option ℕ → ℕ → Type 0

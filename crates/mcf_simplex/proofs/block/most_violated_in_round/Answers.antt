@@ -1,5 +1,5 @@
 use Rattle.std.proofs.Common.{◌≡◌, ◌+◌, ◌-◌, length, refl, ap, ◌∙◌, arith, subst}
-use Rattle.mcf_basis.specs.Violations.{IsMostViolatedPick}
+use Rattle.mcf_basis.specs.Violations.{IsFrom, IsPickOf}
 use Rattle.mcf_simplex.proofs.Rounds.{pick_both, pick_high, pick_low}
 use Rattle.mcf_simplex.proofs.block.most_violated_in_round.Goals as goal
 
@@ -26,8 +26,8 @@ returns c =
     let m : c.arc_count-arcs.result ≡ length c.args.basis.now.net.arcs = c.arc_count-arcs.ensures.value ∙ ap (λ g. length g.arcs) c.net.ensures.value in
     let high = c.if-last-arcs.false in
     let low = c.if-first-arcs.false in
-    let early : IsMostViolatedPick c.args.basis.now (c.args.start + c.args.begin) (length c.args.basis.now.net.arcs + 1) c.most_violated-early.result =
-    subst (λ n. IsMostViolatedPick c.args.basis.now (c.args.start + c.args.begin) (n + 1) c.most_violated-early.result) m
+    let early : IsPickOf c.args.basis.now (IsFrom (c.args.start + c.args.begin) (length c.args.basis.now.net.arcs + 1)) c.most_violated-early.result =
+    subst (λ n. IsPickOf c.args.basis.now (IsFrom (c.args.start + c.args.begin) (n + 1)) c.most_violated-early.result) m
     c.most_violated-early.ensures.value in
     pick_both b c.args.start c.args.begin c.args.end (c.args.start + c.args.begin) (c.args.start + c.args.end - c.arc_count-arcs.result)
     c.most_violated-early.result c.most_violated-late.result c.more_violated.result

@@ -1,4 +1,4 @@
-use Rattle.mcf_simplex.proofs.Pieces.{passed_all, passed_found, passed_one}
+use Rattle.mcf_simplex.proofs.Pieces.{passed_one}
 use Rattle.mcf_simplex.proofs.following.first_found.Goals as goal
 
 pub pieces-preserved : goal.pieces-preserved

@@ -1,4 +1,4 @@
-use Rattle.std.proofs.Common.{◌≡◌, ◌≤◌, ◌+◌, length, min, ap, ◌∙◌, arith}
+use Rattle.std.proofs.Common.{◌≡◌, ◌+◌, length, min, ap, ◌∙◌, arith}
 use Rattle.mcf_simplex.proofs.Pieces.{before_end, before_next}
 use Rattle.mcf_simplex.proofs.following.most_violated_in_block.Goals as goal
 

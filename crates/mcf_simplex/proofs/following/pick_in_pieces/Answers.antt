@@ -1,4 +1,4 @@
-use Rattle.std.proofs.Common.{◌≡◌, length, ap, ◌∙◌, arith, sym}
+use Rattle.std.proofs.Common.{◌≡◌, length, ap, ◌∙◌, sym}
 use Rattle.std.specs.Int.{div_ceil}
 use Rattle.mcf_simplex.proofs.Pieces.{found_by, found_early, none_found}
 use Rattle.mcf_simplex.proofs.following.pick_in_pieces.Goals as goal

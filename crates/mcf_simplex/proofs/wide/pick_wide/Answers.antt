@@ -1,7 +1,6 @@
-use Rattle.std.proofs.Common.{◌≡◌, ℕ, ◌<◌, length, refl, ap, ◌∙◌, arith, subst, Option}
-use Rattle.mcf_basis.specs.Violations.{IsMostViolatedPick}
-use Rattle.mcf_simplex.specs.Stretches.{turn_begin, turn_count, turn_end}
-use Rattle.mcf_simplex.proofs.Turns.{HasNoneBefore, found_at, none_left, none_more, nothing_found}
+use Rattle.std.proofs.Common.{◌≡◌, length, refl, ap, ◌∙◌, arith}
+use Rattle.mcf_simplex.specs.Stretches.{turn_count}
+use Rattle.mcf_simplex.proofs.Turns.{found_at, none_left, none_more, nothing_found}
 use Rattle.mcf_simplex.proofs.wide.pick_wide.Goals as goal
 
 pub loop-passed-preserved : goal.loop-passed-preserved
