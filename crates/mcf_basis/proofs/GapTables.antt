@@ -30,17 +30,15 @@ price_read gap (s ∷ stored) (suc v) = price_read gap stored v
 
 -- ---- offers
 
-module _ (gap priced : ℕ) (stored : List ℤ) (offers : List ArcOffer) (begin end : ℕ) (can : CanCompareIn (narrow_table gap priced stored) offers begin end) where
+module _ (gap priced : ℕ) (stored : List ℤ) (offers : List ArcOffer) (can : CanCompareIn (narrow_table gap priced stored) offers) where
   sizes : length (map (price_by gap) stored) ≡ length stored
   sizes = length-map stored (price_by gap)
 
-  ends_of : (i : ℕ) → begin ≤ i → i < end → HasPricedEnds (length stored) (get_or offers i no_offer)
-  ends_of i low high = subst (λ n. HasPricedEnds n (get_or offers i no_offer)) sizes (can.compared.ends i low high)
+  ends_of : (i : ℕ) → i < length offers → HasPricedEnds (length stored) (get_or offers i no_offer)
+  ends_of i high = subst (λ n. HasPricedEnds n (get_or offers i no_offer)) sizes (can.compared.ends i high)
 
-  pub can_compare_stored : CanCompare stored narrow_limit offers begin end
+  pub can_compare_stored : CanCompare stored narrow_limit offers
   can_compare_stored = record {
-    order = can.compared.order;
-    high = can.compared.high;
     ends = ends_of;
     small = λ v h. (let small = can.compared.small v (omega (arith, sizes, h)) in
         stored_fits narrow_limit gap (get_or stored v (pos 0)) (subst (IsUpTo (narrow_limit + gap)) (price_read gap stored v) small));
@@ -60,26 +58,26 @@ module _ (gap priced : ℕ) (stored : List ℤ) (offers : List ArcOffer) (begin 
       none : (z : ℤ) → pos 0 -ℤ z +ℤ z ≡ pos 0
       none z = omega (arith, ints)
 
-  shown : (i : ℕ) → begin ≤ i → i < end → reduced_of (map (price_by gap) stored) offers i ≡ change_by gap (reduced_of stored offers i)
-  shown i low high = shown_by (get_or offers i no_offer) (ends_of i low high) (can.own i low high)
+  shown : (i : ℕ) → i < length offers → reduced_of (map (price_by gap) stored) offers i ≡ change_by gap (reduced_of stored offers i)
+  shown i high = shown_by (get_or offers i no_offer) (ends_of i high) (can.own i high)
 
   -- the least of the stored ones is the least
-  pub least_stored : (r : Option ℕ) → IsLeastOffer stored offers begin end r → IsLeastOffer (map (price_by gap) stored) offers begin end r
-  least_stored (Some i) found =
-      let here = shown i found.low found.high in
+  pub least_stored : (begin end : ℕ) → end ≤ length offers → (r : Option ℕ) → IsLeastOffer stored offers begin end r → IsLeastOffer (map (price_by gap) stored) offers begin end r
+  least_stored begin end all (Some i) found =
+      let here = shown i (omega (arith, found.high, all)) in
       let zero_is = moved_zero stand_in (2 * gap) in
       record {
         low = found.low;
         high = found.high;
         gains = (let lt = moved_less stand_in (2 * gap) (reduced_of stored offers i) (pos 0) found.gains in omega (arith, ints, here, zero_is, lt));
-        least = λ j from to. (let there = shown j from to in
+        least = λ j from to. (let there = shown j (omega (arith, to, all)) in
             let le = moved_most stand_in (2 * gap) (reduced_of stored offers i) (reduced_of stored offers j) (found.least j from to) in
             omega (arith, ints, here, there, le));
-        first = λ j from to. (let there = shown j from (omega (arith, to, found.high)) in
+        first = λ j from to. (let there = shown j (omega (arith, to, found.high, all)) in
             let lt = moved_less stand_in (2 * gap) (reduced_of stored offers i) (reduced_of stored offers j) (found.first j from to) in
             omega (arith, ints, here, there, lt));
       }
-  least_stored None none = λ j from to. (let there = shown j from to in
+  least_stored begin end all None none = λ j from to. (let there = shown j (omega (arith, to, all)) in
       let le = moved_most stand_in (2 * gap) (pos 0) (reduced_of stored offers j) (none j from to) in
       omega (arith, ints, there, moved_zero stand_in (2 * gap), le))
 

@@ -4,7 +4,7 @@ use Rattle.std.proofs.lemmas.Int.{ints}
 use Rattle.mcf_flows.specs.Network.{IsArcNumber, node_count}
 use Rattle.mcf_basis.specs.Pivots.{IsEligible}
 use Rattle.mcf_basis.specs.Private.Layouts.{Layout, IsLaidOut, basis_in, no_offer, offer_at}
-use Rattle.mcf_basis.specs.Private.Offered.{CanCompare, CanCompareIn, HasOwnEnds, HasPricedEnds, IsFirstLeast, IsLeastOffer, reduced_of}
+use Rattle.mcf_basis.specs.Private.Offered.{CanCompareIn, HasOwnEnds, HasPricedEnds, IsFirstLeast, IsLeastOffer, reduced_of}
 use Rattle.mcf_basis.specs.Violations.{HasNoneOf, IsFrom, IsMostViolated, violation}
 use Rattle.mcf_basis.proofs.Offers.{IsReadOffer, own_nodes_of, read_offer}
 use Rattle.mcf_basis.proofs.Views.{price_fits, price_spread}
@@ -37,25 +37,18 @@ module _ (l : Layout) (ok : IsLaidOut l) where
       let back : i + 1 - 1 ≡ i = omega arith in
       subst (IsPlacedOffer l (i + 1)) back (placed (i + 1) h)
 
-  module _ (first end : ℕ) (low : 1 ≤ first) (order : first ≤ end) (high : end ≤ length l.net.arcs + 1) where
-    can_compare : CanCompare l.table.prices l.table.limit l.offers (first - 1) (end - 1)
-    can_compare =
-        record {
-          order = omega arith;
-          high = omega (arith, ok.offers_size);
-          ends = λ i from to. (at_place i (omega arith, omega (arith, to))).ends;
+  pub can_compare_in : CanCompareIn l.table l.offers
+  can_compare_in =
+      record {
+        compared = record {
+          ends = λ i high. (at_place i (omega arith, omega (arith, high, ok.offers_size))).ends;
           small = λ v h. price_fits l ok v (omega (arith, h, prices_size));
-        }
+        };
+        spread = λ v up h. price_spread l ok v up (omega (arith, h, prices_size));
+        own = λ i high. (at_place i (omega arith, omega (arith, high, ok.offers_size))).own;
+      }
 
-    -- the same as a table stores the prices
-    pub can_compare_in : CanCompareIn l.table l.offers (first - 1) (end - 1)
-    can_compare_in =
-        record {
-          compared = can_compare;
-          spread = λ v up h. price_spread l ok v up (omega (arith, h, prices_size));
-          own = λ i from to. (at_place i (omega arith, omega (arith, to))).own;
-        }
-
+  module _ (first end : ℕ) (low : 1 ≤ first) (high : end ≤ length l.net.arcs + 1) where
     pub most_violated_some : (i : ℕ) → IsFirstLeast l.table.prices l.offers (first - 1) (end - 1) i → IsMostViolated (basis_in l) (IsFrom first end) (i + 1)
     most_violated_some i found =
         let here = at_place i (omega arith, omega (arith, found.high)) in

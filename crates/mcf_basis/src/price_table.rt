@@ -95,7 +95,9 @@ impl PriceTable {
     /// Of the offers from place `begin` up to but not including `end`, the first one of least
     /// reduced cost, if that is below 0.
     pub fn least_offer(&self, offers: &[ArcOffer], begin: usize, end: usize) -> Option<usize>
-        requires { CanCompareIn self.now offers.now begin end }
+        requires compare { CanCompareIn self.now offers.now }
+        requires order { begin ≤ end }
+        requires high { end ≤ length offers.now }
         ensures { IsLeastOffer self.now.prices offers.now begin end result }
     {
         match &self.column {

@@ -27,12 +27,9 @@ pub record CanReduce (prices : List ℤ) (o : ArcOffer) : Type 0 where
   pub from_small : IsUpTo price_limit (slice_index_or prices o.from (pos 0))
   pub to_small : IsUpTo price_limit (slice_index_or prices o.to (pos 0))
 
--- the offers from place begin up to but not including end can be compared, by prices that lie no
--- further from 0 than limit
-pub record CanCompare (prices : List ℤ) (limit : ℕ) (offers : List ArcOffer) (begin end : ℕ) : Type 0 where
-  pub order : begin ≤ end
-  pub high : end ≤ length offers
-  pub ends : (i : ℕ) → begin ≤ i → i < end → HasPricedEnds (length prices) (slice_index_or offers i no_offer)
+-- the offers can be compared, by prices that lie no further from 0 than limit
+pub record CanCompare (prices : List ℤ) (limit : ℕ) (offers : List ArcOffer) : Type 0 where
+  pub ends : (i : ℕ) → i < length offers → HasPricedEnds (length prices) (slice_index_or offers i no_offer)
   pub small : (v : ℕ) → v < length prices → IsUpTo limit (slice_index_or prices v (pos 0))
 
 -- both ends are nodes of the net, or it is the offer of an arc that can carry nothing
@@ -41,10 +38,10 @@ pub data HasOwnEnds (o : ArcOffer) : Type 0 where
   nothing : o ≡ no_offer → HasOwnEnds o
 
 -- the offers can be compared as a table stores the prices
-pub record CanCompareIn (table : Prices) (offers : List ArcOffer) (begin end : ℕ) : Type 0 where
-  pub compared : CanCompare table.prices table.limit offers begin end
+pub record CanCompareIn (table : Prices) (offers : List ArcOffer) : Type 0 where
+  pub compared : CanCompare table.prices table.limit offers
   pub spread : (v : ℕ) → 0 < v → v < length table.prices → IsSpread table.gap (slice_index_or table.prices v (pos 0))
-  pub own : (i : ℕ) → begin ≤ i → i < end → HasOwnEnds (slice_index_or offers i no_offer)
+  pub own : (i : ℕ) → i < length offers → HasOwnEnds (slice_index_or offers i no_offer)
 
 -- of these offers the first of least reduced cost, which is below 0
 pub record IsFirstLeast (prices : List ℤ) (offers : List ArcOffer) (begin end i : ℕ) : Type 0 where
