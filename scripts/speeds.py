@@ -40,7 +40,7 @@ SPEEDS = (
         r"Family \| (2\^8|2\^10 .*2\^15 \|$)",
         r"2\^(8|9|1[0-5])$",
         "",
-        "dense, see there",
+        "",
     ),
     Speed(
         "flow problems of 8 families by `fast`, from 2^16 to 2^18 nodes",
@@ -49,7 +49,7 @@ SPEEDS = (
         r"Family \| 2\^8",
         r"2\^1[6-8]$",
         "",
-        "long at 2^18, by one run",
+        "long at 2^16 and 2^18, by one run",
     ),
     Speed(
         "assignments by `sap`, 256 to 2,048 rows, dense",
